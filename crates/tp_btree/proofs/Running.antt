@@ -20,6 +20,7 @@ ran_then n k m fault old mid new a b c fits p q = record {
   geometry = q.geometry ∙ p.geometry;
   metadata_kept = q.metadata_kept ∙ p.metadata_kept;
   data_kept = q.data_kept ∙ p.data_kept;
+  held_root = q.held_root ∙ p.held_root;
   room = omega (arith, fits, p.room, q.room);
   used = omega (arith, fits, p.used, q.used);
   any_moment = joins_kept p.any_moment (subst (λ kept. LeavesKept kept b c) p.metadata_kept q.any_moment);
@@ -34,6 +35,7 @@ ran_more n m fault old new a b fits p = record {
   geometry = p.geometry;
   metadata_kept = p.metadata_kept;
   data_kept = p.data_kept;
+  held_root = p.held_root;
   room = omega (arith, fits, p.room);
   used = omega (arith, fits, p.used);
   any_moment = p.any_moment;
@@ -43,11 +45,12 @@ ran_more n m fault old new a b fits p = record {
 }
 
 -- nothing on the disk
-pub ran_still : (n : ℕ) (old new : Tm) (a : DiskState) → new.geometry ≡ old.geometry → new.metadata_kept ≡ old.metadata_kept → new.data_kept ≡ old.data_kept → free_metadata old ≤ free_metadata new + n → used_metadata new ≤ used_metadata old + n → Ran n false old new a a
-ran_still n old new a g mk dk room used = record {
+pub ran_still : (n : ℕ) (old new : Tm) (a : DiskState) → new.geometry ≡ old.geometry → new.metadata_kept ≡ old.metadata_kept → new.data_kept ≡ old.data_kept → new.held_root ≡ old.held_root → free_metadata old ≤ free_metadata new + n → used_metadata new ≤ used_metadata old + n → Ran n false old new a a
+ran_still n old new a g mk dk hr room used = record {
   geometry = g;
   metadata_kept = mk;
   data_kept = dk;
+  held_root = hr;
   room = room;
   used = used;
   any_moment = starts_kept old.metadata_kept a;
@@ -57,12 +60,13 @@ ran_still n old new a g mk dk room used = record {
 }
 
 -- a read
-pub ran_read : (n : ℕ) (fault : Bool) (old new : Tm) (a b : DiskState) → new.geometry ≡ old.geometry → new.metadata_kept ≡ old.metadata_kept → new.data_kept ≡ old.data_kept → free_metadata old ≤ free_metadata new + n
+pub ran_read : (n : ℕ) (fault : Bool) (old new : Tm) (a b : DiskState) → new.geometry ≡ old.geometry → new.metadata_kept ≡ old.metadata_kept → new.data_kept ≡ old.data_kept → new.held_root ≡ old.held_root → free_metadata old ≤ free_metadata new + n
     → used_metadata new ≤ used_metadata old + n → b ≡ after_read (not fault) a → Ran n fault old new a b
-ran_read n fault old new a b g mk dk room used e = record {
+ran_read n fault old new a b g mk dk hr room used e = record {
   geometry = g;
   metadata_kept = mk;
   data_kept = dk;
+  held_root = hr;
   room = room;
   used = used;
   any_moment = read_kept (not fault) (starts_kept old.metadata_kept a) e;

@@ -23,6 +23,7 @@ pub record Ran (n : ℕ) (faulted : Bool) (old new : Tm) (before after : DiskSta
   pub geometry : new.geometry ≡ old.geometry
   pub metadata_kept : new.metadata_kept ≡ old.metadata_kept
   pub data_kept : new.data_kept ≡ old.data_kept
+  pub held_root : new.held_root ≡ old.held_root
   pub room : free_metadata old ≤ free_metadata new + n
   pub used : used_metadata new ≤ used_metadata old + n
   pub any_moment : LeavesKept old.metadata_kept before after

@@ -30,7 +30,7 @@ pub fn empty<D: Disk>(tm: &mut Tm, disk: &mut D, kind: TreeKind) -> Result<Mb, F
         → (b : ℕ) × Holds tm.new (D.state disk.new) (b ∷ opens) held (with_count s b 1)) }
     ensures room { free_metadata tm.old ≤ free_metadata tm.new + 1 }
     ensures used { used_metadata tm.new ≤ used_metadata tm.old + 1 }
-    ensures kept { (tm.new.geometry ≡ tm.old.geometry) × (tm.new.metadata_kept ≡ tm.old.metadata_kept) × (tm.new.data_kept ≡ tm.old.data_kept) }
+    ensures kept { (tm.new.geometry ≡ tm.old.geometry) × (tm.new.metadata_kept ≡ tm.old.metadata_kept) × (tm.new.data_kept ≡ tm.old.data_kept) × (tm.new.held_root ≡ tm.old.held_root) }
     ensures any_moment { LeavesKept tm.old.metadata_kept (D.state disk.old) (D.state disk.new) }
     ensures same_disk { IsSameDisk (D.state disk.old) (D.state disk.new) }
     ensures cause { FaultHasCause (is_err result) (D.state disk.old) (D.state disk.new) }

@@ -13,6 +13,7 @@ use Rattle.tp_model.specs.declared.refusal.Refusal.{Refusal}
 use Rattle.tp_model.specs.Geometry.{Geometry, sectors_of_image}
 use Rattle.tp_model.specs.Sectors.{Sector}
 use Rattle.tp_layout.specs.Node.{NodeValue, keys}
+use Rattle.tp_layout.specs.Super.{roots_of}
 use Rattle.tp_layout.specs.declared.counts.Part.{Part}
 use Rattle.tp_layout.specs.declared.counts.Part.TheVariants.{Data, Metadata}
 use Rattle.tp_layout.specs.declared.entry.Entry.{Entry}
@@ -20,7 +21,6 @@ use Rattle.tp_layout.specs.declared.kind.TreeKind.{TreeKind}
 use Rattle.tp_layout.specs.declared.kind.TreeKind.TheVariants.{Device}
 use Rattle.tp_layout.specs.declared.superblock.Superblock.{Superblock}
 use Rattle.tp_layout.specs.declared.superblock.Version.{Version}
-use Rattle.tp_layout.specs.declared.superblock.Version.TheVariants.{OneSize, OwnSizes}
 use Rattle.tp_image.specs.Clean.{IsClean, true_count}
 use Rattle.tp_image.specs.Counts.{AreReachable, data_names, is_naming_data, metadata_names, times_named}
 use Rattle.tp_image.specs.Faults.{HasBadCount, HasBadMapped, HasBadNode, HasBadOrder, HasBadRecordSize, HasBadSuper, HasHalfEmpty, HasOutOfPlace, IsFormedAs, IsNamed, Name, child, devices, end_of, entry, few, is_root, many, nonzero, unformed, untrue, volume}
@@ -63,7 +63,7 @@ child_of_tree image g kind top level low high b n t here k e at =
     children_at (λ from to c. IsTree image g kind false level from to c) high n.entries
     (subst (λ (m : NodeValue). Children (λ from to c. IsTree image g kind false level from to c) high m.entries) same t.3) k e at
 
-module _ (image : List Sector) (version : Version) (g : Geometry) (root : ℕ) (rules : KeepTheRules image version g root) where
+module _ (image : List Sector) (version : Version) (g : Geometry) (roots : List ℕ) (rules : (root : ℕ) → Contains roots root → KeepTheRules image version g root) where
   record TreeAt (x : Name) : Type 0 where
     level : ℕ
     like : MatchOption x.level (Unit {0}) (λ l. level ≡ l)
@@ -84,15 +84,16 @@ module _ (image : List Sector) (version : Version) (g : Geometry) (root : ℕ) (
       let same : m.node.level ≡ n.level = ap (λ (y : NodeValue). y.level) (IsNodeAt-one image x.block m.node n m.keeps.here here) in
       (j, omega (arith, same, m.keeps.level_is, up), child_of_tree image g x.kind (is_root x.level) j x.low x.high x.block n t here i e at)
 
-  tree_at : (x : Name) → IsNamed image g root x → TreeAt x
-  tree_at _ devices = record { level = rules.devices.level; like = tt; tree = rules.devices.tree }
+  tree_at : (x : Name) → IsNamed image g roots x → TreeAt x
+  tree_at _ (devices root there) = record { level = (rules root there).devices.level; like = tt; tree = (rules root there).devices.tree }
   tree_at _ (child x n level i e named good up at) =
       let t = tree_at x named in
       let c = child_at x n level i e t.level t.tree (node_at_name image g x n good) up at in
       record { level = c.0; like = c.1; tree = c.2 }
   tree_at _ (volume x n e named good kind leaf there) =
       let is : x.kind ≡ Device = sym good.formed.kind ∙ kind in
-      let v = rules.volumes e.key e.value e.mapped e.size (named_device image g root x named is e (ends n (node_at_name image g x n good) kind leaf there)) in
+      let below = named_device image g roots x named is e (ends n (node_at_name image g x n good) kind leaf there) in
+      let v = (rules below.0 below.1).volumes e.key e.value e.mapped e.size below.2 in
       record { level = v.level; like = tt; tree = v.tree }
 
   -- the node that stands under a name keeps the rules of its name
@@ -101,7 +102,7 @@ module _ (image : List Sector) (version : Version) (g : Geometry) (root : ℕ) (
     keeps : KeepsRules image g x.kind (is_root x.level) level x.low x.high x.block n
     begins : 0 < level → BeginsAt x.low n.entries
 
-  kept_as : (x : Name) (n : NodeValue) → IsNamed image g root x → IsFormedAs image g x n → Kept x n
+  kept_as : (x : Name) (n : NodeValue) → IsNamed image g roots x → IsFormedAs image g x n → Kept x n
   kept_as x n named formed =
       let t = tree_at x named in
       let m = node_at x t in
@@ -112,7 +113,7 @@ module _ (image : List Sector) (version : Version) (g : Geometry) (root : ℕ) (
         begins = λ deep. subst (λ (y : NodeValue). BeginsAt x.low y.entries) same (m.begins deep);
       }
 
-  no_bad_node : HasBadNode image version g root → ⊥
+  no_bad_node : HasBadNode image version g roots → ⊥
   no_bad_node (unformed x named place none) =
       let t = tree_at x named in
       let m = node_at x t in
@@ -124,7 +125,7 @@ module _ (image : List Sector) (version : Version) (g : Geometry) (root : ℕ) (
         kind = m.keeps.kind_is;
         level = subst (λ (l : ℕ). MatchOption x.level (Unit {0}) (λ wanted. l ≡ wanted)) (sym m.keeps.level_is) t.like;
       })
-  no_bad_node (nonzero id volume_root mapped size old path some) = some (subst (λ (v : Version). IsRecordSize v g size) old (rules.sizes id volume_root mapped size path))
+  no_bad_node (nonzero root there id volume_root mapped size old path some) = some (subst (λ (v : Version). IsRecordSize v g size) old ((rules root there).sizes id volume_root mapped size path))
 
   in_order : (x : Name) (n : NodeValue) → Kept x n → (IsStrictlyIncreasing (keys n.entries) → ⊥) ⊎ ((e : Entry) × Contains n.entries e × ((e.key < x.low) ⊎ (x.high ≤ e.key))) ⊎ ((0 < n.level) × (0 < length n.entries) × (BeginsAt x.low n.entries → ⊥)) → ⊥
   in_order x n k (inl not) = not k.keeps.here.good.ascending
@@ -136,27 +137,27 @@ module _ (image : List Sector) (version : Version) (g : Geometry) (root : ℕ) (
       ]
   in_order x n k (inr (inr not)) = not.2 (k.begins (omega (arith, not.0, k.keeps.level_is)))
 
-  no_bad_order : HasBadOrder image g root → ⊥
+  no_bad_order : HasBadOrder image g roots → ⊥
   no_bad_order h = in_order h.name h.node (kept_as h.name h.node h.named h.formed) h.broken
 
-  no_half_empty : HasHalfEmpty image g root → ⊥
+  no_half_empty : HasHalfEmpty image g roots → ⊥
   no_half_empty h =
       let k = kept_as h.name h.node h.named h.good.formed in
       let least : least_of (is_root h.name.level) h.node.kind h.node.level ≡ least_of (is_root h.name.level) h.name.kind k.level = λ i. least_of (is_root h.name.level) (k.keeps.kind_is i) (k.keeps.level_is i) in
       omega (arith, h.few, least, k.keeps.filled)
 
-  no_out_of_place : HasOutOfPlace image g root → ⊥
+  no_out_of_place : HasOutOfPlace image g roots → ⊥
   no_out_of_place (entry x n e named good there out) =
       let k = kept_as x n named good.formed in
       let value = All-contains (λ (y : Entry). IsInRange g (is_naming_data x.kind k.level) y.value) n.entries e k.keeps.values there in
       out (subst (λ (t : Bool). IsInRange g t e.value) (λ i. is_naming_data (sym k.keeps.kind_is i) (sym k.keeps.level_is i)) value)
-  no_out_of_place (many level records content more) = omega (arith, rules.few_devices level records content, more)
+  no_out_of_place (many root there level records content more) = omega (arith, (rules root there).few_devices level records content, more)
 
-  no_bad_mapped : HasBadMapped image g root → ⊥
-  no_bad_mapped h = h.differs (rules.mapped_is h.id h.volume_root h.mapped h.size h.level h.entries h.device h.content)
+  no_bad_mapped : HasBadMapped image g roots → ⊥
+  no_bad_mapped h = h.differs ((rules h.root h.known).mapped_is h.id h.volume_root h.mapped h.size h.level h.entries h.device h.content)
 
-  no_bad_size : HasBadRecordSize image version g root → ⊥
-  no_bad_size h = h.bad (subst (λ (v : Version). IsRecordSize v g h.size) h.version_is (rules.sizes h.id h.volume_root h.mapped h.size h.device))
+  no_bad_size : HasBadRecordSize image version g roots → ⊥
+  no_bad_size h = h.bad (subst (λ (v : Version). IsRecordSize v g h.size) h.version_is ((rules h.root h.known).sizes h.id h.volume_root h.mapped h.size h.device))
 
 -- ---- counts
 
@@ -199,16 +200,16 @@ sum_within f (x ∷ xs) ys once each =
         let one : n ≡ x = sym h.2 ∙ (ap (λ (i : ℕ). get_or ys i n) same ∙ (get_or_default ys at.0 n x at.1 ∙ at.2)) in
         own_apart x.own xs once.0 n there (ap (λ (y : NodeValue). y.own) one))
 
-same_times : (image : List Sector) (root : ℕ) (xs ys : List NodeValue) (names : NodeValue → List ℕ) (b : ℕ) → AreReachable image root xs → AreReachable image root ys → times_named names xs b ≡ times_named names ys b
-same_times image root xs ys names b r q =
+same_times : (image : List Sector) (roots : List ℕ) (xs ys : List NodeValue) (names : NodeValue → List ℕ) (b : ℕ) → AreReachable image roots xs → AreReachable image roots ys → times_named names xs b ≡ times_named names ys b
+same_times image roots xs ys names b r q =
     let f : NodeValue → ℕ = λ (n : NodeValue). count_by (λ x. x == b) (names n) in
     let up = sum_within f xs ys r.once (λ n there. q.all n (r.only n there)) in
     let down = sum_within f ys xs q.once (λ n there. r.all n (q.only n there)) in
     omega (arith, up, down)
 
-same_counts : (image : List Sector) (g : Geometry) (root : ℕ) (xs ys : List NodeValue) (part : Part) (b : ℕ) → AreReachable image root xs → AreReachable image root ys → true_count g root xs part b ≡ true_count g root ys part b
-same_counts image g root xs ys Metadata b r q = let t = same_times image root xs ys metadata_names b r q in omega (arith, t)
-same_counts image g root xs ys Data b r q = same_times image root xs ys data_names b r q
+same_counts : (image : List Sector) (g : Geometry) (roots : List ℕ) (xs ys : List NodeValue) (part : Part) (b : ℕ) → AreReachable image roots xs → AreReachable image roots ys → true_count g roots xs part b ≡ true_count g roots ys part b
+same_counts image g roots xs ys Metadata b r q = let t = same_times image roots xs ys metadata_names b r q in omega (arith, t)
+same_counts image g roots xs ys Data b r q = same_times image roots xs ys data_names b r q
 
 abbrev IsRefused : Result Superblock Refusal → Type 0
 IsRefused (Ok x) = ⊥
@@ -223,7 +224,7 @@ module _ (image : List Sector) (clean : IsClean image) where
 
   true_there : HasBadCount image s → ⊥
   true_there (untrue part area nodes its reach none) =
-      none (clean.counts.counts part) (clean.counts.stored part area its) (λ b lt. clean.counts.true_ones part b lt ∙ same_counts image s.geometry s.root clean.nodes nodes part b clean.reachable reach)
+      none (clean.counts.counts part) (clean.counts.stored part area its) (λ b lt. clean.counts.true_ones part b lt ∙ same_counts image s.geometry (roots_of s) clean.nodes nodes part b clean.reachable reach)
   true_there (few area counts its held low) =
       let same = HoldsCounts-one image s.geometry Metadata area counts (clean.counts.counts Metadata) held (clean.counts.stored Metadata area its) in
       omega (arith, low, ap (λ (xs : List ℕ). count_by (λ n. n == 0) xs) same, clean.counts.spare)
@@ -242,10 +243,10 @@ module _ (image : List Sector) (clean : IsClean image) where
   clean_no_fault Fault h = inl refl
   clean_no_fault Memory h = inr refl
   clean_no_fault BadSuper h = absurd (no_bad_super h)
-  clean_no_fault BadNode h = absurd (no_bad_node image s.version s.geometry s.root clean.rules (of_chosen (λ x. HasBadNode image x.version x.geometry x.root) h.0 h.1 h.3))
-  clean_no_fault BadOrder h = absurd (no_bad_order image s.version s.geometry s.root clean.rules (of_chosen (λ x. HasBadOrder image x.geometry x.root) h.0 h.1 h.3))
+  clean_no_fault BadNode h = absurd (no_bad_node image s.version s.geometry (roots_of s) clean.rules (of_chosen (λ x. HasBadNode image x.version x.geometry (roots_of x)) h.0 h.1 h.3))
+  clean_no_fault BadOrder h = absurd (no_bad_order image s.version s.geometry (roots_of s) clean.rules (of_chosen (λ x. HasBadOrder image x.geometry (roots_of x)) h.0 h.1 h.3))
   clean_no_fault BadCount h = absurd (true_there (of_chosen (λ x. HasBadCount image x) h.0 h.1 h.3))
-  clean_no_fault OutOfPlace h = absurd (no_out_of_place image s.version s.geometry s.root clean.rules (of_chosen (λ x. HasOutOfPlace image x.geometry x.root) h.0 h.1 h.3))
-  clean_no_fault HalfEmpty h = absurd (no_half_empty image s.version s.geometry s.root clean.rules (of_chosen (λ x. HasHalfEmpty image x.geometry x.root) h.0 h.1 h.3))
-  clean_no_fault BadMapped h = absurd (no_bad_mapped image s.version s.geometry s.root clean.rules (of_chosen (λ x. HasBadMapped image x.geometry x.root) h.0 h.1 h.3))
-  clean_no_fault BadRecordSize h = absurd (no_bad_size image s.version s.geometry s.root clean.rules (of_chosen (λ x. HasBadRecordSize image x.version x.geometry x.root) h.0 h.1 h.3))
+  clean_no_fault OutOfPlace h = absurd (no_out_of_place image s.version s.geometry (roots_of s) clean.rules (of_chosen (λ x. HasOutOfPlace image x.geometry (roots_of x)) h.0 h.1 h.3))
+  clean_no_fault HalfEmpty h = absurd (no_half_empty image s.version s.geometry (roots_of s) clean.rules (of_chosen (λ x. HasHalfEmpty image x.geometry (roots_of x)) h.0 h.1 h.3))
+  clean_no_fault BadMapped h = absurd (no_bad_mapped image s.version s.geometry (roots_of s) clean.rules (of_chosen (λ x. HasBadMapped image x.geometry (roots_of x)) h.0 h.1 h.3))
+  clean_no_fault BadRecordSize h = absurd (no_bad_size image s.version s.geometry (roots_of s) clean.rules (of_chosen (λ x. HasBadRecordSize image x.version x.geometry (roots_of x)) h.0 h.1 h.3))

@@ -88,13 +88,13 @@ grows_set known b s lt c kept =
 pub grows_through : (a b c : List (Option Summary)) → Grows a b → Grows b c → Grows a c
 grows_through a b c f h x kept = h x (f x kept)
 
-closed_still : (image : List Sector) (version : Version) (g : Geometry) (root : ℕ) (old new : List (Option Summary)) (n : NodeValue) → Grows old new → IsClosed image version g root old n → IsClosed image version g root new n
-closed_still image version g root old new n grows c = record { here = c.here; reached = c.reached; kept = grows n.own c.kept; below = λ v named. grows v (c.below v named); volumes = c.volumes }
+closed_still : (image : List Sector) (version : Version) (g : Geometry) (roots : List ℕ) (old new : List (Option Summary)) (n : NodeValue) → Grows old new → IsClosed image version g roots old n → IsClosed image version g roots new n
+closed_still image version g roots old new n grows c = record { here = c.here; reached = c.reached; kept = grows n.own c.kept; below = λ v named. grows v (c.below v named); volumes = c.volumes }
 
 -- ---- one node more
 
 module _ (image : List Sector) (old new : Progress) (n : NodeValue) (s : Summary) (w : IsWalked image old) (closes : Closes n s old new) (inside : n.own < length old.known)
-    (here : IsNodeAt image n.own n) (reached : IsReachable image old.root n) (knows : Knows image old.geometry old.root n.own s)
+    (here : IsNodeAt image n.own n) (reached : IsReachable image old.roots n) (knows : Knows image old.geometry old.roots n.own s)
     (below : (v : ℕ) → Contains (metadata_names n) v → IsKept old.known v) (volumes : n.kind ≡ Device → n.level ≡ 0 → (e : Entry) → Contains n.entries e → IsGoodVolume image old.version old.geometry e) where
   pub grown : Grows old.known new.known
   grown = subst (λ (known : List (Option Summary)). Grows old.known known) (sym closes.known) (grows_set old.known n.own s inside)
@@ -102,15 +102,15 @@ module _ (image : List Sector) (old new : Progress) (n : NodeValue) (s : Summary
   pub kept_now : slice_index_or new.known n.own None ≡ Some s
   kept_now = ap (λ (known : List (Option Summary)). slice_index_or known n.own None) closes.known ∙ kept_there old.known n.own s inside
 
-  closed_here : IsClosed image old.version old.geometry old.root new.known n
+  closed_here : IsClosed image old.version old.geometry old.roots new.known n
   closed_here = record { here = here; reached = reached; kept = (s, kept_now); below = λ v named. grown v (below v named); volumes = volumes }
 
-  knows_now : (b : ℕ) (t : Summary) → slice_index_or new.known b None ≡ Some t → Knows image old.geometry old.root b t
+  knows_now : (b : ℕ) (t : Summary) → slice_index_or new.known b None ≡ Some t → Knows image old.geometry old.roots b t
   knows_now b t is =
       elim (cases_eq b n.own) [
         | inl e ↦
             let same : Some s ≡ Some t = sym kept_now ∙ (ap (λ (x : ℕ). slice_index_or new.known x None) (sym e) ∙ is) in
-            subst (λ (x : ℕ). Knows image old.geometry old.root x t) (sym e) (subst (λ (x : Summary). Knows image old.geometry old.root n.own x) (same_Some s t same) knows)
+            subst (λ (x : ℕ). Knows image old.geometry old.roots x t) (sym e) (subst (λ (x : Summary). Knows image old.geometry old.roots n.own x) (same_Some s t same) knows)
         | inr d ↦ w.knows b t (sym (ap (λ (known : List (Option Summary)). slice_index_or known b None) closes.known ∙ kept_other old.known n.own b s d) ∙ is)
       ]
 
@@ -126,7 +126,7 @@ module _ (image : List Sector) (old new : Progress) (n : NodeValue) (s : Summary
       let count = w.metadata_named b lt in
       let most = few_names metadata_names w.nodes b (λ m there. (names_few image m (w.closed m there).here).0) few in
       let long = entries_few image n here in
-      omega (arith, count, most, long, one_at_most (b == old.root), one_at_most (nat_lt b (fixed_part old.geometry)))
+      omega (arith, count, most, long, count_by-le-length (λ root. b == root) old.roots, w.few_roots, one_at_most (nat_lt b (fixed_part old.geometry)))
 
   small_others : (b : ℕ) → b < length old.others → slice_index old.others b + length n.entries < 2 ^ 32
   small_others b lt =
@@ -137,7 +137,7 @@ module _ (image : List Sector) (old new : Progress) (n : NodeValue) (s : Summary
 
   -- the state in the words of the old one
   abbrev now : Progress
-  now = record { version = old.version; geometry = old.geometry; root = old.root; known = new.known; metadata = new.metadata; others = new.others }
+  now = record { version = old.version; geometry = old.geometry; roots = old.roots; known = new.known; metadata = new.metadata; others = new.others }
 
   apart_from : (ns : List NodeValue) → ((m : NodeValue) → Contains ns m → m.own ≡ n.own → ⊥) → AllByRecursion (λ y. nat_eq n.own y ≡ false) (map (λ (m : NodeValue). m.own) ns)
   apart_from [] h = tt
@@ -157,10 +157,11 @@ module _ (image : List Sector) (old new : Progress) (n : NodeValue) (s : Summary
 
   first_time : slice_index_or old.known n.own None ≡ None → IsWalked image now
   first_time none = record {
+    few_roots = w.few_roots;
     nodes = n ∷ w.nodes;
     closed = λ m there. elim (cons_cases n w.nodes m there) [
-      | inl e ↦ subst (λ (x : NodeValue). IsClosed image old.version old.geometry old.root new.known x) e closed_here
-      | inr h ↦ closed_still image old.version old.geometry old.root old.known new.known m grown (w.closed m h)
+      | inl e ↦ subst (λ (x : NodeValue). IsClosed image old.version old.geometry old.roots new.known x) e closed_here
+      | inr h ↦ closed_still image old.version old.geometry old.roots old.known new.known m grown (w.closed m h)
     ];
     once = once_more none;
     knows = knows_now;
@@ -179,8 +180,9 @@ module _ (image : List Sector) (old new : Progress) (n : NodeValue) (s : Summary
 
   another_time : IsKept old.known n.own → IsWalked image now
   another_time kept = record {
+    few_roots = w.few_roots;
     nodes = w.nodes;
-    closed = λ m there. closed_still image old.version old.geometry old.root old.known new.known m grown (w.closed m there);
+    closed = λ m there. closed_still image old.version old.geometry old.roots old.known new.known m grown (w.closed m there);
     once = w.once;
     knows = knows_now;
     listed = λ b now_kept. elim (cases_eq b n.own) [
@@ -197,20 +199,21 @@ module _ (image : List Sector) (old new : Progress) (n : NodeValue) (s : Summary
 
   pub closed_walk : IsWalked image new
   closed_walk =
-      let same : now ≡ new = λ i. record { version = sym closes.same.version i; geometry = sym closes.same.geometry i; root = sym closes.same.root i; known = new.known; metadata = new.metadata; others = new.others } in
+      let same : now ≡ new = λ i. record { version = sym closes.same.version i; geometry = sym closes.same.geometry i; roots = sym closes.same.roots i; known = new.known; metadata = new.metadata; others = new.others } in
       subst (λ (p : Progress). IsWalked image p) same (either_time (slice_index_or old.known n.own None) refl)
 
 -- ---- nothing, and all
 
-pub fresh_walk : (image : List Sector) (version : Version) (g : Geometry) (root : ℕ) (p : Progress) → IsFresh version g root p → p.geometry ≡ g → IsWalked image p
+pub fresh_walk : (image : List Sector) (version : Version) (g : Geometry) (roots : List ℕ) (p : Progress) → IsFresh version g roots p → length p.roots ≤ 2 → IsWalked image p
 unfolding IsDistinct
-fresh_walk image version g root p f same = record {
+fresh_walk image version g roots p f few = record {
+  few_roots = few;
   nodes = [];
   closed = λ n there. absurd (omega (arith, there.1));
   once = tt;
   knows = λ b s is. absurd (none-some s (sym (f.known b) ∙ is));
   listed = λ b kept. absurd (none-some kept.0 (sym (f.known b) ∙ kept.1));
-  metadata_named = λ b lt. f.metadata b lt ∙ (λ i. metadata_count (sym f.geometry i) (sym f.root_is i) [] b);
+  metadata_named = λ b lt. f.metadata b lt ∙ (λ i. metadata_count (sym f.geometry i) (sym f.roots_is i) [] b);
   others_named = λ b lt. f.others b;
 }
 
@@ -222,28 +225,28 @@ module _ (image : List Sector) (p : Progress) (w : IsWalked image p) where
       let same : m.0 ≡ n = IsNodeAt-one image b m.0 n (subst (λ (x : ℕ). IsNodeAt image x m.0) m.2 (w.closed m.0 m.1).here) here in
       subst (λ (x : NodeValue). Contains w.nodes x) same m.1
 
-  reached_closed : IsKept p.known p.root → (n : NodeValue) → IsReachable image p.root n → Contains w.nodes n
-  reached_closed top n (itself m at) = kept_closed p.root n top at
-  reached_closed top n (through parent m from named at) = kept_closed n.own n ((w.closed parent (reached_closed top parent from)).below n.own named) at
+  reached_closed : ((root : ℕ) → Contains p.roots root → IsKept p.known root) → (n : NodeValue) → IsReachable image p.roots n → Contains w.nodes n
+  reached_closed tops n (itself root m there at) = kept_closed root n (tops root there) at
+  reached_closed tops n (through parent m from named at) = kept_closed n.own n ((w.closed parent (reached_closed tops parent from)).below n.own named) at
 
-  pub all_reached : IsKept p.known p.root → AreReachable image p.root w.nodes
-  all_reached top = record { all = reached_closed top; only = λ n there. (w.closed n there).reached; once = w.once }
+  pub all_reached : ((root : ℕ) → Contains p.roots root → IsKept p.known root) → AreReachable image p.roots w.nodes
+  all_reached tops = record { all = reached_closed tops; only = λ n there. (w.closed n there).reached; once = w.once }
 
   devices_good : (b : ℕ) (e : Entry) → IsKept p.known b → LeadsTo image Device b e → IsGoodVolume image p.version p.geometry e
   devices_good b e kept (ends n at kind leaf there) = (w.closed n (kept_closed b n kept at)).volumes kind leaf e there
   devices_good b e kept (goes n c at kind inner there path) =
       devices_good c.value e ((w.closed n (kept_closed b n kept at)).below c.value (entry_named n c (no_data_of_devices n.kind n.level kind) there)) path
 
-  pub rules_kept : IsKept p.known p.root → (s : Summary) → Knows image p.geometry p.root p.root s → s.kind ≡ Device → Suits s true 0 (2 ^ 24) → s.below ≤ 65536 → KeepTheRules image p.version p.geometry p.root
-  rules_kept top s k kind suits few =
-      let tree = subst (λ (x : TreeKind). IsTree image p.geometry x true s.level 0 (2 ^ 24) p.root) kind (k.tree true 0 (2 ^ 24) suits) in
-      let content = subst (λ (x : TreeKind). IsContent image x s.level p.root k.content.0) kind k.content.1 in
+  pub rules_kept : (root : ℕ) → IsKept p.known root → (s : Summary) → Knows image p.geometry p.roots root s → s.kind ≡ Device → Suits s true 0 (2 ^ 24) → s.below ≤ 65536 → KeepTheRules image p.version p.geometry root
+  rules_kept root top s k kind suits few =
+      let tree = subst (λ (x : TreeKind). IsTree image p.geometry x true s.level 0 (2 ^ 24) root) kind (k.tree true 0 (2 ^ 24) suits) in
+      let content = subst (λ (x : TreeKind). IsContent image x s.level root k.content.0) kind k.content.1 in
       let low : k.node.level ≤ 2 = subst (λ (x : TreeKind). k.node.level ≤ most_level x) (sym k.kind_is ∙ kind) k.here.good.form.level in
       record {
         devices = record { level = s.level; low_enough = omega (arith, k.level_is, low); tree = tree };
-        sizes = λ id volume_root mapped size path. (devices_good p.root (record { key = id; value = volume_root; mapped = mapped; size = size }) top path).size;
-        volumes = λ id volume_root mapped size path. (devices_good p.root (record { key = id; value = volume_root; mapped = mapped; size = size }) top path).tree;
+        sizes = λ id volume_root mapped size path. (devices_good root (record { key = id; value = volume_root; mapped = mapped; size = size }) top path).size;
+        volumes = λ id volume_root mapped size path. (devices_good root (record { key = id; value = volume_root; mapped = mapped; size = size }) top path).tree;
         few_devices = λ level records h.
-            let same = same_content image Device level s.level p.root records k.content.0 h content in omega (arith, ap length same, k.content.2, few);
-        mapped_is = λ id volume_root mapped size level entries path h. (devices_good p.root (record { key = id; value = volume_root; mapped = mapped; size = size }) top path).mapped level entries h;
+            let same = same_content image Device level s.level root records k.content.0 h content in omega (arith, ap length same, k.content.2, few);
+        mapped_is = λ id volume_root mapped size level entries path h. (devices_good root (record { key = id; value = volume_root; mapped = mapped; size = size }) top path).mapped level entries h;
       }

@@ -46,8 +46,8 @@ last_key_most es i d up lt =
     let h = ordered (keys es) i (length es - 1) up (omega (arith, lt)) (omega (arith, lt, length-map es (λ (x : Entry). x.key))) in omega (arith, h, get_or-keys es i d lt)
 
 -- where a summary is known to be of some entries, its first key is at most its last
-pub first_last : (image : List Sector) (g : Geometry) (root b : ℕ) (s : Summary) → Knows image g root b s → 0 < s.len → s.first ≤ s.last
-first_last image g root b s k some = let h = k.keys some 0 (record { key = 0; value = 0; mapped = 0; size = 0 }) (omega (arith, some, k.len_is)) in omega (arith, h.0, h.1)
+pub first_last : (image : List Sector) (g : Geometry) (roots : List ℕ) (b : ℕ) (s : Summary) → Knows image g roots b s → 0 < s.len → s.first ≤ s.last
+first_last image g roots b s k some = let h = k.keys some 0 (record { key = 0; value = 0; mapped = 0; size = 0 }) (omega (arith, some, k.len_is)) in omega (arith, h.0, h.1)
 
 -- ---- the rules of one node
 
@@ -76,8 +76,8 @@ leaf_content : (image : List Sector) (b level : ℕ) (n : NodeValue) → IsNodeA
 unfolding IsContent
 leaf_content image b level n here e same = subst (λ (x : ℕ). IsContent image n.kind x b n.entries) (sym e) (n, here, refl, same ∙ e, refl)
 
-pub leaf_known : (image : List Sector) (g : Geometry) (root b last below : ℕ) (n : NodeValue) → IsNodeAt image b n → n.level ≡ 0 → IsInside g n → Knows image g root b (summary_of n last below)
-leaf_known image g root b last below n here leaf inside =
+pub leaf_known : (image : List Sector) (g : Geometry) (roots : List ℕ) (b last below : ℕ) (n : NodeValue) → IsNodeAt image b n → n.level ≡ 0 → IsInside g n → Knows image g roots b (summary_of n last below)
+leaf_known image g roots b last below n here leaf inside =
     let es = n.entries in
     let last_is : (summary_of n last below).last ≡ slice_index (keys es) (length es - 1) = ap (λ (x : ℕ). leaf_or x (slice_index (keys es) (length es - 1)) last) leaf in
     let within : 0 < length es → All (λ (e : Entry). (slice_index (keys es) 0 ≤ e.key) × (e.key ≤ (summary_of n last below).last)) es =
@@ -117,8 +117,8 @@ child_filled Mapping level = omega arith
 child_filled Device zero = omega arith
 child_filled Device (suc level) = omega arith
 
-module _ (image : List Sector) (g : Geometry) (root : ℕ) (d : Demand) (n : NodeValue) (last below level : ℕ)
-    (here : IsNodeAt image n.own n) (kind : n.kind ≡ d.kind) (up : n.level ≡ suc level) (inside : IsInside g n) (all : IsBelow image g root d n (length n.entries) last below) where
+module _ (image : List Sector) (g : Geometry) (roots : List ℕ) (d : Demand) (n : NodeValue) (last below level : ℕ)
+    (here : IsNodeAt image n.own n) (kind : n.kind ≡ d.kind) (up : n.level ≡ suc level) (inside : IsInside g n) (all : IsBelow image g roots d n (length n.entries) last below) where
   abbrev es : List Entry
   es = n.entries
 
@@ -131,7 +131,7 @@ module _ (image : List Sector) (g : Geometry) (root : ℕ) (d : Demand) (n : Nod
   -- what is known of a child
   record Child (k : ℕ) (e : Entry) : Type 0 where
     summary : Summary
-    knows : Knows image g root e.value summary
+    knows : Knows image g roots e.value summary
     kind_is : summary.kind ≡ n.kind
     level_is : summary.level ≡ level
     some : 0 < summary.len
@@ -145,7 +145,7 @@ module _ (image : List Sector) (g : Geometry) (root : ℕ) (d : Demand) (n : Nod
   child_of k e at =
       let u = all.each k e (slice_get_within es k e at) at in
       let same : demand_under g d n k e ≡ under_at (suc level) g d (slice_get es (suc k)) e = ap (λ (x : ℕ). under_at x g d (slice_get es (suc k)) e) up in
-      let v = subst (λ (x : Demand). (u : IsUnder image g root x) × (suc k ≡ length es → u.summary.last ≡ last)) same u in
+      let v = subst (λ (x : Demand). (u : IsUnder image g roots x) × (suc k ≡ length es → u.summary.last ≡ last)) same u in
       let passes = v.0.passes in
       let full : 0 < v.0.summary.len = omega (arith, passes.suits.filled, child_filled v.0.summary.kind v.0.summary.level) in
       record {
@@ -195,7 +195,7 @@ module _ (image : List Sector) (g : Geometry) (root : ℕ) (d : Demand) (n : Nod
   key_under some =
       let c = child_of end last_entry (last_at some) in
       let key = key_at es end last_entry (last_at some) in
-      let order = first_last image g root last_entry.value c.summary c.knows c.some in
+      let order = first_last image g roots last_entry.value c.summary c.knows c.some in
       let whole : suc end ≡ length es = omega (arith, some) in
       omega (arith, c.above, key, order, c.last_one whole, last_is)
 
@@ -227,7 +227,7 @@ module _ (image : List Sector) (g : Geometry) (root : ℕ) (d : Demand) (n : Nod
   child_place : (e : Entry) → Contains es e → IsTreeBlock g e.value
   child_place e there = subst (λ (t : Bool). IsInRange g t e.value) (no_data_above n.kind n.level level up) (inside e there)
 
-  inner_late : (x : Name) → IsNamed image g root x → IsFormedAs image g x n → 0 < s.len → x.high ≤ s.last → HasBadOrder image g root
+  inner_late : (x : Name) → IsNamed image g roots x → IsFormedAs image g x n → 0 < s.len → x.high ≤ s.last → HasBadOrder image g roots
   inner_late x named formed some past =
       let at = last_at some in
       let c = child_of end last_entry at in
@@ -244,7 +244,7 @@ module _ (image : List Sector) (g : Geometry) (root : ℕ) (d : Demand) (n : Nod
         level = sym c.knows.level_is ∙ c.level_is;
       }) c.some (omega (arith, high, past, last_is, c.last_one whole))
 
-  pub inner_known : Knows image g root n.own s
+  pub inner_known : Knows image g roots n.own s
   inner_known = record {
     node = n;
     here = here;
@@ -260,31 +260,31 @@ module _ (image : List Sector) (g : Geometry) (root : ℕ) (d : Demand) (n : Nod
 
 -- ---- any node
 
-known_at : (image : List Sector) (g : Geometry) (root : ℕ) (d : Demand) (n : NodeValue) (i last below level : ℕ) → n.level ≡ level → IsNodeAt image n.own n → n.kind ≡ d.kind → IsInside g n
-    → i ≡ (if is_naming_data n.kind n.level then 0 else length n.entries) → IsBelow image g root d n i last below → Knows image g root n.own (summary_of n last below)
-known_at image g root d n i last below zero e here kind inside count all = leaf_known image g root n.own last below n here e inside
-known_at image g root d n i last below (suc level) e here kind inside count all =
+known_at : (image : List Sector) (g : Geometry) (roots : List ℕ) (d : Demand) (n : NodeValue) (i last below level : ℕ) → n.level ≡ level → IsNodeAt image n.own n → n.kind ≡ d.kind → IsInside g n
+    → i ≡ (if is_naming_data n.kind n.level then 0 else length n.entries) → IsBelow image g roots d n i last below → Knows image g roots n.own (summary_of n last below)
+known_at image g roots d n i last below zero e here kind inside count all = leaf_known image g roots n.own last below n here e inside
+known_at image g roots d n i last below (suc level) e here kind inside count all =
     let whole : i ≡ length n.entries = count ∙ ap (λ (t : Bool). if t then 0 else length n.entries) (no_data_above n.kind n.level level e) in
-    inner_known image g root d n last below level here kind e inside (subst (λ (x : ℕ). IsBelow image g root d n x last below) whole all)
+    inner_known image g roots d n last below level here kind e inside (subst (λ (x : ℕ). IsBelow image g roots d n x last below) whole all)
 
-pub node_known : (image : List Sector) (g : Geometry) (root : ℕ) (d : Demand) (n : NodeValue) (i last below : ℕ) → IsNodeAt image n.own n → n.kind ≡ d.kind → IsInside g n
-    → i ≡ (if is_naming_data n.kind n.level then 0 else length n.entries) → IsBelow image g root d n i last below → Knows image g root n.own (summary_of n last below)
-node_known image g root d n i last below here kind inside count all = known_at image g root d n i last below n.level refl here kind inside count all
+pub node_known : (image : List Sector) (g : Geometry) (roots : List ℕ) (d : Demand) (n : NodeValue) (i last below : ℕ) → IsNodeAt image n.own n → n.kind ≡ d.kind → IsInside g n
+    → i ≡ (if is_naming_data n.kind n.level then 0 else length n.entries) → IsBelow image g roots d n i last below → Knows image g roots n.own (summary_of n last below)
+node_known image g roots d n i last below here kind inside count all = known_at image g roots d n i last below n.level refl here kind inside count all
 
 -- ---- the volumes of a leaf of the device tree
 
 low_level : (n : NodeValue) → IsNode n → n.kind ≡ Mapping → n.level ≤ 3
 low_level n good kind = subst (λ (k : TreeKind). n.level ≤ most_level k) kind good.form.level
 
-pub volume_good : (image : List Sector) (version : Version) (g : Geometry) (root : ℕ) (d : Demand) (n : NodeValue) (i last below : ℕ) → AreRecorded version g n → n.kind ≡ Device → n.level ≡ 0
-    → i ≡ (if is_naming_data n.kind n.level then 0 else length n.entries) → IsBelow image g root d n i last below → (e : Entry) → Contains n.entries e → IsGoodVolume image version g e
-volume_good image version g root d n i last below recorded kind leaf count all e there =
+pub volume_good : (image : List Sector) (version : Version) (g : Geometry) (roots : List ℕ) (d : Demand) (n : NodeValue) (i last below : ℕ) → AreRecorded version g n → n.kind ≡ Device → n.level ≡ 0
+    → i ≡ (if is_naming_data n.kind n.level then 0 else length n.entries) → IsBelow image g roots d n i last below → (e : Entry) → Contains n.entries e → IsGoodVolume image version g e
+volume_good image version g roots d n i last below recorded kind leaf count all e there =
     let es = n.entries in
     let whole : i ≡ length es = count ∙ ap (λ (t : Bool). if t then 0 else length es) (no_data_of_devices n.kind n.level kind) in
     let at : slice_get es there.0 ≡ Some e = slice_get-get_or es there.0 e there.1 ∙ ap (λ (x : Entry). Some x) there.2 in
     let u = all.each there.0 e (omega (arith, there.1, whole)) at in
     let next = slice_get es (suc there.0) in
-    let v = subst (λ (x : Demand). IsUnder image g root x) (ap (λ (x : ℕ). under_at x g d next e) leaf) u.0 in
+    let v = subst (λ (x : Demand). IsUnder image g roots x) (ap (λ (x : ℕ). under_at x g d next e) leaf) u.0 in
     let s = v.summary in
     let k = v.knows in
     let tree = subst (λ (x : TreeKind). IsTree image g x true s.level 0 (told_blocks g e.size) e.value) v.passes.like.0 (k.tree true 0 (told_blocks g e.size) v.passes.suits) in

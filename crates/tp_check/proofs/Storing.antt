@@ -8,7 +8,7 @@ use Rattle.tp_layout.specs.declared.counts.Part.TheVariants.{Data, Metadata}
 use Rattle.tp_layout.specs.declared.superblock.SlotId.{SlotId}
 use Rattle.tp_layout.specs.declared.superblock.SlotId.TheVariants.{Zero, One}
 use Rattle.tp_layout.specs.declared.superblock.Superblock.{Superblock}
-use Rattle.tp_layout.specs.Super.{slot_number}
+use Rattle.tp_layout.specs.Super.{roots_of, slot_number}
 use Rattle.tp_image.specs.Areas.{HoldsCounts, blocks_of}
 use Rattle.tp_image.specs.Clean.{HasTrueCounts, true_count}
 use Rattle.tp_image.specs.Counts.{AreReachable, metadata_count}
@@ -25,14 +25,14 @@ one_area One One n e f = refl
 one_area Zero One n e f = absurd (omega (arith, e, f))
 one_area One Zero n e f = absurd (omega (arith, e, f))
 
-module _ (image : List Sector) (superblock : Superblock) (p : Progress) (w : IsWhole image p) (geometry : superblock.geometry ≡ p.geometry) (root : superblock.root ≡ p.root)
+module _ (image : List Sector) (superblock : Superblock) (p : Progress) (w : IsWhole image p) (geometry : superblock.geometry ≡ p.geometry) (roots : roots_of superblock ≡ p.roots)
     (metadata_long : length p.metadata ≡ superblock.geometry.metadata_blocks) (others_long : length p.others ≡ superblock.geometry.data_blocks) where
   long : (part : Part) → length (walked_counts p part) ≡ blocks_of superblock.geometry part
   long Metadata = metadata_long
   long Data = others_long
 
-  true_ones : (part : Part) (b : ℕ) → b < blocks_of superblock.geometry part → slice_index (walked_counts p part) b ≡ true_count superblock.geometry superblock.root w.nodes part b
-  true_ones Metadata b lt = w.metadata b (omega (arith, lt, metadata_long)) ∙ (λ i. metadata_count (sym geometry i) (sym root i) w.nodes b)
+  true_ones : (part : Part) (b : ℕ) → b < blocks_of superblock.geometry part → slice_index (walked_counts p part) b ≡ true_count superblock.geometry (roots_of superblock) w.nodes part b
+  true_ones Metadata b lt = w.metadata b (omega (arith, lt, metadata_long)) ∙ (λ i. metadata_count (sym geometry i) (sym roots i) w.nodes b)
   true_ones Data b lt = w.others b (omega (arith, lt, others_long))
 
   pub counts_true : (area : SlotId) → slot_number area ≡ superblock.sequence % 2 → HoldsCounts image superblock.geometry Metadata area p.metadata → HoldsCounts image superblock.geometry Data area p.others
@@ -50,7 +50,7 @@ module _ (image : List Sector) (superblock : Superblock) (p : Progress) (w : IsW
 
   pub counts_untrue : (part : Part) (area : SlotId) → slot_number area ≡ superblock.sequence % 2 → (HoldsCounts image superblock.geometry part area (walked_counts p part) → ⊥) → HasBadCount image superblock
   counts_untrue part area its none =
-      untrue part area w.nodes its (subst (λ (x : ℕ). AreReachable image x w.nodes) (sym root) w.reachable) (λ counts stored true.
+      untrue part area w.nodes its (subst (λ (x : List ℕ). AreReachable image x w.nodes) (sym roots) w.reachable) (λ counts stored true.
       let same : counts ≡ walked_counts p part =
       ext_get_or 0 counts (walked_counts p part) (stored.long ∙ sym (long part)) (λ k lt. let inside : k < blocks_of superblock.geometry part = omega (arith, lt, stored.long) in true k inside ∙ sym (true_ones part k inside)) in
       none (subst (λ (xs : List ℕ). HoldsCounts image superblock.geometry part area xs) same stored))

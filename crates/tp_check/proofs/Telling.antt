@@ -11,11 +11,10 @@ use Rattle.tp_layout.specs.declared.entry.Entry.{Entry}
 use Rattle.tp_layout.specs.declared.kind.TreeKind.{TreeKind}
 use Rattle.tp_layout.specs.declared.kind.TreeKind.TheVariants.{Device, Mapping}
 use Rattle.tp_layout.specs.declared.superblock.Version.{Version}
-use Rattle.tp_layout.specs.declared.superblock.Version.TheVariants.{OneSize, OwnSizes}
 use Rattle.tp_image.specs.Nodes.{IsNodeAt, LeadsTo, IsDevice, ends, goes, block_at}
 use Rattle.tp_image.specs.Counts.{IsReachable, itself, through, is_naming_data, metadata_names, values}
 use Rattle.tp_image.specs.Rules.{BeginsAt, IsContent, IsInRange, least_of}
-use Rattle.tp_image.specs.Faults.{Name, IsFormedAs, IsGoodAs, IsNamed, devices, child, volume, HasBadOrder, HasHalfEmpty, HasBadMapped, HasBadNode, HasBadRecordSize, HasOutOfPlace, entry, is_root, nonzero, unformed}
+use Rattle.tp_image.specs.Faults.{Name, IsFormedAs, IsGoodAs, IsNamed, devices, child, volume, HasBadOrder, HasHalfEmpty, HasBadMapped, HasOutOfPlace, entry, is_root, nonzero, unformed}
 use Rattle.tp_image.proofs.Uniqueness.{IsFormed-one, contains_at}
 use Rattle.tp_check.specs.declared.error.CheckError.{CheckError}
 use Rattle.tp_check.specs.declared.error.CheckError.TheVariants.{Fault, Memory, BadSuper, BadNode, BadOrder, BadCount, OutOfPlace, HalfEmpty, BadMapped, BadRecordSize}
@@ -39,8 +38,8 @@ pub good_as : (image : List Sector) (g : Geometry) (d : Demand) (bytes : List �
 good_as image g d bytes n place read good form = record { formed = formed_as image g d bytes n place read form; ascending = good.ascending }
 
 -- a summary of the kind and level that are demanded is that of a node that stands as it is named
-pub known_as : (image : List Sector) (g : Geometry) (root : ℕ) (d : Demand) (s : Summary) → IsTreeBlock g d.block → (k : Knows image g root d.block s) → IsLike s d → IsFormedAs image g (name_of d) k.node
-known_as image g root d s place k like = record {
+pub known_as : (image : List Sector) (g : Geometry) (roots : List ℕ) (d : Demand) (s : Summary) → IsTreeBlock g d.block → (k : Knows image g roots d.block s) → IsLike s d → IsFormedAs image g (name_of d) k.node
+known_as image g roots d s place k like = record {
   place = place;
   form = k.here.good.form;
   own = k.here.own;
@@ -75,27 +74,28 @@ no_data_of_devices kind level e = ap (λ (k : TreeKind). is_naming_data k level)
 pub entry_named : (n : NodeValue) (e : Entry) → is_naming_data n.kind n.level ≡ false → Contains n.entries e → Contains (metadata_names n) e.value
 entry_named n e inner here = subst (λ (xs : List ℕ). Contains xs e.value) (sym (inner_names n inner)) (value_named n.entries e here)
 
-reached_below : (image : List Sector) (root : ℕ) (m n : NodeValue) (e : Entry) → is_naming_data m.kind m.level ≡ false → Contains m.entries e → IsReachable image root m → IsNodeAt image e.value n → IsReachable image root n
-reached_below image root m n e inner there from here =
+reached_below : (image : List Sector) (roots : List ℕ) (m n : NodeValue) (e : Entry) → is_naming_data m.kind m.level ≡ false → Contains m.entries e → IsReachable image roots m → IsNodeAt image e.value n → IsReachable image roots n
+reached_below image roots m n e inner there from here =
     through m n from (subst (λ (b : ℕ). Contains (metadata_names m) b) (sym here.own) (entry_named m e inner there)) (subst (λ (b : ℕ). IsNodeAt image b n) (sym here.own) here)
 
 -- what is named is reachable
-pub named_reached : (image : List Sector) (g : Geometry) (root : ℕ) (x : Name) → IsNamed image g root x → (n : NodeValue) → IsNodeAt image x.block n → IsReachable image root n
-named_reached image g root _ devices n here = itself n here
-named_reached image g root _ (child x m level i e named good up at) n here =
-    reached_below image root m n e (no_data_above m.kind m.level level up) (contains_at m.entries i e at) (named_reached image g root x named m (node_at_name image g x m good)) here
-named_reached image g root _ (volume x m e named good kind level there) n here =
-    reached_below image root m n e (no_data_of_devices m.kind m.level kind) there (named_reached image g root x named m (node_at_name image g x m good)) here
+pub named_reached : (image : List Sector) (g : Geometry) (roots : List ℕ) (x : Name) → IsNamed image g roots x → (n : NodeValue) → IsNodeAt image x.block n → IsReachable image roots n
+named_reached image g roots _ (devices root there) n here = itself root n there here
+named_reached image g roots _ (child x m level i e named good up at) n here =
+    reached_below image roots m n e (no_data_above m.kind m.level level up) (contains_at m.entries i e at) (named_reached image g roots x named m (node_at_name image g x m good)) here
+named_reached image g roots _ (volume x m e named good kind level there) n here =
+    reached_below image roots m n e (no_data_of_devices m.kind m.level kind) there (named_reached image g roots x named m (node_at_name image g x m good)) here
 
 pub no_device : Mapping ≡ Device → ⊥
 no_device e = absurd (omega (arith, ap kind_number e))
 
--- an entry of a named leaf of the device tree is a device
-pub named_device : (image : List Sector) (g : Geometry) (root : ℕ) (x : Name) → IsNamed image g root x → x.kind ≡ Device → (e : Entry) → LeadsTo image Device x.block e → LeadsTo image Device root e
-named_device image g root _ devices kind e path = path
-named_device image g root _ (child x m level i c named good up at) kind e path =
-    named_device image g root x named kind e (goes m c (node_at_name image g x m good) (good.formed.kind ∙ kind) (omega (arith, up)) (contains_at m.entries i c at) path)
-named_device image g root _ (volume x m c named good k l there) kind e path = absurd (no_device kind)
+-- an entry of a named leaf of a device tree is a device below one of the roots
+pub named_device : (image : List Sector) (g : Geometry) (roots : List ℕ) (x : Name) → IsNamed image g roots x → x.kind ≡ Device → (e : Entry) → LeadsTo image Device x.block e
+    → (root : ℕ) × Contains roots root × LeadsTo image Device root e
+named_device image g roots _ (devices root there) kind e path = (root, there, path)
+named_device image g roots _ (child x m level i c named good up at) kind e path =
+    named_device image g roots x named kind e (goes m c (node_at_name image g x m good) (good.formed.kind ∙ kind) (omega (arith, up)) (contains_at m.entries i c at) path)
+named_device image g roots _ (volume x m c named good k l there) kind e path = absurd (no_device kind)
 
 -- ---- a block whose summary does not pass
 
@@ -103,7 +103,7 @@ first_of_all : (es : List Entry) (low : ℕ) → BeginsAt low es → (e : Entry)
 first_of_all [] low h = absurd h
 first_of_all (e ∷ es) low h = (e, (0, omega arith, refl), h)
 
-module _ (image : List Sector) (g : Geometry) (root : ℕ) (d : Demand) (s : Summary) (named : IsNamed image g root (name_of d)) (place : IsTreeBlock g d.block) (k : Knows image g root d.block s) where
+module _ (image : List Sector) (g : Geometry) (roots : List ℕ) (d : Demand) (s : Summary) (named : IsNamed image g roots (name_of d)) (place : IsTreeBlock g d.block) (k : Knows image g roots d.block s) where
   like_of : (n : NodeValue) → IsFormedAs image g (name_of d) n → IsLike s d
   like_of n at =
       let same : n ≡ k.node = IsFormed-one (block_at image d.block) n k.node at.form k.here.good.form at.bytes k.here.bytes in (
@@ -111,21 +111,21 @@ module _ (image : List Sector) (g : Geometry) (root : ℕ) (d : Demand) (s : Sum
         subst (λ (x : ℕ). MatchOption d.level (Unit {0}) (λ level. x ≡ level)) (ap (λ (x : NodeValue). x.level) same ∙ sym k.level_is) at.level,
       )
 
-  astray_told : IsLike s d → 0 < s.len → IsAstray s d → HasBadOrder image g root
+  astray_told : IsLike s d → 0 < s.len → IsAstray s d → HasBadOrder image g roots
   astray_told like some (inl low) =
       let e = first_of_all k.node.entries s.first (k.begins some) in
-      record { name = name_of d; node = k.node; named = named; formed = known_as image g root d s place k like; broken = inr (inl (e.0, e.1, inl (omega (arith, low, e.2)))) }
+      record { name = name_of d; node = k.node; named = named; formed = known_as image g roots d s place k like; broken = inr (inl (e.0, e.1, inl (omega (arith, low, e.2)))) }
   astray_told like some (inr (inl differs)) =
       record {
         name = name_of d;
         node = k.node;
         named = named;
-        formed = known_as image g root d s place k like;
+        formed = known_as image g roots d s place k like;
         broken = inr (inr (omega (arith, differs.0, k.level_is), omega (arith, some, k.len_is), λ b. differs.1 (begins_one s.first d.low k.node.entries (k.begins some) b)));
       }
-  astray_told like some (inr (inr past)) = k.late (name_of d) named (known_as image g root d s place k like) some past
+  astray_told like some (inr (inr past)) = k.late (name_of d) named (known_as image g roots d s place k like) some past
 
-  few_told : IsLike s d → s.len < least_of (is_root d.level) s.kind s.level → HasHalfEmpty image g root
+  few_told : IsLike s d → s.len < least_of (is_root d.level) s.kind s.level → HasHalfEmpty image g roots
   few_told like few =
       let kinds : s.len < least_of (is_root d.level) k.node.kind s.level = subst (λ (x : TreeKind). s.len < least_of (is_root d.level) x s.level) k.kind_is few in
       let levels : s.len < least_of (is_root d.level) k.node.kind k.node.level = subst (λ (x : ℕ). s.len < least_of (is_root d.level) k.node.kind x) k.level_is kinds in
@@ -133,26 +133,28 @@ module _ (image : List Sector) (g : Geometry) (root : ℕ) (d : Demand) (s : Sum
         name = name_of d;
         node = k.node;
         named = named;
-        good = record { formed = known_as image g root d s place k like; ascending = k.here.good.ascending };
+        good = record { formed = known_as image g roots d s place k like; ascending = k.here.good.ascending };
         few = subst (λ (x : ℕ). x < least_of (is_root d.level) k.node.kind k.node.level) k.len_is levels;
       }
 
   mapped_told : (mapped : Option ℕ) → IsLike s d → (MatchOption mapped (Unit {0}) (λ m. s.below ≡ m) → ⊥)
-      → MatchOption mapped (Unit {0}) (λ m. (id : ℕ) × (size : ℕ) × IsDevice image root id d.block m size × (d.kind ≡ Mapping)) → HasBadMapped image g root
+      → MatchOption mapped (Unit {0}) (λ m. (root : ℕ) × Contains roots root × (id : ℕ) × (size : ℕ) × IsDevice image root id d.block m size × (d.kind ≡ Mapping)) → HasBadMapped image g roots
   mapped_told None like wrong told = absurd (wrong tt)
   mapped_told (Some m) like wrong told = record {
-    id = told.0;
+    root = told.0;
+    known = told.1;
+    id = told.2;
     volume_root = d.block;
     mapped = m;
-    size = told.1;
+    size = told.3;
     level = s.level;
     entries = k.content.0;
-    device = told.2;
-    content = subst (λ (x : TreeKind). IsContent image x s.level d.block k.content.0) (like.0 ∙ told.3) k.content.1;
+    device = told.4;
+    content = subst (λ (x : TreeKind). IsContent image x s.level d.block k.content.0) (like.0 ∙ told.5) k.content.1;
     differs = λ h. wrong (sym k.content.2 ∙ h);
   }
 
-  pub test_told : (version : Version) (e : CheckError) → IsTold image root d → Fails e s d → HasTreeFault image version g root e
+  pub test_told : (version : Version) (e : CheckError) → IsTold image roots d → Fails e s d → HasTreeFault image version g roots e
   test_told version Fault told fails = absurd fails
   test_told version Memory told fails = absurd fails
   test_told version BadSuper told fails = absurd fails
@@ -166,27 +168,27 @@ module _ (image : List Sector) (g : Geometry) (root : ℕ) (d : Demand) (s : Sum
 
 -- ---- a block that spells no good node
 
-pub spelling_told : (image : List Sector) (version : Version) (g : Geometry) (root : ℕ) (d : Demand) (bytes : List ℕ) (e : CheckError) → bytes ≡ block_at image d.block → IsTreeBlock g d.block → IsNamed image g root (name_of d)
+pub spelling_told : (image : List Sector) (version : Version) (g : Geometry) (roots : List ℕ) (d : Demand) (bytes : List ℕ) (e : CheckError) → bytes ≡ block_at image d.block → IsTreeBlock g d.block → IsNamed image g roots (name_of d)
     → (e ≡ BadNode) ⊎ (e ≡ BadOrder) → (e ≡ BadNode → (n : NodeValue) → IsOfForm d.kind d.level d.block bytes n → ⊥)
-    → (e ≡ BadOrder → (n : NodeValue) × (IsOfForm d.kind d.level d.block bytes n × (IsStrictlyIncreasing (keys n.entries) → ⊥))) → HasTreeFault image version g root e
-spelling_told image version g root d bytes e read place named (inl is) none order =
-    subst (HasTreeFault image version g root) (sym is) (unformed (name_of d) named place (λ n at. none is n (record { form = at.form; kind_is = at.kind; level_is = at.level; own_is = at.own; spelled = read ∙ at.bytes })))
-spelling_told image version g root d bytes e read place named (inr is) none order =
+    → (e ≡ BadOrder → (n : NodeValue) × (IsOfForm d.kind d.level d.block bytes n × (IsStrictlyIncreasing (keys n.entries) → ⊥))) → HasTreeFault image version g roots e
+spelling_told image version g roots d bytes e read place named (inl is) none order =
+    subst (HasTreeFault image version g roots) (sym is) (unformed (name_of d) named place (λ n at. none is n (record { form = at.form; kind_is = at.kind; level_is = at.level; own_is = at.own; spelled = read ∙ at.bytes })))
+spelling_told image version g roots d bytes e read place named (inr is) none order =
     let n = order is in
-    subst (HasTreeFault image version g root) (sym is) (record { name = name_of d; node = n.0; named = named; formed = formed_as image g d bytes n.0 place read n.1.0; broken = inl n.1.1 })
+    subst (HasTreeFault image version g roots) (sym is) (record { name = name_of d; node = n.0; named = named; formed = formed_as image g d bytes n.0 place read n.1.0; broken = inl n.1.1 })
 
-pub range_told : (image : List Sector) (g : Geometry) (root : ℕ) (d : Demand) (bytes : List ℕ) (n : NodeValue) (e : Entry) → bytes ≡ block_at image d.block → IsTreeBlock g d.block → IsNamed image g root (name_of d)
-    → IsNode n → IsOfForm d.kind d.level d.block bytes n → Contains n.entries e → (IsInRange g (is_naming_data n.kind n.level) e.value → ⊥) → HasOutOfPlace image g root
-range_told image g root d bytes n e read place named good form here out = entry (name_of d) n e named (good_as image g d bytes n place read good form) here out
+pub range_told : (image : List Sector) (g : Geometry) (roots : List ℕ) (d : Demand) (bytes : List ℕ) (n : NodeValue) (e : Entry) → bytes ≡ block_at image d.block → IsTreeBlock g d.block → IsNamed image g roots (name_of d)
+    → IsNode n → IsOfForm d.kind d.level d.block bytes n → Contains n.entries e → (IsInRange g (is_naming_data n.kind n.level) e.value → ⊥) → HasOutOfPlace image g roots
+range_told image g roots d bytes n e read place named good form here out = entry (name_of d) n e named (good_as image g d bytes n place read good form) here out
 
 -- a record of a leaf that tells a size which the image's version does not have
-pub size_told : (image : List Sector) (version : Version) (g : Geometry) (root : ℕ) (d : Demand) (bytes : List ℕ) (n : NodeValue) (e : Entry) (err : CheckError) → bytes ≡ block_at image d.block → IsTreeBlock g d.block
-    → IsNamed image g root (name_of d) → IsNode n → IsOfForm d.kind d.level d.block bytes n → n.kind ≡ Device → n.level ≡ 0 → Contains n.entries e → IsMissized version g e.size err → HasTreeFault image version g root err
-size_told image version g root d bytes n e err read place named good form kind leaf here bad = by bad where
-  path : IsDevice image root e.key e.value e.mapped e.size
+pub size_told : (image : List Sector) (version : Version) (g : Geometry) (roots : List ℕ) (d : Demand) (bytes : List ℕ) (n : NodeValue) (e : Entry) (err : CheckError) → bytes ≡ block_at image d.block → IsTreeBlock g d.block
+    → IsNamed image g roots (name_of d) → IsNode n → IsOfForm d.kind d.level d.block bytes n → n.kind ≡ Device → n.level ≡ 0 → Contains n.entries e → IsMissized version g e.size err → HasTreeFault image version g roots err
+size_told image version g roots d bytes n e err read place named good form kind leaf here bad = by bad where
+  path : (root : ℕ) × Contains roots root × IsDevice image root e.key e.value e.mapped e.size
   path =
-      named_device image g root (name_of d) named (sym form.kind_is ∙ kind) e (ends n (node_at_name image g (name_of d) n (good_as image g d bytes n place read good form)) kind leaf here)
+      named_device image g roots (name_of d) named (sym form.kind_is ∙ kind) e (ends n (node_at_name image g (name_of d) n (good_as image g d bytes n place read good form)) kind leaf here)
 
-  by : IsMissized version g e.size err → HasTreeFault image version g root err
-  by (inl old) = subst (HasTreeFault image version g root) (sym old.0) (nonzero e.key e.value e.mapped e.size old.1 path old.2)
-  by (inr new) = subst (HasTreeFault image version g root) (sym new.0) (record { version_is = new.1; id = e.key; volume_root = e.value; mapped = e.mapped; size = e.size; device = path; bad = new.2 })
+  by : IsMissized version g e.size err → HasTreeFault image version g roots err
+  by (inl old) = subst (HasTreeFault image version g roots) (sym old.0) (nonzero path.0 path.1 e.key e.value e.mapped e.size old.1 path.2 old.2)
+  by (inr new) = subst (HasTreeFault image version g roots) (sym new.0) (record { version_is = new.1; root = path.0; known = path.1; id = e.key; volume_root = e.value; mapped = e.mapped; size = e.size; device = path.2; bad = new.2 })

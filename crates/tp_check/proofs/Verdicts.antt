@@ -1,8 +1,9 @@
 -- What a check answers of the image, from what its parts found.
 use Rattle.std.proofs.Common.{◌≡◌, ◌⊎◌, inl, inr, ℕ, ◌≤◌, List, length, sym, ap, subst}
-use Rattle.std.specs.Prelude.{Result, Ok, Err, IfErr}
+use Rattle.std.specs.Prelude.{Contains, Result, Ok, Err, IfErr}
 use Rattle.tp_model.specs.Geometry.{Geometry, sectors_of_image}
 use Rattle.tp_model.specs.Sectors.{Sector}
+use Rattle.tp_layout.specs.Super.{roots_of}
 use Rattle.tp_layout.specs.declared.superblock.Superblock.{Superblock}
 use Rattle.tp_layout.specs.declared.superblock.Version.{Version}
 use Rattle.tp_image.specs.Clean.{HasTrueCounts, IsClean}
@@ -16,19 +17,19 @@ use Rattle.tp_check.specs.Found.{HasFault}
 use Rattle.tp_check.specs.Walk.{HasTreeFault, IsWhole, Progress}
 
 module _ (image : List Sector) (superblock : Superblock) (chosen : Chooses image (Ok superblock)) (whole : sectors_of_image superblock.geometry ≤ length image) where
-  pub clean_from : (p : Progress) → p.version ≡ superblock.version → p.geometry ≡ superblock.geometry → p.root ≡ superblock.root → (w : IsWhole image p) → HasTrueCounts image superblock w.nodes → IsClean image
-  clean_from p version geometry root w counts = record {
+  pub clean_from : (p : Progress) → p.version ≡ superblock.version → p.geometry ≡ superblock.geometry → p.roots ≡ roots_of superblock → (w : IsWhole image p) → HasTrueCounts image superblock w.nodes → IsClean image
+  clean_from p version geometry roots w counts = record {
     superblock = superblock;
     chosen = chosen;
     whole = whole;
-    rules = subst (λ (v : Version). KeepTheRules image v superblock.geometry superblock.root) version
-        (subst (λ (x : Geometry). KeepTheRules image p.version x superblock.root) geometry (subst (λ (x : ℕ). KeepTheRules image p.version p.geometry x) root w.rules));
+    rules = λ root there. subst (λ (v : Version). KeepTheRules image v superblock.geometry root) version
+        (subst (λ (x : Geometry). KeepTheRules image p.version x root) geometry (w.rules root (subst (λ (rs : List ℕ). Contains rs root) (sym roots) there)));
     nodes = w.nodes;
-    reachable = subst (λ (x : ℕ). AreReachable image x w.nodes) root w.reachable;
+    reachable = subst (λ (x : List ℕ). AreReachable image x w.nodes) roots w.reachable;
     counts = counts;
   }
 
-  pub tree_told : (e : CheckError) → HasTreeFault image superblock.version superblock.geometry superblock.root e → HasFault image e
+  pub tree_told : (e : CheckError) → HasTreeFault image superblock.version superblock.geometry (roots_of superblock) e → HasFault image e
   tree_told Fault h = tt
   tree_told Memory h = tt
   tree_told BadSuper h = absurd h

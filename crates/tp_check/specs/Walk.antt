@@ -38,17 +38,17 @@ abbrev pub root_demand : ℕ → Demand
 root_demand root = record { kind = Device; level = None; low = 0; high = 2 ^ 24; block = root; mapped = None }
 
 -- what is wrong in the trees, by the error that tells it
-abbrev pub HasTreeFault : List Sector → Version → Geometry → ℕ → CheckError → Type 0
-HasTreeFault image version g root Fault = Unit {0}
-HasTreeFault image version g root Memory = Unit {0}
-HasTreeFault image version g root BadSuper = ⊥
-HasTreeFault image version g root BadNode = HasBadNode image version g root
-HasTreeFault image version g root BadOrder = HasBadOrder image g root
-HasTreeFault image version g root BadCount = ⊥
-HasTreeFault image version g root OutOfPlace = HasOutOfPlace image g root
-HasTreeFault image version g root HalfEmpty = HasHalfEmpty image g root
-HasTreeFault image version g root BadMapped = HasBadMapped image g root
-HasTreeFault image version g root BadRecordSize = HasBadRecordSize image version g root
+abbrev pub HasTreeFault : List Sector → Version → Geometry → List ℕ → CheckError → Type 0
+HasTreeFault image version g roots Fault = Unit {0}
+HasTreeFault image version g roots Memory = Unit {0}
+HasTreeFault image version g roots BadSuper = ⊥
+HasTreeFault image version g roots BadNode = HasBadNode image version g roots
+HasTreeFault image version g roots BadOrder = HasBadOrder image g roots
+HasTreeFault image version g roots BadCount = ⊥
+HasTreeFault image version g roots OutOfPlace = HasOutOfPlace image g roots
+HasTreeFault image version g roots HalfEmpty = HasHalfEmpty image g roots
+HasTreeFault image version g roots BadMapped = HasBadMapped image g roots
+HasTreeFault image version g roots BadRecordSize = HasBadRecordSize image version g roots
 
 -- ---- a block's summary against a name
 
@@ -97,7 +97,7 @@ AreRecorded version g n = n.kind ≡ Device → n.level ≡ 0 → (e : Entry) �
 
 -- ---- what a summary says of the image
 
-pub record Knows (image : List Sector) (g : Geometry) (root b : ℕ) (s : Summary) : Type 0 where
+pub record Knows (image : List Sector) (g : Geometry) (roots : List ℕ) (b : ℕ) (s : Summary) : Type 0 where
   pub node : NodeValue
   pub here : IsNodeAt image b node
   pub kind_is : s.kind ≡ node.kind
@@ -108,7 +108,7 @@ pub record Knows (image : List Sector) (g : Geometry) (root b : ℕ) (s : Summar
   pub tree : (is_root : Bool) (low high : ℕ) → Suits s is_root low high → IsTree image g s.kind is_root s.level low high b
   pub content : (all : List Entry) × IsContent image s.kind s.level b all × (length all ≡ s.below)
   -- under a name that ends before the last key, some node has a key past its end
-  pub late : (x : Name) → IsNamed image g root x → IsFormedAs image g x node → 0 < s.len → x.high ≤ s.last → HasBadOrder image g root
+  pub late : (x : Name) → IsNamed image g roots x → IsFormedAs image g x node → 0 < s.len → x.high ≤ s.last → HasBadOrder image g roots
 
 -- the block was walked
 abbrev pub IsKept : List (Option Summary) → ℕ → Type 0
@@ -125,9 +125,9 @@ pub record IsGoodVolume (image : List Sector) (version : Version) (g : Geometry)
   pub mapped : (level : ℕ) (entries : List Entry) → IsContent image Mapping level e.value entries → length entries ≡ e.mapped
 
 -- a node that was walked, with all below it
-pub record IsClosed (image : List Sector) (version : Version) (g : Geometry) (root : ℕ) (known : List (Option Summary)) (n : NodeValue) : Type 0 where
+pub record IsClosed (image : List Sector) (version : Version) (g : Geometry) (roots : List ℕ) (known : List (Option Summary)) (n : NodeValue) : Type 0 where
   pub here : IsNodeAt image n.own n
-  pub reached : IsReachable image root n
+  pub reached : IsReachable image roots n
   pub kept : IsKept known n.own
   pub below : (v : ℕ) → Contains (metadata_names n) v → IsKept known v
   pub volumes : n.kind ≡ Device → n.level ≡ 0 → (e : Entry) → Contains n.entries e → IsGoodVolume image version g e
@@ -136,7 +136,7 @@ pub record IsClosed (image : List Sector) (version : Version) (g : Geometry) (ro
 pub record Progress : Type 0 where
   pub version : Version
   pub geometry : Geometry
-  pub root : ℕ
+  pub roots : List ℕ
   pub known : List (Option Summary)
   pub metadata : List ℕ
   pub others : List ℕ
@@ -148,21 +148,22 @@ pub record IsSized (g : Geometry) (known : List (Option Summary)) (metadata othe
 
 -- Some nodes are closed, each summary is true of its block, which is one of these nodes, and the names are those that they have.
 pub record IsWalked (image : List Sector) (p : Progress) : Type 0 where
+  pub few_roots : length p.roots ≤ 2  -- so that no count comes near 2 ^ 32
   pub nodes : List NodeValue
-  pub closed : (n : NodeValue) → Contains nodes n → IsClosed image p.version p.geometry p.root p.known n
+  pub closed : (n : NodeValue) → Contains nodes n → IsClosed image p.version p.geometry p.roots p.known n
   pub once : IsDistinct nat_eq (map (λ n. n.own) nodes)
-  pub knows : (b : ℕ) (s : Summary) → slice_index_or p.known b None ≡ Some s → Knows image p.geometry p.root b s
+  pub knows : (b : ℕ) (s : Summary) → slice_index_or p.known b None ≡ Some s → Knows image p.geometry p.roots b s
   pub listed : (b : ℕ) → IsKept p.known b → (n : NodeValue) × Contains nodes n × (n.own ≡ b)
-  pub metadata_named : (b : ℕ) → b < length p.metadata → slice_index p.metadata b ≡ metadata_count p.geometry p.root nodes b
+  pub metadata_named : (b : ℕ) → b < length p.metadata → slice_index p.metadata b ≡ metadata_count p.geometry p.roots nodes b
   pub others_named : (b : ℕ) → b < length p.others → slice_index p.others b ≡ data_count nodes b
 
 -- nothing was walked yet
-pub record IsFresh (version : Version) (g : Geometry) (root : ℕ) (p : Progress) : Type 0 where
+pub record IsFresh (version : Version) (g : Geometry) (roots : List ℕ) (p : Progress) : Type 0 where
   pub version_is : p.version ≡ version
   pub geometry : p.geometry ≡ g
-  pub root_is : p.root ≡ root
+  pub roots_is : p.roots ≡ roots
   pub known : (b : ℕ) → slice_index_or p.known b None ≡ None
-  pub metadata : (b : ℕ) → b < length p.metadata → slice_index p.metadata b ≡ metadata_count g root [] b
+  pub metadata : (b : ℕ) → b < length p.metadata → slice_index p.metadata b ≡ metadata_count g roots [] b
   pub others : (b : ℕ) → slice_index p.others b ≡ 0
 
 -- how a node's names are counted where no count comes near 2 ^ 32
@@ -177,7 +178,7 @@ pub record CountsNames (n : NodeValue) (old new : Progress) : Type 0 where
 pub record IsSame (old new : Progress) : Type 0 where
   pub version : new.version ≡ old.version
   pub geometry : new.geometry ≡ old.geometry
-  pub root : new.root ≡ old.root
+  pub roots : new.roots ≡ old.roots
   pub known_long : length new.known ≡ length old.known
   pub metadata_long : length new.metadata ≡ length old.metadata
   pub others_long : length new.others ≡ length old.others
@@ -191,39 +192,46 @@ pub record Closes (n : NodeValue) (s : Summary) (old new : Progress) : Type 0 wh
 
 -- a walk below a name begins on an honest disk
 abbrev pub IsBegun : DiskState → Progress → Demand → Type 0
-IsBegun disk p d = IsTrue disk.is_honest × IsNamed (seen disk.cells) p.geometry p.root (name_of d) × IsWalked (seen disk.cells) p
+IsBegun disk p d = IsTrue disk.is_honest × IsNamed (seen disk.cells) p.geometry p.roots (name_of d) × IsWalked (seen disk.cells) p
 
 -- what a walk below a name brings
 pub record Comes (image : List Sector) (old new : Progress) (d : Demand) (s : Summary) : Type 0 where
   pub walked : IsWalked image new
-  pub knows : Knows image old.geometry old.root d.block s
+  pub knows : Knows image old.geometry old.roots d.block s
   pub kept : IsKept new.known d.block
   pub grows : Grows old.known new.known
 
--- where a record names a volume's root, it is one of the device tree
-abbrev pub IsTold : List Sector → ℕ → Demand → Type 0
-IsTold image root d = MatchOption d.mapped (Unit {0}) (λ mapped. (id : ℕ) × (size : ℕ) × IsDevice image root id d.block mapped size × (d.kind ≡ Mapping))
+-- where a record names a volume's root, it is one of a device tree
+abbrev pub IsTold : List Sector → List ℕ → Demand → Type 0
+IsTold image roots d = MatchOption d.mapped (Unit {0}) (λ mapped. (root : ℕ) × Contains roots root × (id : ℕ) × (size : ℕ) × IsDevice image root id d.block mapped size × (d.kind ≡ Mapping))
+
+-- the tree below one of the roots was walked, and keeps the rules
+pub record IsRooted (image : List Sector) (old new : Progress) (root : ℕ) : Type 0 where
+  pub walked : IsWalked image new
+  pub grows : Grows old.known new.known
+  pub kept : IsKept new.known root
+  pub rules : KeepTheRules image new.version new.geometry root
 
 -- the trees keep the rules, and all of their names are counted
 pub record IsWhole (image : List Sector) (p : Progress) : Type 0 where
   pub nodes : List NodeValue
-  pub reachable : AreReachable image p.root nodes
-  pub rules : KeepTheRules image p.version p.geometry p.root
-  pub metadata : (b : ℕ) → b < length p.metadata → slice_index p.metadata b ≡ metadata_count p.geometry p.root nodes b
+  pub reachable : AreReachable image p.roots nodes
+  pub rules : (root : ℕ) → Contains p.roots root → KeepTheRules image p.version p.geometry root
+  pub metadata : (b : ℕ) → b < length p.metadata → slice_index p.metadata b ≡ metadata_count p.geometry p.roots nodes b
   pub others : (b : ℕ) → b < length p.others → slice_index p.others b ≡ data_count nodes b
 
 -- ---- the entries of a node, up to one
 
 -- the tree that an entry names was walked, and passed
-pub record IsUnder (image : List Sector) (g : Geometry) (root : ℕ) (d : Demand) : Type 0 where
+pub record IsUnder (image : List Sector) (g : Geometry) (roots : List ℕ) (d : Demand) : Type 0 where
   pub summary : Summary
-  pub knows : Knows image g root d.block summary
+  pub knows : Knows image g roots d.block summary
   pub passes : Passes summary d
 
 -- those of the first `i` entries; `last` is the last key below the last of them, and `below` is how many entries there are
-pub record IsBelow (image : List Sector) (g : Geometry) (root : ℕ) (d : Demand) (n : NodeValue) (i last below : ℕ) : Type 0 where
+pub record IsBelow (image : List Sector) (g : Geometry) (roots : List ℕ) (d : Demand) (n : NodeValue) (i last below : ℕ) : Type 0 where
   pub each : (k : ℕ) (e : Entry) → k < i → slice_get n.entries k ≡ Some e
-      → (u : IsUnder image g root (demand_under g d n k e)) × (suc k ≡ i → u.summary.last ≡ last)
+      → (u : IsUnder image g roots (demand_under g d n k e)) × (suc k ≡ i → u.summary.last ≡ last)
   pub content : (level : ℕ) → n.level ≡ suc level
       → (all : List Entry) × Joined (λ child entries. IsContent image n.kind level child entries) (take i n.entries) all × (length all ≡ below)
 
@@ -232,7 +240,7 @@ pub record WalksOn (image : List Sector) (old now : Progress) (d : Demand) (n : 
   pub walked : IsWalked image now
   pub grows : Grows old.known now.known
   pub kept : (k : ℕ) (e : Entry) → k < i → slice_get n.entries k ≡ Some e → IsKept now.known e.value
-  pub under : IsBelow image old.geometry old.root d n i last below
+  pub under : IsBelow image old.geometry old.roots d n i last below
 
 -- the first in a leaf, and else the second
 abbrev pub leaf_or : ℕ → ℕ → ℕ → ℕ

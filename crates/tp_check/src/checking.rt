@@ -2,6 +2,7 @@
 ghost use Rattle.std.specs.Prelude.{◌≡◌, ◌≤◌, ◌⊎◌, Err, IfErr, IsTrue, OnOk, not};
 ghost use Rattle.tp_model.specs.Geometry.{IsTreeBlock, sectors_of_image};
 ghost use Rattle.tp_model.specs.Disk.{FaultHasCause, after_read, seen};
+ghost use Rattle.tp_layout.specs.Super.{roots_of};
 ghost use Rattle.tp_image.specs.Clean.{HasTrueCounts, IsClean};
 ghost use Rattle.tp_image.specs.Faults.{HasBadCount};
 ghost use Rattle.tp_check.specs.Errors.{is_fault};
@@ -18,10 +19,11 @@ use tp_disk::Disk;
 use tp_layout::{Part, Superblock};
 use tp_model::{Geometry, Mb};
 
-/// Whether the image on a disk is clean: its trees keep the rules, its stored counts are the true ones, and at least 128
-/// metadata blocks are free. It writes nothing.
+/// Whether the image on a disk is clean: its trees, and those of a held copy, keep the rules, its stored counts are the
+/// true ones, and at least 128 metadata blocks are free. It writes nothing.
 ///
-/// It reads each node that is named once, however many volumes share it, and the counts of the superblock's area once.
+/// It reads each node that is named once, however many volumes and copies share it, and the counts of the superblock's
+/// area once.
 /// Its memory is taken behind the superblock, before any node is read: some 60 bytes for each metadata block, and 4 for
 /// each data block.
 ///
@@ -48,12 +50,10 @@ fn find_fault<D: Disk>(alloc: Global, disk: &mut D) -> Result<(), CheckError>
     if !is_tree_block(&superblock.geometry, superblock.root) {
         return Err(CheckError::BadSuper);
     }
-    let Ok(mut walk) = Walk::new(
-        alloc,
-        superblock.version,
-        superblock.geometry,
-        superblock.root,
-    ) else {
+    if !may_be_held(&superblock.geometry, superblock.held_root) {
+        return Err(CheckError::BadSuper);
+    }
+    let Ok(mut walk) = Walk::new(alloc, &superblock) else {
         return Err(CheckError::Memory);
     };
     walk_all(&mut walk, disk)?;
@@ -71,6 +71,17 @@ fn is_tree_block(geometry: &Geometry, block: Mb) -> bool
     block.number() < geometry.metadata_blocks()
 }
 
+/// Whether a block may hold the root of a held copy, or is block 0, which says that none is held.
+fn may_be_held(geometry: &Geometry, block: Mb) -> bool
+    ensures inside { IsTrue result → (block ≡ 0) ⊎ IsTreeBlock geometry.now block }
+    ensures outside { IsTrue (not result) → (block ≡ 0) ⊎ IsTreeBlock geometry.now block → ⊥ }
+{
+    if block.number() == 0 {
+        return true;
+    }
+    is_tree_block(geometry, block)
+}
+
 /// Tests that the counts that a whole walk found stand in the superblock's area, and that enough of them are 0.
 fn test_stored<D: Disk>(
     disk: &mut D,
@@ -79,7 +90,7 @@ fn test_stored<D: Disk>(
 ) -> Result<(), CheckError>
     requires disk { sectors_of_image superblock.now.geometry ≤ (D.state disk.old).size }
     requires geometry { walk.now.geometry ≡ superblock.now.geometry }
-    requires root { walk.now.root ≡ superblock.now.root }
+    requires roots { walk.now.roots ≡ roots_of superblock.now }
     ensures stored { OnOk result (IsTrue (D.state disk.old).is_honest → (w : IsWhole (seen (D.state disk.old).cells) walk.now) → HasTrueCounts (seen (D.state disk.old).cells) superblock.now w.nodes) }
     ensures bad { result ≡ Err CheckError.BadCount → IsTrue (D.state disk.old).is_honest → IsWhole (seen (D.state disk.old).cells) walk.now → HasBadCount (seen (D.state disk.old).cells) superblock.now }
     ensures only { IfErr result (λ e. (e ≡ CheckError.Fault) ⊎ (e ≡ CheckError.BadCount)) }

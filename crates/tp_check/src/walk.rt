@@ -1,9 +1,10 @@
 //! The walk over the trees: each node that is named is read once.
-ghost use Rattle.std.specs.Prelude.{◌≡◌, ℕ, ◌+◌, ◌<◌, ◌≤◌, ◌==◌, ◌^◌, ◌⊎◌, set, min, if◌then◌else◌, nat_lt, replicate, List, Contains, Err, false, IfErr, IfOk, IsTrue, None, OnOk, count_by, length, not, slice_get, slice_index, slice_index_or};
+ghost use Rattle.std.specs.Prelude.{◌≡◌, ℕ, ◌+◌, ◌<◌, ◌≤◌, ◌==◌, ◌^◌, ◌⊎◌, ◌∷◌, set, min, if◌then◌else◌, nat_lt, replicate, List, Contains, Err, false, IfErr, IfOk, IsTrue, None, OnOk, count_by, length, not, slice_get, slice_index, slice_index_or};
 ghost use Rattle.tp_model.specs.Geometry.{Geometry, IsTreeBlock, metadata_sector, sectors_of_image};
 ghost use Rattle.tp_model.specs.Disk.{after_read, seen};
 ghost use Rattle.tp_model.specs.Sectors.{Sector};
 ghost use Rattle.tp_layout.specs.Node.{IsNode};
+ghost use Rattle.tp_layout.specs.Super.{held_refs, roots_of};
 ghost use Rattle.tp_layout.specs.declared.entry.Entry.{Entry};
 ghost use Rattle.tp_image.specs.Counts.{is_naming_data, values};
 ghost use Rattle.tp_image.specs.Faults.{IsNamed};
@@ -11,7 +12,7 @@ ghost use Rattle.tp_image.specs.Nodes.{block_at};
 ghost use Rattle.tp_check.specs.declared.error.CheckError.{CheckError};
 ghost use Rattle.tp_check.specs.Errors.{is_fault};
 ghost use Rattle.tp_check.specs.Named.{IsOfForm};
-ghost use Rattle.tp_check.specs.Walk.{AreRecorded, Closes, Comes, CountsNames, HasTreeFault, IsBegun, IsFresh, IsInside, IsSame, IsWhole, name_of, root_demand};
+ghost use Rattle.tp_check.specs.Walk.{AreRecorded, Closes, Comes, CountsNames, HasTreeFault, IsBegun, IsFresh, IsInside, IsRooted, IsSame, IsWalked, IsWhole, name_of, root_demand};
 
 use crate::error::CheckError;
 use crate::node::{are_in_range, good_node, test_sizes};
@@ -19,7 +20,7 @@ use crate::summary::{Demand, Summary, demand_under, summary_of, test};
 use std::alloc::{AllocError, Global};
 use std::marker::Model;
 use tp_disk::{Disk, Fault};
-use tp_layout::{BlockBytes, NodeView, TreeKind, Version};
+use tp_layout::{BlockBytes, NodeView, Superblock, TreeKind, Version};
 use tp_model::{Geometry, Mb};
 
 /// How far a walk came.
@@ -28,6 +29,8 @@ pub(crate) struct Walk {
     version: Version,
     geometry: Geometry,
     root: Mb,
+    /// The root of a held copy, or block 0.
+    held_root: Mb,
     /// For each metadata block what is known of the tree below it, once it was walked.
     known: Vec<Option<Summary>>,
     /// How often each metadata block and each data block is named, so far.
@@ -36,26 +39,27 @@ pub(crate) struct Walk {
 }
 
 impl Model for Walk {
+    ghost use Rattle.std.specs.Prelude.{◌∷◌};
+    ghost use Rattle.tp_layout.specs.Super.{held_refs};
     ghost use Rattle.tp_check.specs.Walk.{IsSized, Progress};
 
     ghost Value = { Progress };
 
-    ghost view = { λ w. record { version = w.version; geometry = w.geometry; root = w.root; known = w.known.items; metadata = w.metadata_names.items; others = w.data_names.items } };
+    ghost view = { λ w. record { version = w.version; geometry = w.geometry; roots = w.root ∷ held_refs w.held_root; known = w.known.items; metadata = w.metadata_names.items; others = w.data_names.items } };
 
     ghost invariant = { λ w. IsSized w.geometry w.known.items w.metadata_names.items w.data_names.items };
 }
 
 impl Walk {
-    /// Nothing was walked yet: the root and the fixed part are named. All memory of a check is taken here.
-    pub(crate) fn new(
-        alloc: Global,
-        version: Version,
-        geometry: Geometry,
-        root: Mb,
-    ) -> Result<Walk, AllocError>
-        requires { IsTreeBlock geometry root }
-        ensures { IfOk result (λ walk. IsFresh version geometry root walk) }
+    /// Nothing was walked yet: the roots and the fixed part are named. All memory of a check is taken here.
+    pub(crate) fn new(alloc: Global, superblock: &Superblock) -> Result<Walk, AllocError>
+        requires root { IsTreeBlock superblock.now.geometry superblock.now.root }
+        requires held { (superblock.now.held_root ≡ 0) ⊎ IsTreeBlock superblock.now.geometry superblock.now.held_root }
+        ensures { IfOk result (λ walk. IsFresh superblock.now.version superblock.now.geometry (roots_of superblock.now) walk) }
     {
+        let geometry = superblock.geometry;
+        let root = superblock.root;
+        let held_root = superblock.held_root;
         let metadata_blocks = geometry.metadata_blocks() as usize;
         let known = Vec::from_elem(alloc, None, metadata_blocks)?;
         let mut metadata_names = Vec::from_elem(alloc, 0, metadata_blocks)?;
@@ -64,11 +68,13 @@ impl Walk {
             &mut metadata_names,
             geometry.fixed_part() as usize,
             root.number() as usize,
+            held_root.number() as usize,
         );
         Ok(Walk {
-            version,
+            version: superblock.version,
             geometry,
             root,
+            held_root,
             known,
             metadata_names,
             data_names,
@@ -90,11 +96,11 @@ impl Walk {
         self.version
     }
 
-    /// The root of the device tree.
-    pub(crate) fn root(&self) -> Mb
-        ensures { result ≡ self.now.root }
+    /// The root of the device tree, and that of a held copy, which is block 0 where none is held.
+    fn roots(&self) -> (Mb, Mb)
+        ensures { self.now.roots ≡ result.0 ∷ held_refs result.1 }
     {
-        self.root
+        (self.root, self.held_root)
     }
 
     /// How often each metadata block is named.
@@ -150,17 +156,22 @@ impl Walk {
     }
 }
 
-/// Names the blocks of the fixed part, which are the first ones, and the root.
-fn name_held(names: &mut [u32], fixed_part: usize, root: usize)
+/// Names the blocks of the fixed part, which are the first ones, the root, and the held root where there is one: one
+/// block twice where it is both.
+fn name_held(names: &mut [u32], fixed_part: usize, root: usize, held_root: usize)
     requires blank { names.old ≡ replicate (length names.old) 0 }
     requires apart { fixed_part ≤ root }
     requires inside { root < length names.old }
-    ensures { (b : ℕ) → b < length names.old → slice_index names.new b ≡ (if b == root then 1 else 0) + (if nat_lt b fixed_part then 1 else 0) }
+    requires held { (held_root ≡ 0) ⊎ ((fixed_part ≤ held_root) × (held_root < length names.old)) }
+    ensures { (b : ℕ) → b < length names.old → slice_index names.new b ≡ count_by (λ r. b == r) (root ∷ held_refs held_root) + (if nat_lt b fixed_part then 1 else 0) }
 {
     for place in 0..fixed_part {
         names[place] = 1;
     }
     names[root] = 1;
+    if held_root > 0 {
+        name(names, held_root);
+    }
 }
 
 /// Whether a node's entries name data blocks: those of a leaf of a volume's tree do.
@@ -211,8 +222,8 @@ fn node_in<'a>(
 ) -> Result<NodeView<'a>, CheckError>
     ensures good { IfOk result (λ n. IsNode n × IsOfForm demand.now.kind demand.now.level demand.now.block block.now n × IsInside geometry.now n × AreRecorded version geometry.now n) }
     ensures only { IfErr result (λ e. (e ≡ CheckError.BadNode) ⊎ (e ≡ CheckError.BadOrder) ⊎ (e ≡ CheckError.OutOfPlace) ⊎ (e ≡ CheckError.BadRecordSize)) }
-    ensures fault { IfErr result (λ e. (image : List Sector) (root : ℕ) → block.now ≡ block_at image demand.now.block → IsTreeBlock geometry.now demand.now.block
-        → IsNamed image geometry.now root (name_of demand.now) → HasTreeFault image version geometry.now root e) }
+    ensures fault { IfErr result (λ e. (image : List Sector) (roots : List ℕ) → block.now ≡ block_at image demand.now.block → IsTreeBlock geometry.now demand.now.block
+        → IsNamed image geometry.now roots (name_of demand.now) → HasTreeFault image version geometry.now roots e) }
 {
     let node = good_node(block, demand.block, demand.kind, demand.level)?;
     if !are_in_range(&node, geometry) {
@@ -240,7 +251,7 @@ fn walk_below<D: Disk>(
     requires disk { sectors_of_image walk.old.geometry ≤ (D.state disk.old).size }
     requires place { IsTreeBlock walk.old.geometry demand.now.block }
     ensures comes { IfOk result (λ s. IsBegun (D.state disk.old) walk.old demand.now → Comes (seen (D.state disk.old).cells) walk.old walk.new demand.now s) }
-    ensures fault { IfErr result (λ e. IsBegun (D.state disk.old) walk.old demand.now → HasTreeFault (seen (D.state disk.old).cells) walk.old.version walk.old.geometry walk.old.root e) }
+    ensures fault { IfErr result (λ e. IsBegun (D.state disk.old) walk.old demand.now → HasTreeFault (seen (D.state disk.old).cells) walk.old.version walk.old.geometry walk.old.roots e) }
     ensures same { IsSame walk.old walk.new }
     ensures state { D.state disk.new ≡ after_read (not (is_fault result)) (D.state disk.old) }
 {
@@ -266,7 +277,7 @@ fn walk_below<D: Disk>(
     Ok(summary)
 }
 
-/// What the root of the device tree is named as.
+/// What a root of a device tree is named as.
 fn root_demand(root: Mb) -> Demand
     ensures { result ≡ root_demand root }
 {
@@ -280,21 +291,40 @@ fn root_demand(root: Mb) -> Demand
     }
 }
 
-/// Walks the device tree below its root, and the trees of all volumes.
-pub(crate) fn walk_all<D: Disk>(walk: &mut Walk, disk: &mut D) -> Result<(), CheckError>
+/// Walks the device tree below one of the roots, and the trees of its volumes, but for what was walked before.
+fn walk_devices<D: Disk>(walk: &mut Walk, disk: &mut D, root: Mb) -> Result<(), CheckError>
     requires disk { sectors_of_image walk.old.geometry ≤ (D.state disk.old).size }
-    requires place { IsTreeBlock walk.old.geometry walk.old.root }
-    requires fresh { IsFresh walk.old.version walk.old.geometry walk.old.root walk.old }
-    ensures whole { OnOk result (IsTrue (D.state disk.old).is_honest → IsWhole (seen (D.state disk.old).cells) walk.new) }
-    ensures fault { IfErr result (λ e. IsTrue (D.state disk.old).is_honest → HasTreeFault (seen (D.state disk.old).cells) walk.old.version walk.old.geometry walk.old.root e) }
+    requires place { IsTreeBlock walk.old.geometry root }
+    requires there { Contains walk.old.roots root }
+    ensures rooted { OnOk result (IsTrue (D.state disk.old).is_honest → IsWalked (seen (D.state disk.old).cells) walk.old → IsRooted (seen (D.state disk.old).cells) walk.old walk.new root) }
+    ensures fault { IfErr result (λ e. IsTrue (D.state disk.old).is_honest → IsWalked (seen (D.state disk.old).cells) walk.old → HasTreeFault (seen (D.state disk.old).cells) walk.old.version walk.old.geometry walk.old.roots e) }
     ensures same { IsSame walk.old walk.new }
     ensures state { D.state disk.new ≡ after_read (not (is_fault result)) (D.state disk.old) }
 {
-    let demand = root_demand(walk.root());
+    let demand = root_demand(root);
     let summary = walk_below(walk, disk, &demand)?;
     test(&summary, &demand)?;
     if summary.below > 65536 {
         return Err(CheckError::OutOfPlace);
     }
+    Ok(())
+}
+
+/// Walks the device tree below its root, and the trees of all volumes; then those of the held copy, if there is one.
+pub(crate) fn walk_all<D: Disk>(walk: &mut Walk, disk: &mut D) -> Result<(), CheckError>
+    requires disk { sectors_of_image walk.old.geometry ≤ (D.state disk.old).size }
+    requires places { (r : ℕ) → Contains walk.old.roots r → IsTreeBlock walk.old.geometry r }
+    requires fresh { IsFresh walk.old.version walk.old.geometry walk.old.roots walk.old }
+    ensures whole { OnOk result (IsTrue (D.state disk.old).is_honest → IsWhole (seen (D.state disk.old).cells) walk.new) }
+    ensures fault { IfErr result (λ e. IsTrue (D.state disk.old).is_honest → HasTreeFault (seen (D.state disk.old).cells) walk.old.version walk.old.geometry walk.old.roots e) }
+    ensures same { IsSame walk.old walk.new }
+    ensures state { D.state disk.new ≡ after_read (not (is_fault result)) (D.state disk.old) }
+{
+    let (root, held_root) = walk.roots();
+    walk_devices(walk, disk, root)?;
+    if held_root.number() == 0 {
+        return Ok(());
+    }
+    walk_devices(walk, disk, held_root)?;
     Ok(())
 }

@@ -36,7 +36,7 @@ where
     H: Net<Listener = TcpListener, Stream = TcpStream> + Alloc<A = Global>,
 {
     drop(answered(rt, control, b"set_transaction_id 0 1\n")?);
-    answered(rt, control, b"set_transaction_id 1 2\n")
+    answered(rt, control, b"reserve_metadata_snap\n")
 }
 
 /// Both of them, and then the client comes and goes: how many bytes the one that stays reads then.

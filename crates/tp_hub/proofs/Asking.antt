@@ -32,6 +32,8 @@ message_holds h (orders.CreateSnap id origin) answer = refl
 message_holds h (orders.Delete id) answer = refl
 message_holds h (orders.SetTransactionId current next) answer = refl
 message_holds h (orders.Grow id blocks) answer = refl
+message_holds h orders.ReserveMetadataSnap answer = refl
+message_holds h orders.ReleaseMetadataSnap answer = refl
 
 module _ {D : Type 0} (view : View D) where
   -- one call was made

@@ -151,6 +151,8 @@ call_of (orders.CreateSnap id origin) = calls.CreateSnap id origin
 call_of (orders.Delete id) = calls.Delete id
 call_of (orders.SetTransactionId current next) = calls.SetTransactionId current next
 call_of (orders.Grow id blocks) = calls.Grow id blocks
+call_of orders.ReserveMetadataSnap = calls.ReserveMetadataSnap
+call_of orders.ReleaseMetadataSnap = calls.ReleaseMetadataSnap
 
 -- what is told where a message was given this answer: nothing else answers it
 abbrev pub TellsDone : calls.Answer → List Answer → Type 0

@@ -33,5 +33,6 @@ pub use laws::{
     two_are_heard_in_turn,
 };
 pub use log::{Log, Made};
+pub use orders::apply;
 pub use pairs::serve_two;
 pub use stream::{Put, Received, Stream, send_all};

@@ -12,8 +12,8 @@ use crate::slot::{NOTHING, Took, WHOLE};
 use tp_model::{DevId, Refusal};
 use tp_msg::{LineBuffer, Managed, Message, read_message};
 
-/// Makes the call that a message asks for.
-fn apply<V: Managed>(pool: &mut V, message: &Message) -> Result<(), Refusal>
+/// Makes the call of a pool that a message asks for, and answers as it does.
+pub fn apply<V: Managed>(pool: &mut V, message: &Message) -> Result<(), Refusal>
     ensures { MatchResult result
         (λ _. PoolCall V.view pool.old (call_of message.now) calls.Done pool.new)
         (λ reason. PoolCall V.view pool.old (call_of message.now) (calls.Refused reason) pool.new) }
@@ -24,6 +24,8 @@ fn apply<V: Managed>(pool: &mut V, message: &Message) -> Result<(), Refusal>
         Message::Delete { id } => pool.delete(id),
         Message::SetTransactionId { current, next } => pool.set_transaction_id(current, next),
         Message::Grow { id, blocks } => pool.grow(id, blocks),
+        Message::ReserveMetadataSnap => pool.reserve_metadata_snap(),
+        Message::ReleaseMetadataSnap => pool.release_metadata_snap(),
     }
 }
 

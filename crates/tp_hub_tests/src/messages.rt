@@ -74,6 +74,51 @@ fn messages_between_turns(rt: HostRuntime) -> Result<(), Fail> {
     Ok(())
 }
 
+/// The pool's line while a root is held.
+const HELD_LINE: &[u8] =
+    b"0 10/2048 4/4 9 out_of_data_space no_discard_passdown error_if_no_space - 512";
+
+/// A root is held, told, and given up, and each message comes once more.
+fn run_held<V: Managed>(alloc: Global, hub: &mut Hub<V>, out: &mut Answers) -> Ran {
+    hub.run(
+        alloc,
+        &[
+            Event::Message(b"reserve_metadata_snap"),
+            Event::Message(b"reserve_metadata_snap"),
+            Event::Status,
+            Event::Message(b"release_metadata_snap"),
+            Event::Message(b"release_metadata_snap"),
+        ],
+        out,
+    )
+}
+
+/// How many events and bytes were taken, and whether the marks and the line are those.
+fn told_of_held(alloc: Global, mut hub: Hub<Shelf>) -> ((usize, usize), (bool, bool)) {
+    let mut out = Answers::new(alloc);
+    let ran = run_held(alloc, &mut hub, &mut out);
+    let _ = hub.into_pool();
+    let marks = [
+        Mark::Done,
+        refused(Refusal::HeldRootExists),
+        Mark::Line {
+            len: HELD_LINE.len(),
+        },
+        Mark::Done,
+        refused(Refusal::NoHeldRoot),
+    ];
+    let are_told = (out.marks() == marks.as_slice(), out.bytes() == HELD_LINE);
+    ((ran.events, ran.bytes), are_told)
+}
+
+/// Each of the two messages makes its own call.
+#[test]
+fn a_root_is_held_and_given_up(rt: HostRuntime) -> Result<(), Fail> {
+    let told = told_of_held(rt.alloc(), blank_hub(rt.alloc())?);
+    assert!(rt; told == ((5, 0), (true, true)));
+    Ok(())
+}
+
 /// Why each event of the pool is refused.
 fn reasons(marks: &[Mark]) -> [Option<Refusal>; 7] {
     let mut reasons = [None; 7];

@@ -24,7 +24,7 @@ use Rattle.tp_image.specs.Fresh.{fresh_super}
 use Rattle.tp_image.specs.Counts.{is_naming_data}
 use Rattle.tp_image.specs.Rules.{IsContent, IsInRange, least_of}
 use Rattle.tp_image.proofs.AreaLaws.{HoldsCounts-one}
-use Rattle.tp_image.proofs.SharedRoot.{fits_long, devices_good, mappings_good, one_of_two, two_reached}
+use Rattle.tp_image.proofs.SharedRoot.{one_root, fits_long, devices_good, mappings_good, one_of_two, two_reached}
 use Rattle.tp_image.proofs.Uniqueness.{IsNodeAt-one}
 
 -- no disk, no superblock
@@ -58,8 +58,8 @@ devices_at image has = record {
   ascending = devices_good.ascending;
 }
 
-root_named : (image : List Sector) → block_at image 8 ≡ node_bytes device_leaf → IsNamed image example 8 (root_name Mapping 16 9)
-root_named image has = volume (root_name Device (2 ^ 24) 8) device_leaf one_record devices (devices_at image has) refl refl (0, omega arith, refl)
+root_named : (image : List Sector) → block_at image 8 ≡ node_bytes device_leaf → IsNamed image example (8 ∷ []) (root_name Mapping 16 9)
+root_named image has = volume (root_name Device (2 ^ 24) 8) device_leaf one_record (devices 8 (0, omega arith, refl)) (devices_at image has) refl refl (0, omega arith, refl)
 
 root_at : (image : List Sector) (n : NodeValue) → IsFormed n → n.own ≡ 9 → n.kind ≡ Mapping → block_at image 9 ≡ node_bytes n → IsFormedAs image example (root_name Mapping 16 9) n
 root_at image n form own kind has = record { place = tree_block 9 (omega arith) (omega arith); form = form; own = own; bytes = has; kind = kind; level = tt }
@@ -67,7 +67,7 @@ root_at image n form own kind has = record { place = tree_block 9 (omega arith) 
 other_kind_formed : IsFormed other_kind
 other_kind_formed = record { level = omega arith; own = omega arith; room = omega arith; entries = All-from_recursion (FitsEntry true) [] tt }
 
-pub bad_node : (image : List Sector) (version : Version) → HasRoot other_kind image → HasBadNode image version example 8
+pub bad_node : (image : List Sector) (version : Version) → HasRoot other_kind image → HasBadNode image version example (8 ∷ [])
 bad_node image version has =
     unformed (root_name Mapping 16 9) (root_named image has.devices) (tree_block 9 (omega arith) (omega arith))
     (λ n at.
@@ -91,16 +91,16 @@ small_size : IsToldSize example 7 → ⊥
 small_size (inl none) = absurd (omega (arith, none))
 small_size (inr more) = absurd (omega (arith, more.0))
 
-pub bad_size : (image : List Sector) → HasDevices small_record image → HasBadRecordSize image OwnSizes example 8
-bad_size image has = record { version_is = refl; id = 0; volume_root = 9; mapped = 1; size = 7; device = small_device image has; bad = small_size }
+pub bad_size : (image : List Sector) → HasDevices small_record image → HasBadRecordSize image OwnSizes example (8 ∷ [])
+bad_size image has = record { version_is = refl; root = 8; known = (0, omega arith, refl); id = 0; volume_root = 9; mapped = 1; size = 7; device = small_device image has; bad = small_size }
 
-pub nonzero_size : (image : List Sector) → HasDevices small_record image → HasBadNode image OneSize example 8
-nonzero_size image has = nonzero 0 9 1 7 refl (small_device image has) (λ none. absurd (omega (arith, none)))
+pub nonzero_size : (image : List Sector) → HasDevices small_record image → HasBadNode image OneSize example (8 ∷ [])
+nonzero_size image has = nonzero 8 (0, omega arith, refl) 0 9 1 7 refl (small_device image has) (λ none. absurd (omega (arith, none)))
 
 late_formed : IsFormed late_key
 late_formed = record { level = omega arith; own = omega arith; room = omega arith; entries = All-from_recursion (FitsEntry false) late_key.entries (short_fits _ (lit< tt) (lit< tt) refl refl, tt) }
 
-pub bad_order : (image : List Sector) → HasRoot late_key image → HasBadOrder image example 8
+pub bad_order : (image : List Sector) → HasRoot late_key image → HasBadOrder image example (8 ∷ [])
 bad_order image has = record {
   name = root_name Mapping 16 9;
   node = late_key;
@@ -112,7 +112,7 @@ bad_order image has = record {
 far_formed : IsFormed far_block
 far_formed = record { level = omega arith; own = omega arith; room = omega arith; entries = All-from_recursion (FitsEntry false) far_block.entries (short_fits _ (lit< tt) (lit< tt) refl refl, tt) }
 
-pub out_of_place : (image : List Sector) → HasRoot far_block image → HasOutOfPlace image example 8
+pub out_of_place : (image : List Sector) → HasRoot far_block image → HasOutOfPlace image example (8 ∷ [])
 out_of_place image has =
     entry (root_name Mapping 16 9) far_block (record { key = 3; value = 4; mapped = 0; size = 0 }) (root_named image has.devices)
     (record { formed = root_at image far_block far_formed refl refl has.mappings; ascending = one_ascends 3 }) (0, omega arith, refl) (λ h. absurd (omega (arith, h)))
@@ -120,7 +120,7 @@ out_of_place image has =
 only_formed : IsFormed only_child
 only_formed = record { level = omega arith; own = omega arith; room = omega arith; entries = All-from_recursion (FitsEntry false) only_child.entries (short_fits _ (lit< tt) (lit< tt) refl refl, tt) }
 
-pub half_empty : (image : List Sector) → HasRoot only_child image → HasHalfEmpty image example 8
+pub half_empty : (image : List Sector) → HasRoot only_child image → HasHalfEmpty image example (8 ∷ [])
 half_empty image has = record {
   name = root_name Mapping 16 9;
   node = only_child;
@@ -135,9 +135,11 @@ empty_formed = record { level = omega arith; own = omega arith; room = omega ari
 empty_at : (image : List Sector) → HasRoot no_entry image → IsNodeAt image 9 no_entry
 empty_at image has = record { good = record { form = empty_formed; ascending = none_ascends }; own = refl; bytes = has.mappings }
 
-pub bad_mapped : (image : List Sector) → HasRoot no_entry image → HasBadMapped image example 8
+pub bad_mapped : (image : List Sector) → HasRoot no_entry image → HasBadMapped image example (8 ∷ [])
 unfolding IsContent
 bad_mapped image has = record {
+  root = 8;
+  known = (0, omega arith, refl);
   id = 0;
   volume_root = 9;
   mapped = 1;
@@ -209,8 +211,8 @@ module _ (image : List Sector) (has : HasOneBlock image) where
       inr ((λ i. root_name Mapping (told_blocks example (record_size e there i)) (record_root e there i)))
   root_of x n e kind within (inr m) = absurd (omega (arith, ap kind_number (sym kind ∙ ap (λ (m : NodeValue). m.kind) m.1)))
 
-  known : (x : Name) → IsNamed image example 8 x → IsKnown x
-  known x devices = inl refl
+  known : (x : Name) → IsNamed image example (8 ∷ []) x → IsKnown x
+  known x (devices root there) = inl (ap (root_name Device (2 ^ 24)) (sym (one_root 8 root there.0 there.1 there.2)))
   known x (child parent n level i e named good up at) = absurd (no_level parent n level up (stands parent n (known parent named) good))
   known x (volume parent n e named good kind leaf within) = root_of parent n e kind within (stands parent n (known parent named) good)
 
@@ -248,10 +250,10 @@ module _ (image : List Sector) (has : HasOneBlock image) where
       ordered (inr (inl (e, within, inr high))) = absurd (omega (arith, high, ap (λ (x : Entry). x.key) (root_entry e within)))
       ordered (inr (inr (inner, some, first))) = absurd (omega (arith, inner))
 
-  no_bad_order : HasBadOrder image example 8 → ⊥
+  no_bad_order : HasBadOrder image example (8 ∷ []) → ⊥
   no_bad_order h = in_order h.name h.node (stands_formed h.name h.node (known h.name h.named) h.formed) h.broken
 
-  no_half_empty : HasHalfEmpty image example 8 → ⊥
+  no_half_empty : HasHalfEmpty image example (8 ∷ []) → ⊥
   no_half_empty h = filled h.name h.node (stands h.name h.node (known h.name h.named) h.good) h.few
     where
       filled : (x : Name) (n : NodeValue) → AtDevices x n ⊎ AtRoot x n → length n.entries < least_of (is_root x.level) n.kind n.level → ⊥
@@ -269,9 +271,10 @@ module _ (image : List Sector) (has : HasOneBlock image) where
   few_records zero records (n, at, kind, leaf, is) = omega (arith, ap (λ (es : List Entry). length es) (is ∙ ap (λ (m : NodeValue). m.entries) (IsNodeAt-one image 8 n device_leaf at at_eight)))
   few_records (suc level) records (n, at, kind, inner, joined) = absurd (omega (arith, sym inner ∙ ap (λ (m : NodeValue). m.level) (IsNodeAt-one image 8 n device_leaf at at_eight)))
 
-  none_out_of_place : HasOutOfPlace image example 8 → ⊥
+  none_out_of_place : HasOutOfPlace image example (8 ∷ []) → ⊥
   none_out_of_place (entry x n e named good within out) = out (in_place x n e (stands x n (known x named) good) within)
-  none_out_of_place (many level records content over) = absurd (omega (arith, over, few_records level records content))
+  none_out_of_place (many root there level records content over) =
+      absurd (omega (arith, over, few_records level records (subst (λ (b : ℕ). IsContent image Device level b records) (sym (one_root 8 root there.0 there.1 there.2)) content)))
 
   mapped_entries : (level : ℕ) (entries : List Entry) → IsContent image Mapping level 9 entries → length entries ≡ 1
   unfolding IsContent
@@ -282,15 +285,18 @@ module _ (image : List Sector) (has : HasOneBlock image) where
   device_record e (ends n at kind leaf within) = subst (λ (m : NodeValue). Contains m.entries e) (IsNodeAt-one image 8 n device_leaf at at_eight) within
   device_record e (goes n below at kind inner within more) = absurd (omega (arith, inner, ap (λ (m : NodeValue). m.level) (IsNodeAt-one image 8 n device_leaf at at_eight)))
 
-  no_size : (id volume_root mapped size : ℕ) → IsDevice image 8 id volume_root mapped size → size ≡ 0
-  no_size id volume_root mapped size path = record_size _ (device_record (record { key = id; value = volume_root; mapped = mapped; size = size }) path)
+  known_record : (root : ℕ) (e : Entry) → Contains (8 ∷ []) root → LeadsTo image Device root e → Contains device_leaf.entries e
+  known_record root e there path = device_record e (subst (λ (b : ℕ). LeadsTo image Device b e) (sym (one_root 8 root there.0 there.1 there.2)) path)
 
-  no_bad_node : (version : Version) → HasBadNode image version example 8 → ⊥
+  no_size : (root id volume_root mapped size : ℕ) → Contains (8 ∷ []) root → IsDevice image root id volume_root mapped size → size ≡ 0
+  no_size root id volume_root mapped size there path = record_size _ (known_record root (record { key = id; value = volume_root; mapped = mapped; size = size }) there path)
+
+  no_bad_node : (version : Version) → HasBadNode image version example (8 ∷ []) → ⊥
   no_bad_node version (unformed x named place none) = unknown x (known x named) none
-  no_bad_node version (nonzero id volume_root mapped size is path some) = some (no_size id volume_root mapped size path)
+  no_bad_node version (nonzero root there id volume_root mapped size is path some) = some (no_size root id volume_root mapped size there path)
 
-  no_bad_size : (version : Version) → HasBadRecordSize image version example 8 → ⊥
-  no_bad_size version h = h.bad (inl (no_size h.id h.volume_root h.mapped h.size h.device))
+  no_bad_size : (version : Version) → HasBadRecordSize image version example (8 ∷ []) → ⊥
+  no_bad_size version h = h.bad (inl (no_size h.root h.id h.volume_root h.mapped h.size h.known h.device))
 
   record_mapped : (e : Entry) → Contains device_leaf.entries e → e.mapped ≡ 1
   record_mapped e h = one (one_of_two one_record snapshot_record e h.0 h.1 h.2)
@@ -299,11 +305,11 @@ module _ (image : List Sector) (has : HasOneBlock image) where
       one (inl d) = ap (λ (x : Entry). x.mapped) (sym d)
       one (inr d) = ap (λ (x : Entry). x.mapped) (sym d)
 
-  no_bad_mapped : HasBadMapped image example 8 → ⊥
+  no_bad_mapped : HasBadMapped image example (8 ∷ []) → ⊥
   no_bad_mapped h =
-      let within = device_record (record { key = h.id; value = h.volume_root; mapped = h.mapped; size = h.size }) h.device in
+      let within = known_record h.root (record { key = h.id; value = h.volume_root; mapped = h.mapped; size = h.size }) h.known h.device in
       h.differs (mapped_entries h.level h.entries (subst (λ (b : ℕ). IsContent image Mapping h.level b h.entries) (record_root _ within) h.content) ∙ sym (record_mapped _ within))
 
-  pub no_faults : (version : Version) → (HasBadNode image version example 8 → ⊥) × (HasBadOrder image example 8 → ⊥) × (HasOutOfPlace image example 8 → ⊥) × (HasHalfEmpty image example 8 → ⊥)
-      × (HasBadMapped image example 8 → ⊥) × (HasBadRecordSize image version example 8 → ⊥)
+  pub no_faults : (version : Version) → (HasBadNode image version example (8 ∷ []) → ⊥) × (HasBadOrder image example (8 ∷ []) → ⊥) × (HasOutOfPlace image example (8 ∷ []) → ⊥) × (HasHalfEmpty image example (8 ∷ []) → ⊥)
+      × (HasBadMapped image example (8 ∷ []) → ⊥) × (HasBadRecordSize image version example (8 ∷ []) → ⊥)
   no_faults version = (no_bad_node version, no_bad_order, none_out_of_place, no_half_empty, no_bad_mapped, no_bad_size version)

@@ -1,5 +1,5 @@
 -- The image of a pool just formatted stands for the pool without volumes.
-use Rattle.std.proofs.Common.{zero, suc, rules, length, ◌≡◌, ⊎_elim, ℕ, ◌+◌, ◌-◌, ◌<◌, ◌≤◌, ◌==◌, Bool, false, not, List, [], ◌∷◌, ◌++◌, Some, inl, refl, sym, ap, subst, ◌∙◌, arith, get_or, replicate}
+use Rattle.std.proofs.Common.{zero, suc, rules, length, ◌≡◌, ⊎_elim, ℕ, ◌+◌, ◌-◌, ◌<◌, ◌≤◌, ◌==◌, Bool, false, not, List, [], ◌∷◌, ◌++◌, Some, inl, inr, refl, sym, ap, subst, ◌∙◌, arith, get_or, replicate}
 use Rattle.std.specs.Prelude.{Contains, Ok, nat_eq, nat_lt, slice_index, slice_index_or, if◌then◌else◌}
 use Rattle.std.specs.List.{IsDistinct, count_by, range_with_len}
 use Rattle.std.specs.Option.{option_map, option_map_or}
@@ -54,6 +54,8 @@ good_first g within = record {
   slot_is = refl;
   geometry = within;
   root = (omega arith, omega (arith, within.metadata_least));
+  held = inl refl;
+  unheld = λ _. refl;
 }
 
 -- the true counts
@@ -61,7 +63,7 @@ good_first g within = record {
 above : (b n : ℕ) → n ≤ b → (b ≡ n → ⊥) → n + 1 ≤ b
 above b n h differ = ⊎_elim (λ lt. absurd (differ (omega (arith, h, lt)))) (λ past. past) (cases_lt b (n + 1))
 
-fresh_metadata : (fixed root b : ℕ) → root ≡ fixed → 0 + 0 + (if b == root then 1 else 0) + (if nat_lt b fixed then 1 else 0) ≡ (if nat_lt b (fixed + 1) then 1 else 0)
+fresh_metadata : (fixed root b : ℕ) → root ≡ fixed → 0 + 0 + count_by (λ r. b == r) (root ∷ []) + (if nat_lt b fixed then 1 else 0) ≡ (if nat_lt b (fixed + 1) then 1 else 0)
 fresh_metadata fixed root b e = ⊎_elim
     (λ lt. rw (ne_eqb b root (λ f. omega (arith, e, f, lt)), lt-ltb b fixed lt, lt-ltb b (fixed + 1) (omega (arith, lt))) refl)
     (λ past. ⊎_elim
@@ -71,7 +73,7 @@ fresh_metadata fixed root b e = ⊎_elim
     (cases_lt b fixed)
 
 -- how many names the leaf has for a block
-pub fresh_count_is : (g : Geometry) (b : ℕ) → metadata_count g (fixed_part g) (fresh_leaf g ∷ []) b ≡ (if nat_lt b (fixed_part g + 1) then 1 else 0)
+pub fresh_count_is : (g : Geometry) (b : ℕ) → metadata_count g (fixed_part g ∷ []) (fresh_leaf g ∷ []) b ≡ (if nat_lt b (fixed_part g + 1) then 1 else 0)
 fresh_count_is g b = fresh_metadata (fixed_part g) (fixed_part g) b refl
 
 ones_then_zeros : (m n b : ℕ) → b < m + n → ◌≡◌ {A = ℕ} (get_or {A = ℕ} (replicate m 1 ++ replicate n 0) b 0) (if nat_lt b m then 1 else 0)
@@ -80,7 +82,7 @@ ones_then_zeros m n b h = ⊎_elim
     (λ past. get_or-append_right (replicate m 1) (replicate n 0) m b 0 (length-replicate {A = ℕ} m 1) past ∙ get_or-replicate n (b - m) 0 0 (omega (arith, h, past)) ∙ (rw (le-ltb b m past) refl))
     (cases_lt b m)
 
-pub fresh_counts_true : (g : Geometry) (b : ℕ) → IsWithinLimits g → b < g.metadata_blocks → slice_index (fresh_counts g Metadata) b ≡ metadata_count g (fixed_part g) (fresh_leaf g ∷ []) b
+pub fresh_counts_true : (g : Geometry) (b : ℕ) → IsWithinLimits g → b < g.metadata_blocks → slice_index (fresh_counts g Metadata) b ≡ metadata_count g (fixed_part g ∷ []) (fresh_leaf g ∷ []) b
 fresh_counts_true g b within h =
     ones_then_zeros (fixed_part g + 1) (g.metadata_blocks - (fixed_part g + 1)) b (omega (arith, h, root_inside g within)) ∙ sym (fresh_count_is g b)
 
@@ -95,9 +97,9 @@ used_first m n h =
     count_part p 0 m n (omega (arith, h)) (λ k lt. absurd (omega (arith, lt))) (λ k past. rw (le-ltb k m (omega (arith, past))) refl)
     ∙ omega (arith, count_opposite p m, none)
 
-fresh_use : (g : Geometry) → IsWithinLimits g → fixed_part g + 1 ≡ metadata_use g (fixed_part g) (fresh_leaf g ∷ [])
+fresh_use : (g : Geometry) → IsWithinLimits g → fixed_part g + 1 ≡ metadata_use g (fixed_part g ∷ []) (fresh_leaf g ∷ [])
 fresh_use g within =
-    sym (count_agree (λ b. nat_lt 0 (metadata_count g (fixed_part g) (fresh_leaf g ∷ []) b)) (λ b. nat_lt 0 (if nat_lt b (fixed_part g + 1) then 1 else 0)) g.metadata_blocks (λ b h. ap (λ n. nat_lt 0 n) (fresh_count_is g b))
+    sym (count_agree (λ b. nat_lt 0 (metadata_count g (fixed_part g ∷ []) (fresh_leaf g ∷ []) b)) (λ b. nat_lt 0 (if nat_lt b (fixed_part g + 1) then 1 else 0)) g.metadata_blocks (λ b h. ap (λ n. nat_lt 0 n) (fresh_count_is g b))
     ∙ used_first (fixed_part g + 1) g.metadata_blocks (root_inside g within))
 
 module _ (g : Geometry) (image : List Sector) (within : IsWithinLimits g) (fresh : IsFreshOf g image) where
@@ -114,8 +116,8 @@ module _ (g : Geometry) (image : List Sector) (within : IsWithinLimits g) (fresh
   no_path b e is (ends n at k leaf there) = no_entries n e (subst (λ (x : ℕ). IsNodeAt image x n) is at) there
   no_path b e is (goes n child at k inner there from) = no_entries n child (subst (λ (x : ℕ). IsNodeAt image x n) is at) there
 
-  reached : (n : NodeValue) → IsReachable image (fixed_part g) n → n ≡ fresh_leaf g
-  reached n (itself m at) = only_leaf n at
+  reached : (n : NodeValue) → IsReachable image (fixed_part g ∷ []) n → n ≡ fresh_leaf g
+  reached n (itself root m known at) = only_leaf n (subst (λ (b : ℕ). IsNodeAt image b n) (sym (the_only_one (fixed_part g) root known.0 known.1 known.2)) at)
   reached n (through parent m from named at) =
       absurd (nothing_in n.own (subst (λ (x : NodeValue). Contains (metadata_names x) n.own) (reached parent from) named))
 
@@ -134,10 +136,10 @@ module _ (g : Geometry) (image : List Sector) (within : IsWithinLimits g) (fresh
     choice_is = refl;
   }
 
-  pub fresh_reachable : AreReachable image (fixed_part g) (fresh_leaf g ∷ [])
+  pub fresh_reachable : AreReachable image (fixed_part g ∷ []) (fresh_leaf g ∷ [])
   fresh_reachable = record {
     all = λ n h. (0, omega arith, sym (reached n h));
-    only = λ n h. subst (λ (m : NodeValue). IsReachable image (fixed_part g) m) (the_only_one (fresh_leaf g) n h.0 h.1 h.2) (itself (fresh_leaf g) leaf_there);
+    only = λ n h. subst (λ (m : NodeValue). IsReachable image (fixed_part g ∷ []) m) (the_only_one (fresh_leaf g) n h.0 h.1 h.2) (itself (fixed_part g) (fresh_leaf g) (0, omega arith, refl) leaf_there);
     once = distinct_one (fixed_part g);
   }
 
@@ -151,9 +153,10 @@ module _ (g : Geometry) (image : List Sector) (within : IsWithinLimits g) (fresh
     needs_check = refl;
     mode = refl;
     holds = refl;
-    volumes = λ id root mapped size path. absurd (no_path (fixed_part g) _ refl path);
+    held_root = refl;
+    volumes = λ id root mapped size path. elim path [ inl p ↦ absurd (no_path (fixed_part g) _ refl p) | inr c ↦ absurd (omega (arith, c.1)) ];
     no_others = λ id size h. absurd (no_size id size h);
-    slots = λ id block place. (λ h. absurd (no_slot id block place h), λ m. absurd (no_path (fixed_part g) _ refl m.device));
+    slots = λ id block place. (λ h. absurd (no_slot id block place h), λ m. elim m [ inl p ↦ absurd (no_path (fixed_part g) _ refl p.device) | inr c ↦ absurd (omega (arith, c.1)) ]);
     sectors = record {
       mapped = λ id k place size h lt slot. absurd (no_size id size h);
       unmapped = λ id k size h lt none. absurd (no_size id size h);

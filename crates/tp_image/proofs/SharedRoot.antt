@@ -38,6 +38,11 @@ named_nine b zero lt e = sym e
 named_nine b (suc zero) lt e = sym e
 named_nine b (suc (suc k)) lt e = absurd (omega arith)
 
+-- the one root
+pub one_root : (x z k : ℕ) → k < 1 → slice_index_or (x ∷ []) k z ≡ z → x ≡ z
+one_root x z zero lt e = e
+one_root x z (suc k) lt e = absurd (omega arith)
+
 -- one of two
 pub one_of_two : {X : Type 0} (x y z : X) (k : ℕ) → k < 2 → slice_index_or (x ∷ y ∷ []) k z ≡ z → (x ≡ z) ⊎ (y ≡ z)
 one_of_two x y z zero lt e = inl e
@@ -86,25 +91,25 @@ module _ (image : List Sector) (has : HasOneBlock image) where
       let h = subst (λ (x : NodeValue). Contains (metadata_names x) n.own) (sym m) named in
       let none = h.1 in absurd (omega (arith, none))
 
-  reached : (n : NodeValue) → IsReachable image 8 n → IsOneOfBoth n
-  reached n (itself m at) = inl (IsNodeAt-one image 8 device_leaf n devices_at at)
+  reached : (n : NodeValue) → IsReachable image (8 ∷ []) n → IsOneOfBoth n
+  reached n (itself root m known at) = inl (IsNodeAt-one image 8 device_leaf n devices_at (subst (λ (b : ℕ). IsNodeAt image b n) (sym (one_root 8 root known.0 known.1 known.2)) at))
   reached n (through parent m from named at) = child_of parent n (reached parent from) named at
 
   listed : (n : NodeValue) → IsOneOfBoth n → Contains two_nodes n
   listed n (inl d) = (0, omega arith, d)
   listed n (inr m) = (1, omega arith, m)
 
-  devices_reached : IsReachable image 8 device_leaf
-  devices_reached = itself device_leaf devices_at
+  devices_reached : IsReachable image (8 ∷ []) device_leaf
+  devices_reached = itself 8 device_leaf (0, omega arith, refl) devices_at
 
-  mappings_reached : IsReachable image 8 mapping_leaf
+  mappings_reached : IsReachable image (8 ∷ []) mapping_leaf
   mappings_reached = through device_leaf mapping_leaf devices_reached (0, omega arith, refl) mappings_at
 
-  is_reached : (n : NodeValue) → IsOneOfBoth n → IsReachable image 8 n
-  is_reached n (inl d) = subst (λ (m : NodeValue). IsReachable image 8 m) d devices_reached
-  is_reached n (inr m) = subst (λ (x : NodeValue). IsReachable image 8 x) m mappings_reached
+  is_reached : (n : NodeValue) → IsOneOfBoth n → IsReachable image (8 ∷ []) n
+  is_reached n (inl d) = subst (λ (m : NodeValue). IsReachable image (8 ∷ []) m) d devices_reached
+  is_reached n (inr m) = subst (λ (x : NodeValue). IsReachable image (8 ∷ []) x) m mappings_reached
 
-  pub two_reached : AreReachable image 8 two_nodes
+  pub two_reached : AreReachable image (8 ∷ []) two_nodes
   two_reached = record {
     all = λ n h. listed n (reached n h);
     only = λ n h. is_reached n (one_of_two device_leaf mapping_leaf n h.0 h.1 h.2);

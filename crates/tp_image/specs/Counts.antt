@@ -23,29 +23,29 @@ metadata_names n = if is_naming_data n.kind n.level then [] else values n
 abbrev pub data_names : NodeValue → List ℕ
 data_names n = if is_naming_data n.kind n.level then values n else []
 
--- A node is reachable where it is the root of the device tree, or a reachable node names it.
-pub data IsReachable (image : List Sector) (root : ℕ) : NodeValue → Type 0 where
-  itself : (n : NodeValue) → IsNodeAt image root n → IsReachable image root n
-  through : (parent n : NodeValue) → IsReachable image root parent → Contains (metadata_names parent) n.own → IsNodeAt image n.own n → IsReachable image root n
+-- A node is reachable where it is one of the roots of device trees, or a reachable node names it.
+pub data IsReachable (image : List Sector) (roots : List ℕ) : NodeValue → Type 0 where
+  itself : (root : ℕ) (n : NodeValue) → Contains roots root → IsNodeAt image root n → IsReachable image roots n
+  through : (parent n : NodeValue) → IsReachable image roots parent → Contains (metadata_names parent) n.own → IsNodeAt image n.own n → IsReachable image roots n
 
 -- these are the reachable nodes, each once
-pub record AreReachable (image : List Sector) (root : ℕ) (nodes : List NodeValue) : Type 0 where
-  pub all : (n : NodeValue) → IsReachable image root n → Contains nodes n
-  pub only : (n : NodeValue) → Contains nodes n → IsReachable image root n
+pub record AreReachable (image : List Sector) (roots : List ℕ) (nodes : List NodeValue) : Type 0 where
+  pub all : (n : NodeValue) → IsReachable image roots n → Contains nodes n
+  pub only : (n : NodeValue) → Contains nodes n → IsReachable image roots n
   pub once : IsDistinct nat_eq (map (λ n. n.own) nodes)
 
 -- how many times a block is among the names that these nodes have
 abbrev pub times_named : (NodeValue → List ℕ) → List NodeValue → ℕ → ℕ
 times_named names nodes b = sum_by (λ n. count_by (λ x. x == b) (names n)) nodes
 
--- the count of a metadata block: its names, one more for the root, and one more for a block of the fixed part
-abbrev pub metadata_count : Geometry → ℕ → List NodeValue → ℕ → ℕ
-metadata_count g root nodes b =
-    times_named metadata_names nodes b + (if b == root then 1 else 0) + (if nat_lt b (fixed_part g) then 1 else 0)
+-- the count of a metadata block: its names, one more for each root that it is, and one more for a block of the fixed part
+abbrev pub metadata_count : Geometry → List ℕ → List NodeValue → ℕ → ℕ
+metadata_count g roots nodes b =
+    times_named metadata_names nodes b + count_by (λ root. b == root) roots + (if nat_lt b (fixed_part g) then 1 else 0)
 
 abbrev pub data_count : List NodeValue → ℕ → ℕ
 data_count nodes p = times_named data_names nodes p
 
 -- how many metadata blocks have a count
-abbrev pub metadata_use : Geometry → ℕ → List NodeValue → ℕ
-metadata_use g root nodes = count_by (λ b. nat_lt 0 (metadata_count g root nodes b)) (range_with_len 0 g.metadata_blocks)
+abbrev pub metadata_use : Geometry → List ℕ → List NodeValue → ℕ
+metadata_use g roots nodes = count_by (λ b. nat_lt 0 (metadata_count g roots nodes b)) (range_with_len 0 g.metadata_blocks)

@@ -6,7 +6,7 @@ use Rattle.tp_model.specs.Geometry.{Geometry, IsTreeBlock, sectors_of_image}
 use Rattle.tp_model.specs.Told.{IsToldSize, told_blocks}
 use Rattle.tp_model.specs.Sectors.{Sector}
 use Rattle.tp_layout.specs.Node.{NodeValue, IsFormed, keys, node_bytes}
-use Rattle.tp_layout.specs.Super.{slot_number}
+use Rattle.tp_layout.specs.Super.{roots_of, slot_number}
 use Rattle.tp_layout.specs.declared.counts.Part.{Part}
 use Rattle.tp_layout.specs.declared.counts.Part.TheVariants.{Metadata}
 use Rattle.tp_layout.specs.declared.entry.Entry.{Entry}
@@ -60,13 +60,13 @@ pub record IsGoodAs (image : List Sector) (g : Geometry) (x : Name) (n : NodeVal
   pub formed : IsFormedAs image g x n
   pub ascending : IsStrictlyIncreasing (keys n.entries)
 
--- the names that paths lead to: the root of the devices, the children of an inner node, and the volumes' roots in the records of a device leaf
-pub data IsNamed (image : List Sector) (g : Geometry) (root : ℕ) : Name → Type 0 where
-  devices : IsNamed image g root (root_name Device (2 ^ 24) root)
-  child : (x : Name) (n : NodeValue) (level i : ℕ) (e : Entry) → IsNamed image g root x → IsGoodAs image g x n → n.level ≡ suc level → slice_get n.entries i ≡ Some e
-      → IsNamed image g root (child_name x n level i e)
-  volume : (x : Name) (n : NodeValue) (e : Entry) → IsNamed image g root x → IsGoodAs image g x n → n.kind ≡ Device → n.level ≡ 0 → Contains n.entries e
-      → IsNamed image g root (root_name Mapping (told_blocks g e.size) e.value)
+-- the names that paths lead to: the roots of the devices, the children of an inner node, and the volumes' roots in the records of a device leaf
+pub data IsNamed (image : List Sector) (g : Geometry) (roots : List ℕ) : Name → Type 0 where
+  devices : (root : ℕ) → Contains roots root → IsNamed image g roots (root_name Device (2 ^ 24) root)
+  child : (x : Name) (n : NodeValue) (level i : ℕ) (e : Entry) → IsNamed image g roots x → IsGoodAs image g x n → n.level ≡ suc level → slice_get n.entries i ≡ Some e
+      → IsNamed image g roots (child_name x n level i e)
+  volume : (x : Name) (n : NodeValue) (e : Entry) → IsNamed image g roots x → IsGoodAs image g x n → n.kind ≡ Device → n.level ≡ 0 → Contains n.entries e
+      → IsNamed image g roots (root_name Mapping (told_blocks g e.size) e.value)
 
 -- ---- faults of superblocks
 
@@ -76,12 +76,13 @@ HasBadSuper image =
     ((refusal : Refusal) × Chooses image (Err refusal))
     ⊎ ((superblock : Superblock) × Chooses image (Ok superblock) × (length image < sectors_of_image superblock.geometry))
 
--- ---- faults of trees, below the root of the devices
+-- ---- faults of trees, below the roots of the devices
 
 -- A tree block is named in which no node stands of the form, kind and level that are demanded. In version 1 also: the last field of a record is not zero.
-pub data HasBadNode (image : List Sector) (version : Version) (g : Geometry) (root : ℕ) : Type 0 where
-  unformed : (x : Name) → IsNamed image g root x → IsTreeBlock g x.block → ((n : NodeValue) → IsFormedAs image g x n → ⊥) → HasBadNode image version g root
-  nonzero : (id volume_root mapped size : ℕ) → version ≡ OneSize → IsDevice image root id volume_root mapped size → (size ≡ 0 → ⊥) → HasBadNode image version g root
+pub data HasBadNode (image : List Sector) (version : Version) (g : Geometry) (roots : List ℕ) : Type 0 where
+  unformed : (x : Name) → IsNamed image g roots x → IsTreeBlock g x.block → ((n : NodeValue) → IsFormedAs image g x n → ⊥) → HasBadNode image version g roots
+  nonzero : (root : ℕ) → Contains roots root → (id volume_root mapped size : ℕ) → version ≡ OneSize → IsDevice image root id volume_root mapped size → (size ≡ 0 → ⊥)
+      → HasBadNode image version g roots
 
 -- the keys of a node do not ascend, or lie outside their interval, or those of an inner node do not begin at its lower end
 abbrev pub IsOutOfOrder : Name → NodeValue → Type 0
@@ -90,18 +91,18 @@ IsOutOfOrder x n =
     ⊎ ((e : Entry) × Contains n.entries e × ((e.key < x.low) ⊎ (x.high ≤ e.key)))
     ⊎ ((0 < n.level) × (0 < length n.entries) × (BeginsAt x.low n.entries → ⊥))
 
-pub record HasBadOrder (image : List Sector) (g : Geometry) (root : ℕ) : Type 0 where
+pub record HasBadOrder (image : List Sector) (g : Geometry) (roots : List ℕ) : Type 0 where
   pub name : Name
   pub node : NodeValue
-  pub named : IsNamed image g root name
+  pub named : IsNamed image g roots name
   pub formed : IsFormedAs image g name node
   pub broken : IsOutOfOrder name node
 
 -- a number of a root, a child or a data block is out of its range, or there are more than 65536 volumes
-pub data HasOutOfPlace (image : List Sector) (g : Geometry) (root : ℕ) : Type 0 where
-  entry : (x : Name) (n : NodeValue) (e : Entry) → IsNamed image g root x → IsGoodAs image g x n → Contains n.entries e
-      → (IsInRange g (is_naming_data n.kind n.level) e.value → ⊥) → HasOutOfPlace image g root
-  many : (level : ℕ) (records : List Entry) → IsContent image Device level root records → 65536 < length records → HasOutOfPlace image g root
+pub data HasOutOfPlace (image : List Sector) (g : Geometry) (roots : List ℕ) : Type 0 where
+  entry : (x : Name) (n : NodeValue) (e : Entry) → IsNamed image g roots x → IsGoodAs image g x n → Contains n.entries e
+      → (IsInRange g (is_naming_data n.kind n.level) e.value → ⊥) → HasOutOfPlace image g roots
+  many : (root : ℕ) → Contains roots root → (level : ℕ) (records : List Entry) → IsContent image Device level root records → 65536 < length records → HasOutOfPlace image g roots
 
 -- a name that demands no level is that of a root
 abbrev pub is_root : Option ℕ → Bool
@@ -109,15 +110,17 @@ is_root None = true
 is_root (Some level) = false
 
 -- a node has fewer entries than the least
-pub record HasHalfEmpty (image : List Sector) (g : Geometry) (root : ℕ) : Type 0 where
+pub record HasHalfEmpty (image : List Sector) (g : Geometry) (roots : List ℕ) : Type 0 where
   pub name : Name
   pub node : NodeValue
-  pub named : IsNamed image g root name
+  pub named : IsNamed image g roots name
   pub good : IsGoodAs image g name node
   pub few : length node.entries < least_of (is_root name.level) node.kind node.level
 
 -- a record tells another number of mapped blocks than the leaves of its volume's tree have entries
-pub record HasBadMapped (image : List Sector) (g : Geometry) (root : ℕ) : Type 0 where
+pub record HasBadMapped (image : List Sector) (g : Geometry) (roots : List ℕ) : Type 0 where
+  pub root : ℕ
+  pub known : Contains roots root
   pub id : ℕ
   pub volume_root : ℕ
   pub mapped : ℕ
@@ -129,8 +132,10 @@ pub record HasBadMapped (image : List Sector) (g : Geometry) (root : ℕ) : Type
   pub differs : length entries ≡ mapped → ⊥
 
 -- in version 2 a record tells a size that no volume may have
-pub record HasBadRecordSize (image : List Sector) (version : Version) (g : Geometry) (root : ℕ) : Type 0 where
+pub record HasBadRecordSize (image : List Sector) (version : Version) (g : Geometry) (roots : List ℕ) : Type 0 where
   pub version_is : version ≡ OwnSizes
+  pub root : ℕ
+  pub known : Contains roots root
   pub id : ℕ
   pub volume_root : ℕ
   pub mapped : ℕ
@@ -142,9 +147,9 @@ pub record HasBadRecordSize (image : List Sector) (version : Version) (g : Geome
 
 -- No counts that stand in the area are the true ones, or too few metadata blocks have the count 0.
 pub data HasBadCount (image : List Sector) (superblock : Superblock) : Type 0 where
-  untrue : (part : Part) (area : SlotId) (nodes : List NodeValue) → slot_number area ≡ superblock.sequence % 2 → AreReachable image superblock.root nodes
+  untrue : (part : Part) (area : SlotId) (nodes : List NodeValue) → slot_number area ≡ superblock.sequence % 2 → AreReachable image (roots_of superblock) nodes
       → ((counts : List ℕ) → HoldsCounts image superblock.geometry part area counts
-      → ((b : ℕ) → b < blocks_of superblock.geometry part → slice_index counts b ≡ true_count superblock.geometry superblock.root nodes part b) → ⊥)
+      → ((b : ℕ) → b < blocks_of superblock.geometry part → slice_index counts b ≡ true_count superblock.geometry (roots_of superblock) nodes part b) → ⊥)
       → HasBadCount image superblock
   few : (area : SlotId) (counts : List ℕ) → slot_number area ≡ superblock.sequence % 2
       → HoldsCounts image superblock.geometry Metadata area counts → count_by (λ n. n == 0) counts < 128 → HasBadCount image superblock

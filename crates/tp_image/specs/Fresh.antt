@@ -18,7 +18,7 @@ use Rattle.tp_image.specs.Areas.{HoldsCounts}
 
 -- the first superblock, whose root is the first tree block
 abbrev pub fresh_super : Geometry → Superblock
-fresh_super g = record { version = OwnSizes; needs_check = false; sequence = 0; transaction_id = 0; geometry = g; root = fixed_part g }
+fresh_super g = record { version = OwnSizes; needs_check = false; sequence = 0; transaction_id = 0; geometry = g; root = fixed_part g; held_root = 0 }
 
 -- the device tree without devices
 abbrev pub fresh_leaf : Geometry → NodeValue
@@ -43,4 +43,4 @@ pub record IsFreshOf (g : Geometry) (image : List Sector) : Type 0 where
 
 -- the pool without volumes
 abbrev pub empty_pool : Geometry → PlainPool
-empty_pool g = record { geometry = g; volumes = empty; transaction_id = 0; needs_check = false; mode = Writable; holds = empty; meta_used = fixed_part g + 1 }
+empty_pool g = record { geometry = g; volumes = empty; transaction_id = 0; needs_check = false; mode = Writable; holds = empty; meta_used = fixed_part g + 1; held_root = 0 }

@@ -1,5 +1,6 @@
 -- Trusted reading: the nodes of an image, and the entries that paths lead to (own layout).
-use Rattle.std.specs.Prelude.{◌≡◌, ℕ, ◌+◌, ◌*◌, ◌<◌, ◌≤◌, List, Option, Some, slice_get, MatchOption, Contains}
+use Rattle.std.specs.Prelude.{◌≡◌, ◌⊎◌, ℕ, ◌+◌, ◌*◌, ◌<◌, ◌≤◌, List, Option, Some, slice_get, MatchOption, Contains}
+use Rattle.tp_model.specs.Pool.{copy_id}
 use Rattle.tp_model.specs.Sectors.{Sector, bytes_at}
 use Rattle.tp_layout.specs.Node.{NodeValue, IsNode, node_bytes}
 use Rattle.tp_layout.specs.declared.entry.Entry.{Entry}
@@ -33,6 +34,17 @@ pub record IsMapped (image : List Sector) (root id block place : ℕ) : Type 0 w
   pub size : ℕ
   pub device : IsDevice image root id volume_root mapped size
   pub entry : LeadsTo image Mapping volume_root (record { key = block; value = place; mapped = 0; size = 0 })
+
+-- ---- below two roots: that of now, and that of a held copy, if there is one (0 is no tree block)
+
+-- a device below the one has its own id, and one below the other that of a copy
+abbrev pub IsDeviceOf : List Sector → ℕ → ℕ → ℕ → ℕ → ℕ → ℕ → Type 0
+IsDeviceOf image root held id volume_root mapped size =
+    IsDevice image root id volume_root mapped size ⊎ ((device : ℕ) × (0 < held) × (id ≡ copy_id device) × IsDevice image held device volume_root mapped size)
+
+abbrev pub IsMappedOf : List Sector → ℕ → ℕ → ℕ → ℕ → ℕ → Type 0
+IsMappedOf image root held id block place =
+    IsMapped image root id block place ⊎ ((device : ℕ) × (0 < held) × (id ≡ copy_id device) × IsMapped image held device block place)
 
 -- ---- by intervals
 

@@ -66,9 +66,9 @@ pub fn counts_survive_stops()
 pub fn fresh_image_stands_for_the_empty_pool()
     ensures stands { (g : Geometry) (image : List Sector) → IsWithinLimits g → IsFreshOf g image → StandsFor image (empty_pool g) }
     ensures chosen { (g : Geometry) (image : List Sector) → IsWithinLimits g → IsFreshOf g image → Chooses image (Ok (fresh_super g)) }
-    ensures reachable { (g : Geometry) (image : List Sector) → IsWithinLimits g → IsFreshOf g image → AreReachable image (fixed_part g) (fresh_leaf g ∷ []) }
+    ensures reachable { (g : Geometry) (image : List Sector) → IsWithinLimits g → IsFreshOf g image → AreReachable image (fixed_part g ∷ []) (fresh_leaf g ∷ []) }
     ensures counts { (g : Geometry) (b : ℕ) → IsWithinLimits g → b < g.metadata_blocks
-        → slice_index (fresh_counts g Part.Metadata) b ≡ metadata_count g (fixed_part g) (fresh_leaf g ∷ []) b }
+        → slice_index (fresh_counts g Part.Metadata) b ≡ metadata_count g (fixed_part g ∷ []) (fresh_leaf g ∷ []) b }
     ensures data_counts { (g : Geometry) (p : ℕ) → p < g.data_blocks → slice_index (fresh_counts g Part.Data) p ≡ data_count (fresh_leaf g ∷ []) p }
 {}
 
@@ -85,28 +85,28 @@ pub fn metadata_bounds()
 pub fn snapshot_shares_the_root()
     ensures volume { (image : List Sector) → HasOneBlock image → IsMapped image 8 0 3 2 }
     ensures snapshot { (image : List Sector) → HasOneBlock image → IsMapped image 8 7 3 2 }
-    ensures reachable { (image : List Sector) → HasOneBlock image → AreReachable image 8 two_nodes }
-    ensures root { metadata_count example 8 two_nodes 8 ≡ 1 }
-    ensures shared_root { metadata_count example 8 two_nodes 9 ≡ 2 }
-    ensures superblock { metadata_count example 8 two_nodes 0 ≡ 1 }
-    ensures free { metadata_count example 8 two_nodes 10 ≡ 0 }
+    ensures reachable { (image : List Sector) → HasOneBlock image → AreReachable image (8 ∷ []) two_nodes }
+    ensures root { metadata_count example (8 ∷ []) two_nodes 8 ≡ 1 }
+    ensures shared_root { metadata_count example (8 ∷ []) two_nodes 9 ≡ 2 }
+    ensures superblock { metadata_count example (8 ∷ []) two_nodes 0 ≡ 1 }
+    ensures free { metadata_count example (8 ∷ []) two_nodes 10 ≡ 0 }
     ensures block { data_count two_nodes 2 ≡ 1 }
-    ensures meta_used { metadata_use example 8 two_nodes ≡ 10 }
+    ensures meta_used { metadata_use example (8 ∷ []) two_nodes ≡ 10 }
 {}
 
 /// One image for each fault: an empty one, volumes whose root is no good one in five ways, a record with a bad size, and counts that are all 0.
 pub fn faults_of_small_images()
     ensures superblock { HasBadSuper [] }
-    ensures node { (image : List Sector) (version : Version) → HasRoot other_kind image → HasBadNode image version example 8 }
-    ensures order { (image : List Sector) → HasRoot late_key image → HasBadOrder image example 8 }
+    ensures node { (image : List Sector) (version : Version) → HasRoot other_kind image → HasBadNode image version example (8 ∷ []) }
+    ensures order { (image : List Sector) → HasRoot late_key image → HasBadOrder image example (8 ∷ []) }
     ensures count { (image : List Sector) → HasNoCounts image → HasBadCount image (fresh_super example) }
-    ensures place { (image : List Sector) → HasRoot far_block image → HasOutOfPlace image example 8 }
-    ensures filling { (image : List Sector) → HasRoot only_child image → HasHalfEmpty image example 8 }
-    ensures mapped { (image : List Sector) → HasRoot no_entry image → HasBadMapped image example 8 }
+    ensures place { (image : List Sector) → HasRoot far_block image → HasOutOfPlace image example (8 ∷ []) }
+    ensures filling { (image : List Sector) → HasRoot only_child image → HasHalfEmpty image example (8 ∷ []) }
+    ensures mapped { (image : List Sector) → HasRoot no_entry image → HasBadMapped image example (8 ∷ []) }
     // A size that no volume has is told as such in an image of version 2, and in one of version 1 as a byte that is to be zero.
-    ensures size { (image : List Sector) → HasDevices small_record image → HasBadRecordSize image Version.OwnSizes example 8 }
-    ensures nonzero { (image : List Sector) → HasDevices small_record image → HasBadNode image Version.OneSize example 8 }
+    ensures size { (image : List Sector) → HasDevices small_record image → HasBadRecordSize image Version.OwnSizes example (8 ∷ []) }
+    ensures nonzero { (image : List Sector) → HasDevices small_record image → HasBadNode image Version.OneSize example (8 ∷ []) }
     // The volume with one block and its snapshot have no fault.
-    ensures none { (image : List Sector) → HasOneBlock image → (version : Version) → (HasBadNode image version example 8 → ⊥) × (HasBadOrder image example 8 → ⊥)
-        × (HasOutOfPlace image example 8 → ⊥) × (HasHalfEmpty image example 8 → ⊥) × (HasBadMapped image example 8 → ⊥) × (HasBadRecordSize image version example 8 → ⊥) }
+    ensures none { (image : List Sector) → HasOneBlock image → (version : Version) → (HasBadNode image version example (8 ∷ []) → ⊥) × (HasBadOrder image example (8 ∷ []) → ⊥)
+        × (HasOutOfPlace image example (8 ∷ []) → ⊥) × (HasHalfEmpty image example (8 ∷ []) → ⊥) × (HasBadMapped image example (8 ∷ []) → ⊥) × (HasBadRecordSize image version example (8 ∷ []) → ⊥) }
 {}

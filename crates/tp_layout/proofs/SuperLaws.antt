@@ -1,5 +1,5 @@
 -- A sector with the magic, the version and these fields is the spelling of the superblock, and the other way round.
-use Rattle.std.proofs.Common.{◌≡◌, ℕ, zero, suc, eqb, ◌+◌, ◌^◌, ◌<◌, ◌≤◌, Bool, true, false, List, [], ◌++◌, length, take, drop, refl, sym, ap, subst, ◌∙◌, arith, append_assoc, length-append}
+use Rattle.std.proofs.Common.{◌≡◌, ℕ, zero, suc, eqb, ◌+◌, ◌^◌, ◌<◌, ◌≤◌, Bool, true, false, List, [], ◌++◌, length, take, drop, refl, sym, ap, subst, ◌∙◌, arith, append_assoc, length-append, inl, inr}
 use Rattle.std.specs.Prelude.{codes}
 use Rattle.std.proofs.lemmas.List.{take-append-drop, take_at, append-nil}
 use Rattle.tp_layout.specs.declared.superblock.Superblock.{Superblock}
@@ -38,7 +38,7 @@ pub number_from_version : (bytes : List ℕ) (version : Version) → take 4 (dro
 number_from_version bytes version e =
     sym (number32-take (drop 8 bytes)) ∙ ap number32 (e ∙ sym (append-nil (le32 (version_number version)))) ∙ number32-le32 (version_number version) [] (version_below version)
 
-version_same : (a b : Version) → version_number a ≡ version_number b → a ≡ b
+pub version_same : (a b : Version) → version_number a ≡ version_number b → a ≡ b
 version_same OneSize OneSize e = refl
 version_same OneSize OwnSizes e = absurd (omega arith)
 version_same OwnSizes OneSize e = absurd (omega arith)
@@ -63,8 +63,9 @@ super_spelled s bytes h len m v f =
     let t7 = take_two bytes _ _ 40 4 t6 (at32 bytes 40 _ h (omega arith) f.metadata_blocks) in
     let t8 = take_two bytes _ _ 44 4 t7 (at32 bytes 44 _ h (omega arith) f.data_blocks) in
     let t9 = take_two bytes _ _ 48 8 t8 (at64 bytes 48 _ h (omega arith) f.root) in
-    let front : List ℕ = codes "THINPOOL" ++ le32 (version_number s.version) ++ le32 (flags_of s.needs_check) ++ le64 s.sequence ++ le64 s.transaction_id ++ le32 s.geometry.block_sectors ++ le32 s.geometry.virtual_blocks ++ le32 s.geometry.metadata_blocks ++ le32 s.geometry.data_blocks ++ le64 s.root in
-    sym (take-append-drop 56 bytes) ∙ ap (λ (x : List ℕ). x ++ drop 56 bytes) (sym t9) ∙ ap (λ (x : List ℕ). front ++ x) f.tail
+    let t10 = take_two bytes _ _ 56 8 t9 (at64 bytes 56 _ h (omega arith) f.held) in
+    let front : List ℕ = codes "THINPOOL" ++ le32 (version_number s.version) ++ le32 (flags_of s.needs_check) ++ le64 s.sequence ++ le64 s.transaction_id ++ le32 s.geometry.block_sectors ++ le32 s.geometry.virtual_blocks ++ le32 s.geometry.metadata_blocks ++ le32 s.geometry.data_blocks ++ le64 s.root ++ le64 s.held_root in
+    sym (take-append-drop 64 bytes) ∙ ap (λ (x : List ℕ). x ++ drop 64 bytes) (sym t10) ∙ ap (λ (x : List ℕ). front ++ x) f.tail
 
 flags_below : (b : Bool) → flags_of b < 2 ^ 32
 flags_below true = omega arith
@@ -84,6 +85,9 @@ read32 bytes rest n x e lt = ap number32 e ∙ number32-le32 x rest lt
 read64 : (bytes rest : List ℕ) (n x : ℕ) → drop n bytes ≡ le64 x ++ rest → x < 2 ^ 64 → number64 (drop n bytes) ≡ x
 read64 bytes rest n x e lt = ap number64 e ∙ number64-le64 x rest lt
 
+held_below : {slot : SlotId} (s : Superblock) → IsGoodSuper slot s → s.held_root < 2 ^ 64
+held_below s good = elim good.held [ inl e ↦ omega (arith, e) | inr t ↦ omega (arith, t.1, good.geometry.metadata_most) ]
+
 laid_of : (slot : SlotId) (s : Superblock) → IsGoodSuper slot s → SuperLaid s (super_bytes s)
 unfolding super_bytes
 laid_of slot s good =
@@ -97,9 +101,10 @@ laid_of slot s good =
     let h = le32 s.geometry.metadata_blocks in
     let i = le32 s.geometry.data_blocks in
     let j = le64 s.root in
-    let z = zeros 456 in
-    let bytes : List ℕ = codes "THINPOOL" ++ b ++ c ++ d ++ e ++ f ++ g ++ h ++ i ++ j ++ z in
-    let d0 : bytes ≡ a ++ (b ++ (c ++ (d ++ (e ++ (f ++ (g ++ (h ++ (i ++ (j ++ z))))))))) = ap (λ (x : List ℕ). x ++ b ++ c ++ d ++ e ++ f ++ g ++ h ++ i ++ j ++ z) (sym magic_bytes) ∙ simp append_assoc refl in
+    let k = le64 s.held_root in
+    let z = zeros 448 in
+    let bytes : List ℕ = codes "THINPOOL" ++ b ++ c ++ d ++ e ++ f ++ g ++ h ++ i ++ j ++ k ++ z in
+    let d0 : bytes ≡ a ++ (b ++ (c ++ (d ++ (e ++ (f ++ (g ++ (h ++ (i ++ (j ++ (k ++ z)))))))))) = ap (λ (x : List ℕ). x ++ b ++ c ++ d ++ e ++ f ++ g ++ h ++ i ++ j ++ k ++ z) (sym magic_bytes) ∙ simp append_assoc refl in
     let d8 = next bytes a _ 0 8 d0 (length-le64 _) in
     let d12 = next bytes b _ 8 4 d8 (length-le32 _) in
     let d16 = next bytes c _ 12 4 d12 (length-le32 _) in
@@ -110,6 +115,7 @@ laid_of slot s good =
     let d44 = next bytes h _ 40 4 d40 (length-le32 _) in
     let d48 = next bytes i _ 44 4 d44 (length-le32 _) in
     let d56 = next bytes j _ 48 8 d48 (length-le64 _) in
+    let d64 = next bytes k _ 56 8 d56 (length-le64 _) in
     record {
       has_magic = ap (take 8) d0 ∙ take_at a _ 8 (length-le64 _) ∙ magic_bytes;
       has_version = (s.version, ap (take 4) d8 ∙ take_at b _ 4 (length-le32 _));
@@ -124,7 +130,8 @@ laid_of slot s good =
         metadata_blocks = read32 bytes _ 40 _ d40 (omega (arith, good.geometry.metadata_most));
         data_blocks = read32 bytes _ 44 _ d44 (omega (arith, good.geometry.data_most));
         root = read64 bytes _ 48 _ d48 (omega (arith, good.root.1, good.geometry.metadata_most));
-        tail = d56;
+        held = read64 bytes _ 56 _ d56 (held_below s good);
+        tail = d64;
       };
     }
 
@@ -137,17 +144,17 @@ flags_same true false e = absurd (omega arith)
 flags_same false true e = absurd (omega arith)
 flags_same false false e = refl
 
-made : Version → Bool → ℕ → ℕ → ℕ → ℕ → ℕ → ℕ → ℕ → Superblock
-made version flags sequence transaction b v m d root = record { version = version; needs_check = flags; sequence = sequence; transaction_id = transaction; geometry = record { block_sectors = b; virtual_blocks = v; metadata_blocks = m; data_blocks = d }; root = root }
+made : Version → Bool → ℕ → ℕ → ℕ → ℕ → ℕ → ℕ → ℕ → ℕ → Superblock
+made version flags sequence transaction b v m d root held = record { version = version; needs_check = flags; sequence = sequence; transaction_id = transaction; geometry = record { block_sectors = b; virtual_blocks = v; metadata_blocks = m; data_blocks = d }; root = root; held_root = held }
 
 -- one sector has the fields of one superblock
 pub super_same : (s t : Superblock) (bytes : List ℕ) → s.version ≡ t.version → SuperFields s bytes → SuperFields t bytes → s ≡ t
 unfolding made
 super_same s t bytes version p q =
     let flags = flags_same s.needs_check t.needs_check (sym p.flags ∙ q.flags) in
-    let all : made s.version s.needs_check s.sequence s.transaction_id s.geometry.block_sectors s.geometry.virtual_blocks s.geometry.metadata_blocks s.geometry.data_blocks s.root
-    ≡ made t.version t.needs_check t.sequence t.transaction_id t.geometry.block_sectors t.geometry.virtual_blocks t.geometry.metadata_blocks t.geometry.data_blocks t.root =
-    rw (version, flags, sym p.sequence ∙ q.sequence, sym p.transaction_id ∙ q.transaction_id, sym p.block_sectors ∙ q.block_sectors, sym p.virtual_blocks ∙ q.virtual_blocks, sym p.metadata_blocks ∙ q.metadata_blocks, sym p.data_blocks ∙ q.data_blocks, sym p.root ∙ q.root) refl in
+    let all : made s.version s.needs_check s.sequence s.transaction_id s.geometry.block_sectors s.geometry.virtual_blocks s.geometry.metadata_blocks s.geometry.data_blocks s.root s.held_root
+    ≡ made t.version t.needs_check t.sequence t.transaction_id t.geometry.block_sectors t.geometry.virtual_blocks t.geometry.metadata_blocks t.geometry.data_blocks t.root t.held_root =
+    rw (version, flags, sym p.sequence ∙ q.sequence, sym p.transaction_id ∙ q.transaction_id, sym p.block_sectors ∙ q.block_sectors, sym p.virtual_blocks ∙ q.virtual_blocks, sym p.metadata_blocks ∙ q.metadata_blocks, sym p.data_blocks ∙ q.data_blocks, sym p.root ∙ q.root, sym p.held ∙ q.held) refl in
     all
 
 pub flags_from_number : (n : ℕ) → n ≤ 1 → n ≡ flags_of (eqb n 1)
@@ -155,13 +162,13 @@ flags_from_number zero h = refl
 flags_from_number (suc zero) h = refl
 flags_from_number (suc (suc n)) h = absurd (omega arith)
 
-pub super_written : (s : Superblock) (b0 b1 b2 b3 b4 b5 b6 b7 b8 b9 b10 : List ℕ) → b0 ≡ zeros 512
+pub super_written : (s : Superblock) (b0 b1 b2 b3 b4 b5 b6 b7 b8 b9 b10 b11 : List ℕ) → b0 ≡ zeros 512
     → Puts 0 8 (le64 0x4c4f_4f50_4e49_4854) b0 b1 → Puts 8 4 (le32 (version_number s.version)) b1 b2 → Puts 12 4 (le32 (flags_of s.needs_check)) b2 b3
     → Puts 16 8 (le64 s.sequence) b3 b4 → Puts 24 8 (le64 s.transaction_id) b4 b5
     → Puts 32 4 (le32 s.geometry.block_sectors) b5 b6 → Puts 36 4 (le32 s.geometry.virtual_blocks) b6 b7 → Puts 40 4 (le32 s.geometry.metadata_blocks) b7 b8 → Puts 44 4 (le32 s.geometry.data_blocks) b8 b9
-    → Puts 48 8 (le64 s.root) b9 b10 → b10 ≡ super_bytes s
+    → Puts 48 8 (le64 s.root) b9 b10 → Puts 56 8 (le64 s.held_root) b10 b11 → b11 ≡ super_bytes s
 unfolding super_bytes
-super_written s b0 b1 b2 b3 b4 b5 b6 b7 b8 b9 b10 e0 p1 p2 p3 p4 p5 p6 p7 p8 p9 p10 =
+super_written s b0 b1 b2 b3 b4 b5 b6 b7 b8 b9 b10 b11 e0 p1 p2 p3 p4 p5 p6 p7 p8 p9 p10 p11 =
     let a = le64 0x4c4f_4f50_4e49_4854 in
     let b = le32 (version_number s.version) in
     let c = le32 (flags_of s.needs_check) in
@@ -172,6 +179,7 @@ super_written s b0 b1 b2 b3 b4 b5 b6 b7 b8 b9 b10 e0 p1 p2 p3 p4 p5 p6 p7 p8 p9 
     let h = le32 s.geometry.metadata_blocks in
     let i = le32 s.geometry.data_blocks in
     let j = le64 s.root in
+    let k = le64 s.held_root in
     let len2 : length (a ++ b) ≡ 12 = simp (length-append, length-le32, length-le64) refl in
     let len3 : length (a ++ b ++ c) ≡ 16 = simp (length-append, length-le32, length-le64) refl in
     let len4 : length (a ++ b ++ c ++ d) ≡ 24 = simp (length-append, length-le32, length-le64) refl in
@@ -180,6 +188,7 @@ super_written s b0 b1 b2 b3 b4 b5 b6 b7 b8 b9 b10 e0 p1 p2 p3 p4 p5 p6 p7 p8 p9 
     let len7 : length (a ++ b ++ c ++ d ++ e ++ f ++ g) ≡ 40 = simp (length-append, length-le32, length-le64) refl in
     let len8 : length (a ++ b ++ c ++ d ++ e ++ f ++ g ++ h) ≡ 44 = simp (length-append, length-le32, length-le64) refl in
     let len9 : length (a ++ b ++ c ++ d ++ e ++ f ++ g ++ h ++ i) ≡ 48 = simp (length-append, length-le32, length-le64) refl in
+    let len10 : length (a ++ b ++ c ++ d ++ e ++ f ++ g ++ h ++ i ++ j) ≡ 56 = simp (length-append, length-le32, length-le64) refl in
     let w1 : b1 ≡ a ++ zeros 504 = written_more b0 b1 [] a 512 0 8 refl (length-le64 _) e0 p1 in
     let w2 = written_more b1 b2 a b 512 8 4 (length-le64 _) (length-le32 _) w1 p2 in
     let w3 = written_more b2 b3 (a ++ b) c 512 12 4 len2 (length-le32 _) w2 p3 in
@@ -189,8 +198,9 @@ super_written s b0 b1 b2 b3 b4 b5 b6 b7 b8 b9 b10 e0 p1 p2 p3 p4 p5 p6 p7 p8 p9 
     let w7 = written_more b6 b7 (a ++ b ++ c ++ d ++ e ++ f) g 512 36 4 len6 (length-le32 _) w6 p7 in
     let w8 = written_more b7 b8 (a ++ b ++ c ++ d ++ e ++ f ++ g) h 512 40 4 len7 (length-le32 _) w7 p8 in
     let w9 = written_more b8 b9 (a ++ b ++ c ++ d ++ e ++ f ++ g ++ h) i 512 44 4 len8 (length-le32 _) w8 p9 in
-    let w10 : b10 ≡ a ++ b ++ c ++ d ++ e ++ f ++ g ++ h ++ i ++ j ++ zeros 456 = written_more b9 b10 (a ++ b ++ c ++ d ++ e ++ f ++ g ++ h ++ i) j 512 48 8 len9 (length-le64 _) w9 p10 in
-    w10 ∙ ap (λ (x : List ℕ). x ++ b ++ c ++ d ++ e ++ f ++ g ++ h ++ i ++ j ++ zeros 456) magic_bytes
+    let w10 = written_more b9 b10 (a ++ b ++ c ++ d ++ e ++ f ++ g ++ h ++ i) j 512 48 8 len9 (length-le64 _) w9 p10 in
+    let w11 : b11 ≡ a ++ b ++ c ++ d ++ e ++ f ++ g ++ h ++ i ++ j ++ k ++ zeros 448 = written_more b10 b11 (a ++ b ++ c ++ d ++ e ++ f ++ g ++ h ++ i ++ j) k 512 56 8 len10 (length-le64 _) w10 p11 in
+    w11 ∙ ap (λ (x : List ℕ). x ++ b ++ c ++ d ++ e ++ f ++ g ++ h ++ i ++ j ++ k ++ zeros 448) magic_bytes
 
 -- a good superblock's spelling has the magic and the version
 pub good_magic : (slot : SlotId) (s : Superblock) (sector : List ℕ) → IsGoodSuper slot s → sector ≡ super_bytes s → HasMagic sector

@@ -1,5 +1,5 @@
 -- Trusted reading: what a superblock is, the one spelling of each, and the four kinds of slot.
-use Rattle.std.specs.Prelude.{◌≡◌, ◌≢◌, ℕ, ◌%◌, ◌^◌, ◌<◌, Bool, true, false, List, ◌++◌, take, drop, codes}
+use Rattle.std.specs.Prelude.{◌≡◌, ◌≢◌, ◌⊎◌, ℕ, zero, suc, ◌%◌, ◌^◌, ◌<◌, Bool, true, false, List, [], ◌∷◌, ◌++◌, take, drop, codes}
 use Rattle.tp_model.specs.Geometry.{IsWithinLimits, IsTreeBlock}
 use Rattle.tp_layout.specs.Numbers.{le32, le64, zeros}
 use Rattle.tp_layout.specs.declared.superblock.Superblock.{Superblock}
@@ -24,13 +24,12 @@ abbrev pub flags_of : Bool → ℕ
 flags_of true = 1
 flags_of false = 0
 
--- The 512 bytes of a superblock. The first eight of the zeros at the end are reserved for a second root, that of
--- a held copy.
+-- The 512 bytes of a superblock.
 unfoldable pub super_bytes : Superblock → List ℕ
 super_bytes s =
     codes "THINPOOL" ++ le32 (version_number s.version) ++ le32 (flags_of s.needs_check) ++ le64 s.sequence ++ le64 s.transaction_id
     ++ le32 s.geometry.block_sectors ++ le32 s.geometry.virtual_blocks ++ le32 s.geometry.metadata_blocks ++ le32 s.geometry.data_blocks
-    ++ le64 s.root ++ zeros 456
+    ++ le64 s.root ++ le64 s.held_root ++ zeros 448
 
 -- a good superblock of this slot
 pub record IsGoodSuper (slot : SlotId) (s : Superblock) : Type 0 where
@@ -39,6 +38,17 @@ pub record IsGoodSuper (slot : SlotId) (s : Superblock) : Type 0 where
   pub slot_is : s.sequence % 2 ≡ slot_number slot
   pub geometry : IsWithinLimits s.geometry
   pub root : IsTreeBlock s.geometry s.root
+  pub held : (s.held_root ≡ 0) ⊎ IsTreeBlock s.geometry s.held_root
+  -- a version 1 image holds no copy: its bytes there are zeros
+  pub unheld : s.version ≡ OneSize → s.held_root ≡ 0
+
+-- the roots of the device trees of a pool: that of now, and that of a held copy, if there is one; no tree stands in block 0
+abbrev pub held_refs : ℕ → List ℕ
+held_refs zero = []
+held_refs (suc n) = suc n ∷ []
+
+abbrev pub roots_of : Superblock → List ℕ
+roots_of s = s.root ∷ held_refs s.held_root
 
 -- the first 8 bytes, and the 4 behind them
 abbrev pub HasMagic : List ℕ → Type 0

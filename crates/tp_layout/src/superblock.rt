@@ -12,15 +12,16 @@
 //! | 40 | 4 | metadata blocks |
 //! | 44 | 4 | data blocks |
 //! | 48 | 8 | root of the device tree |
-//! | 56 | 456 | 0 |
+//! | 56 | 8 | root of a held copy of the device tree, or 0; in version 1 always 0 |
+//! | 64 | 448 | 0 |
 
-ghost use Rattle.std.specs.Prelude.{◌≡◌, ◌≢◌, ◌%◌, IfSome, IfNone};
+ghost use Rattle.std.specs.Prelude.{◌≡◌, ◌≢◌, ◌⊎◌, ◌%◌, ◌^◌, ◌<◌, IfSome, IfNone, IsTrue, not};
 ghost use Rattle.tp_layout.specs.Super.{IsGoodSuper, StandsIn, flags_of, slot_number, super_bytes, version_number};
 ghost use Rattle.tp_layout.specs.SuperFields.{SuperFields};
 ghost use Rattle.tp_layout.specs.declared.superblock.Superblock.{Superblock};
 ghost use Rattle.tp_layout.specs.declared.superblock.Slot.{Slot};
 ghost use Rattle.tp_layout.specs.declared.superblock.Version.{Version};
-ghost use Rattle.tp_model.specs.Geometry.{metadata_sector};
+ghost use Rattle.tp_model.specs.Geometry.{IsTreeBlock, metadata_sector};
 
 use crate::numbers::{SectorBytes, clear, is_zero, put_u32, put_u64, rest, u32_at, u64_at};
 use tp_model::{Geometry, Mb};
@@ -114,6 +115,8 @@ pub struct Superblock {
     pub geometry: Geometry,
     /// The block of the device tree's root.
     pub root: Mb,
+    /// The block of the root of a held copy of the device tree. Block 0, a superblock's, where none is held.
+    pub held_root: Mb,
 }
 
 impl Superblock {
@@ -137,17 +140,33 @@ pub enum Slot {
     /// The magic, and a version that is neither 1 nor 2.
     Other,
     /// The magic and one of the versions, and a rule is broken: a flag over bit 0, a geometry out of its limits, a
-    /// sequence of the other slot, a root that is no tree block, or a byte behind the fields that is not 0.
+    /// sequence of the other slot, a root that is no tree block, a held root in version 1, or a byte behind the fields that is not 0.
     Bad,
     /// A superblock.
     Good(Superblock),
+}
+
+/// Whether a number may be a held root in an image of this version: 0, and in version 2 also the number of a tree block.
+fn may_be_held(version: Version, geometry: &Geometry, number: u64) -> bool
+    ensures yes { IsTrue result → ((number ≡ 0) ⊎ IsTreeBlock geometry.now number) × (version ≡ Version.OneSize → number ≡ 0) × (number < 2 ^ 32) }
+    ensures no { IsTrue (not result) → ((number ≡ 0) ⊎ IsTreeBlock geometry.now number) → (version ≡ Version.OneSize → number ≡ 0) → ⊥ }
+{
+    let fixed = geometry.fixed_part() as u64;
+    let blocks = geometry.metadata_blocks() as u64;
+    if number == 0 {
+        return true;
+    }
+    match version {
+        Version::OneSize => false,
+        Version::OwnSizes => number >= fixed && number < blocks,
+    }
 }
 
 /// The superblock of this slot and version whose fields stand behind the version, where they keep the rules.
 fn fields_of(sector: &SectorBytes, slot: SlotId, version: Version) -> Option<Superblock>
     ensures found { IfSome result (λ s. IsGoodSuper slot s × SuperFields s sector.now) }
     ensures version { IfSome result (λ s. s.version ≡ version) }
-    ensures none { IfNone result ((s : Superblock) → IsGoodSuper slot s → SuperFields s sector.now → ⊥) }
+    ensures none { IfNone result ((s : Superblock) → s.version ≡ version → IsGoodSuper slot s → SuperFields s sector.now → ⊥) }
 {
     let flags = u32_at(sector, 12);
     if flags > 1 {
@@ -169,7 +188,11 @@ fn fields_of(sector: &SectorBytes, slot: SlotId, version: Version) -> Option<Sup
     if root < geometry.fixed_part() as u64 || root >= metadata_blocks {
         return None;
     }
-    if !is_zero(rest(sector, 56)) {
+    let held_root = u64_at(sector, 56);
+    if !may_be_held(version, &geometry, held_root) {
+        return None;
+    }
+    if !is_zero(rest(sector, 64)) {
         return None;
     }
     Some(Superblock {
@@ -179,6 +202,7 @@ fn fields_of(sector: &SectorBytes, slot: SlotId, version: Version) -> Option<Sup
         transaction_id: u64_at(sector, 24),
         geometry,
         root: Mb::new(root as u32),
+        held_root: Mb::new(held_root as u32),
     })
 }
 
@@ -222,4 +246,5 @@ pub fn write_super(superblock: &Superblock, sector: &mut SectorBytes)
     put_u32(sector, 40, geometry.metadata_blocks());
     put_u32(sector, 44, geometry.data_blocks());
     put_u64(sector, 48, superblock.root.number() as u64);
+    put_u64(sector, 56, superblock.held_root.number() as u64);
 }

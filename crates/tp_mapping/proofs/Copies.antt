@@ -1,5 +1,5 @@
 -- A volume's tree is copied and changed beside the device tree.
-use Rattle.std.proofs.Common.{◌≡◌, ℕ, zero, suc, ◌+◌, ◌-◌, ◌*◌, ◌<◌, ◌≤◌, List, [], ◌∷◌, ◌++◌, length, map, get_or, refl, sym, ap, subst, ◌∙◌, arith, inl, Some, None}
+use Rattle.std.proofs.Common.{◌≡◌, ℕ, zero, suc, ◌+◌, ◌<◌, ◌≤◌, List, [], ◌∷◌, ◌++◌, length, map, get_or, refl, sym, ap, subst, ◌∙◌, arith, inl, Some, None}
 use Rattle.std.specs.Prelude.{◌^◌, Err, IfErr, IsSome, Ok, OnOk, Option, Result, set}
 use Rattle.tp_counts.specs.declared.error.StoreError.{StoreError}
 use Rattle.tp_counts.specs.declared.error.StoreError.TheVariants.{Damaged}
@@ -8,53 +8,47 @@ use Rattle.tp_counts.proofs.Free.{one_taken}
 use Rattle.tp_counts.proofs.Refusing.{not_fault}
 use Rattle.tp_tm.proofs.Used.{one_used}
 use Rattle.tp_btree.proofs.Running.{ran_still}
-use Rattle.std.proofs.lemmas.List.{get_or_past, length-append}
+use Rattle.std.proofs.lemmas.List.{length-append}
 use Rattle.std.specs.List.{range_with_len}
 use Rattle.tp_model.specs.Geometry.{Geometry, fixed_part}
 use Rattle.tp_model.specs.Told.{IsToldSize, told_blocks}
 use Rattle.tp_model.specs.Disk.{DiskState}
 use Rattle.tp_layout.specs.declared.entry.Entry.{Entry}
 use Rattle.tp_layout.specs.declared.kind.TreeKind.TheVariants.{Mapping}
-use Rattle.tp_layout.specs.Entries.{found, with_entry, without_key}
-use Rattle.tp_refs.specs.Store.{MayName, Node, Store, count_of, first_named, moved_by, no_node, node_at, with_count}
-use Rattle.tp_refs.specs.Balance.{Frame, HasRoomFor, SameBelow}
+use Rattle.tp_refs.specs.Store.{Node, Store, count_of, node_at}
+use Rattle.tp_refs.specs.Balance.{Frame, SameBelow}
 use Rattle.tp_refs.proofs.Bounds.{count_fits, held_below}
 use Rattle.tp_refs.proofs.Moves.{reordered}
-use Rattle.tp_refs.proofs.Steps.{frame_part, frame_same, frame_trans, held_live, occurrences-append, one_same}
-use Rattle.tp_trees.specs.Tree.{IsTree, IsWhole, pairs}
+use Rattle.tp_refs.proofs.Steps.{frame_part, held_live, occurrences-append, one_same}
+use Rattle.tp_trees.specs.Tree.{IsWhole, pairs}
 use Rattle.tp_trees.proofs.Frames.{pairs_same, tree_same}
-use Rattle.tp_sharing.specs.Forest.{IsVolume, content}
-use Rattle.tp_sharing.specs.Volumes.{BlockSlot, Volumes, device_of, place_in, place_or_none, slot_from, with_place, without_place}
-use Rattle.tp_sharing.proofs.Changed.{slots_with, slots_without}
-use Rattle.tp_sharing.proofs.Later.{content_is_pairs, new_volume, volume_kept, volume_with_entry, volume_without_entry}
-use Rattle.tp_sharing.proofs.Slots.{place_found}
-use Rattle.tp_sharing.proofs.Lists.{found_within, value_from}
-use Rattle.tp_sharing.specs.Later.{mapped_after}
-use Rattle.tp_layout.proofs.Ordered.{length-without_key}
-use Rattle.tp_trees.proofs.Trees.{ascend_tree}
+use Rattle.tp_sharing.specs.Forest.{IsVolume, content, held_refs}
+use Rattle.tp_sharing.specs.Volumes.{BlockSlot, Volumes, device_of, place_in, place_or_none, slot_from}
+use Rattle.tp_sharing.proofs.Later.{content_is_pairs, new_volume, volume_kept}
 use Rattle.std.proofs.lemmas.Bool.{false≢true}
-use Rattle.std.specs.Option.{option_map}
-use Rattle.tp_stored.specs.Commit.{held_by}
+use Rattle.tp_stored.specs.Commit.{fixed_blocks, held_by}
 use Rattle.tp_tm.specs.Tm.{IsSized, Tm, free_metadata, used_metadata}
 use Rattle.tp_tm.specs.Holds.{Holds}
 use Rattle.tp_tm.proofs.Counting.{data_at}
 use Rattle.tp_tm.proofs.Standing.{now_at}
-use Rattle.tp_btree.specs.Inserts.{Insertable, InsertedAt, Ran}
-use Rattle.tp_btree.specs.Removes.{CanRemove, WasRemoved}
-use Rattle.tp_btree.specs.Replaces.{CanReplace, Swapped}
+use Rattle.tp_btree.specs.Inserts.{Ran}
 use Rattle.tp_btree.specs.Roots.{Begun, Passed}
-use Rattle.tp_btree.specs.declared.replacement.Changed.{Changed}
 use Rattle.tp_mapping.specs.declared.volume.Volume.{Volume}
 use Rattle.tp_mapping.specs.Held.{HasVolume, HoldBeside, HoldTrees, HoldVolume, entry_of}
-use Rattle.tp_mapping.proofs.Holding.{SameCommit, block_below, changed_trees, may_tell, height, same_then, same_trees, nodes_many, sized_after, slots_of_volume, volume_live, volume_low, volume_there}
+use Rattle.tp_mapping.proofs.Holding.{SameCommit, block_below, changed_trees, may_tell, height, same_trees, sized_after, slots_of_volume, volume_live, volume_there}
 
 length-range : (from n : ℕ) → length (range_with_len from n) ≡ n
 length-range from zero = refl
 length-range from (suc n) = ap suc (length-range (from + 1) n)
 
+refs_short : (held : ℕ) → length (held_refs held) ≤ 1
+refs_short zero = omega arith
+refs_short (suc n) = omega arith
+
 -- few references are held
-pub held_few : (g : Geometry) (t : Tm) (disk : DiskState) (root : ℕ) (more : List ℕ) (now : Volumes) → HoldTrees g t disk root more now → length (held_by g root) ≤ 65537
-held_few g t disk root more now h = omega (arith, length-range 0 (fixed_part g), h.limits.metadata_least, h.limits.metadata_most)
+pub held_few : (g : Geometry) (t : Tm) (disk : DiskState) (root : ℕ) (more : List ℕ) (now : Volumes) → HoldTrees g t disk root more now → length (held_by g root t.held_root) ≤ 65538
+held_few g t disk root more now h =
+    omega (arith, length-append (held_refs t.held_root) (fixed_blocks g), refs_short t.held_root, length-range 0 (fixed_part g), h.limits.metadata_least, h.limits.metadata_most)
 
 same_some : {A : Type 0} (x y : A) → Some x ≡ Some y → x ≡ y
 same_some x y h = cc
@@ -83,7 +77,7 @@ module _ (g : Geometry) (t : Tm) (disk : DiskState) (root : ℕ) (more : List �
 
   pub not_shared : length more ≤ 8 → IsSized t → v.root < t.geometry.metadata_blocks → get_or t.metadata_now v.root 0 + 1 ≡ 2 ^ 32 → ⊥
   not_shared few sized inside full =
-      let c = count_fits h.trees.store [] (more ++ held_by g root) v.root h.trees.holds.balanced (omega (arith, few, length-append more (held_by g root), held_few g t disk root more now h.trees)) in
+      let c = count_fits h.trees.store [] (more ++ held_by g root t.held_root) v.root h.trees.holds.balanced (omega (arith, few, length-append more (held_by g root t.held_root), held_few g t disk root more now h.trees)) in
       omega (arith, c, full, now_at t h.trees.store v.root sized.metadata_now inside h.trees.holds.stands.counts)
 
 pub err_of : {A E : Type 0} (r : Result A E) (x : E) (P : E → Type 0) → r ≡ Err x → IfErr r P → P x
@@ -94,12 +88,12 @@ pub shared_ran : (r : Result (Unit {0}) StoreError) (t u : Tm) (x n : ℕ) (Q : 
 shared_ran (Ok y) t u x n Q disk inside e h =
     let same : free_metadata t ≤ free_metadata u + 1 = subst (λ z. free_metadata t ≤ free_metadata z + 1) (sym e) (one_taken t.geometry.metadata_blocks t.metadata_now t.metadata_kept x n inside) in
     let used : used_metadata u ≤ used_metadata t + 1 = subst (λ z. used_metadata z ≤ used_metadata t + 1) (sym e) (one_used t.geometry.metadata_blocks t.metadata_now x n inside) in
-    ran_still 1 t u disk (ap (λ (z : Tm). z.geometry) e) (ap (λ (z : Tm). z.metadata_kept) e) (ap (λ (z : Tm). z.data_kept) e) same used
+    ran_still 1 t u disk (ap (λ (z : Tm). z.geometry) e) (ap (λ (z : Tm). z.metadata_kept) e) (ap (λ (z : Tm). z.data_kept) e) (ap (λ (z : Tm). z.held_root) e) same used
 shared_ran (Err y) t u x n Q disk inside e h =
     let same : free_metadata t ≤ free_metadata u + 1 = subst (λ z. free_metadata t ≤ free_metadata z + 1) (sym h.1) (omega arith) in
     let used : used_metadata u ≤ used_metadata t + 1 = subst (λ z. used_metadata z ≤ used_metadata t + 1) (sym h.1) (omega arith) in
     subst (λ b. Ran 1 b t u disk disk) (sym (not_fault {T = Unit {0}} (Err y) h.0))
-    (ran_still 1 t u disk (ap (λ (z : Tm). z.geometry) h.1) (ap (λ (z : Tm). z.metadata_kept) h.1) (ap (λ (z : Tm). z.data_kept) h.1) same used)
+    (ran_still 1 t u disk (ap (λ (z : Tm). z.geometry) h.1) (ap (λ (z : Tm). z.metadata_kept) h.1) (ap (λ (z : Tm). z.data_kept) h.1) (ap (λ (z : Tm). z.held_root) h.1) same used)
 
 -- ---- a data block given up
 
@@ -117,7 +111,7 @@ data_below t disk opens held s p sized h =
 -- ---- what stands after a change
 
 module _ (g : Geometry) (t : Tm) (disk : DiskState) (root : ℕ) (more : List ℕ) (now : Volumes) (h : HoldTrees g t disk root more now) (u : Tm) (later : DiskState) (ran : SameCommit t u) where
-  pub beside : (s : Store) (next : List ℕ) (v : Volume) (k : ℕ) (ps : List Entry) (slots : List BlockSlot) → Holds u later [] (v.root ∷ (next ++ held_by g root)) s → Frame h.store s (held_by g root) → IsWhole 1 k s (2 ^ 24) v.root → pairs k s v.root ≡ ps
+  pub beside : (s : Store) (next : List ℕ) (v : Volume) (k : ℕ) (ps : List Entry) (slots : List BlockSlot) → Holds u later [] (v.root ∷ (next ++ held_by g root t.held_root)) s → Frame h.store s (held_by g root t.held_root) → IsWhole 1 k s (2 ^ 24) v.root → pairs k s v.root ≡ ps
       → ((device : ℕ) → IsVolume s (2 ^ 24) (entry_of device v)) → map (slot_from g.metadata_blocks) ps ≡ slots
       → IsToldSize g v.size → ((block place : ℕ) → place_in block slots ≡ Some place → block < told_blocks g v.size) → HoldBeside g u later root next v slots now
   unfolding same_trees changed_trees
@@ -131,24 +125,24 @@ module _ (g : Geometry) (t : Tm) (disk : DiskState) (root : ℕ) (more : List �
 
 -- a tree without slots
 pub volume_begun : (g : Geometry) (t : Tm) (disk : DiskState) (root : ℕ) (more : List ℕ) (now : Volumes) (h : HoldTrees g t disk root more now) (u : Tm) (later : DiskState) (ran : SameCommit t u)
-    → (top : ℕ) → Begun h.store u later Mapping [] (more ++ held_by g root) top → HoldBeside g u later root more (record { root = top; mapped = 0; size = 0 }) [] now
+    → (top : ℕ) → Begun h.store u later Mapping [] (more ++ held_by g root t.held_root) top → HoldBeside g u later root more (record { root = top; mapped = 0; size = 0 }) [] now
 volume_begun g t disk root more now h u later ran top q =
     let whole : IsWhole 1 0 q.after (2 ^ 24) top = record { tree = q.tree (2 ^ 24); branches = λ some. absurd (omega (arith, some)) } in
     beside g t disk root more now h u later ran q.after more (record { root = top; mapped = 0; size = 0 }) 0 [] [] q.holds
-    (frame_part h.store q.after (more ++ held_by g root) (held_by g root) q.frame (λ r here. omega (arith, here, occurrences-append r more (held_by g root)))) whole q.content
+    (frame_part h.store q.after (more ++ held_by g root t.held_root) (held_by g root t.held_root) q.frame (λ r here. omega (arith, here, occurrences-append r more (held_by g root t.held_root)))) whole q.content
     (λ device. new_volume q.after (2 ^ 24) (entry_of device (record { root = top; mapped = 0; size = 0 })) whole q.content refl) refl (inl refl) (λ block place h. absurd (none_some (place_in block []) place refl h))
 
 -- the tree of a device once more
 pub volume_shared : (g : Geometry) (t : Tm) (disk : DiskState) (root : ℕ) (now : Volumes) (device : ℕ) (v : Volume) (h : HasVolume g t disk root [] now device v) (u : Tm) (later : DiskState) (ran : SameCommit t u)
-    → (slots : List BlockSlot) → device_of device now ≡ Some slots → Passed h.trees.store u later [] (v.root ∷ held_by g root) → HoldVolume g u later root v slots now
+    → (slots : List BlockSlot) → device_of device now ≡ Some slots → Passed h.trees.store u later [] (v.root ∷ held_by g root t.held_root) → HoldVolume g u later root v slots now
 volume_shared g t disk root now device v h u later ran slots is q =
     let s = h.trees.store in
     let was = volume_there g t disk root [] now h.trees device (entry_of device v) h.told in
     let k = height 1 s v.root in
     let same = λ (j : ℕ). all_below s q.after q.nodes j v.root in
-    let kept = λ (d : ℕ). volume_kept s q.after (2 ^ 24) (entry_of device v) (entry_of d v) was (sized_after g t disk root [] now h.trees u later [] (v.root ∷ held_by g root) q.after ran q.holds) refl refl same in
+    let kept = λ (d : ℕ). volume_kept s q.after (2 ^ 24) (entry_of device v) (entry_of d v) was (sized_after g t disk root [] now h.trees u later [] (v.root ∷ held_by g root t.held_root) q.after ran q.holds) refl refl same in
     let whole : IsWhole 1 k q.after (2 ^ 24) v.root = record { tree = tree_same 1 k s q.after 0 (2 ^ 24) v.root (same k) was.tree.tree; branches = λ some. subst (λ (y : Node). 2 ≤ length y.entries) (sym (q.nodes v.root)) (was.tree.branches some) } in
-    beside g t disk root [] now h.trees u later ran q.after [] v k (content 1 s v.root) slots q.holds (frame_part s q.after (v.root ∷ held_by g root) (held_by g root) q.frame (λ r here. omega (arith, here))) whole
+    beside g t disk root [] now h.trees u later ran q.after [] v k (content 1 s v.root) slots q.holds (frame_part s q.after (v.root ∷ held_by g root t.held_root) (held_by g root t.held_root) q.frame (λ r here. omega (arith, here))) whole
     (pairs_same 1 k s q.after 0 (2 ^ 24) v.root (same k) was.tree.tree) (λ d. (kept d).0)
     (same_some _ slots (sym (slots_of_volume g t disk root [] now h.trees device (entry_of device v) h.told) ∙ is))
     (may_tell g t disk root [] now h.trees device (entry_of device v) h.told)

@@ -1,5 +1,5 @@
 -- Free data blocks, and what stands after one was taken and after a commit was kept.
-use Rattle.std.proofs.Common.{◌≡◌, ℕ, suc, zero, ◌+◌, ◌<◌, ◌≤◌, List, [], ◌∷◌, ◌==◌, ◌&&◌, cond, get_or, refl, sym, ap, subst, ◌∙◌, arith, Bool, true, false}
+use Rattle.std.proofs.Common.{◌≡◌, ℕ, suc, zero, ◌+◌, ◌<◌, ◌≤◌, List, [], ◌∷◌, ◌++◌, ◌==◌, ◌&&◌, cond, get_or, refl, sym, ap, subst, ◌∙◌, arith, Bool, true, false}
 use Rattle.std.specs.Prelude.{length, ◌^◌}
 use Rattle.std.proofs.lemmas.Bool.{and_parts, false≢true}
 use Rattle.tp_model.specs.Disk.{DiskState}
@@ -7,7 +7,9 @@ use Rattle.tp_model.proofs.Counting.{count_more}
 use Rattle.tp_counts.specs.Counts as counts
 use Rattle.tp_refs.specs.Store.{Store, committed, with_count}
 use Rattle.tp_refs.proofs.Steps.{frame_same}
+use Rattle.tp_sharing.specs.Forest.{held_refs}
 use Rattle.tp_sharing.specs.Volumes.{AreSized, Volumes}
+use Rattle.tp_sharing.proofs.Held.{held_stays}
 use Rattle.tp_sharing.proofs.Later.{forest_stays}
 use Rattle.tp_stored.specs.Commit.{fixed_blocks, held_by}
 use Rattle.tp_tm.specs.Tm.{IsSized, Tm, data_counts, kept_now}
@@ -21,7 +23,7 @@ use Rattle.tp_mapping.proofs.Tallying.{unused_now}
 use Rattle.tp_mapping.proofs.Holding.{SameCommit, same_trees}
 
 pub fresh_commit : (t u : Tm) (place : ℕ) → u ≡ with_data t place 1 → SameCommit t u
-fresh_commit t u place is = record { geometry = ap (λ (t : Tm). t.geometry) is; metadata_kept = ap (λ (t : Tm). t.metadata_kept) is; data_kept = ap (λ (t : Tm). t.data_kept) is }
+fresh_commit t u place is = record { geometry = ap (λ (t : Tm). t.geometry) is; metadata_kept = ap (λ (t : Tm). t.metadata_kept) is; data_kept = ap (λ (t : Tm). t.data_kept) is; held_root = ap (λ (t : Tm). t.held_root) is }
 
 -- trees where a reference to a data block was taken
 pub fresh_held : (t u : Tm) (disk : DiskState) (root : ℕ) (now : Volumes) → HoldTrees t.geometry t disk root [] now → (place : ℕ) → u ≡ with_data t place 1
@@ -30,7 +32,7 @@ pub fresh_held : (t u : Tm) (disk : DiskState) (root : ℕ) (now : Volumes) → 
 fresh_held t u disk root now h place is takes =
     let x = t.geometry.metadata_blocks + place in
     let v = with_count h.store x 1 in
-    same_trees t.geometry t disk root [] now h u disk (x ∷ []) v (fresh_commit t u place is) (takes disk [] (held_by t.geometry root) h.store h.holds) (frame_same h.store v (held_by t.geometry root) refl)
+    same_trees t.geometry t disk root [] now h u disk (x ∷ []) v (fresh_commit t u place is) (takes disk [] (held_by t.geometry root t.held_root) h.store h.holds) (frame_same h.store v (held_by t.geometry root t.held_root) refl)
 
 module _ (m : TreeMapping) (disk : DiskState) (now kept : Volumes) (s : StandForVolumes m disk now kept) where
   pub none_is_free : IsSized m.tm → ((b : ℕ) → counts.IsFree (data_counts m.tm) b → ⊥) → NoneIsFree m.tm.geometry now kept
@@ -50,9 +52,10 @@ module _ (m : TreeMapping) (disk : DiskState) (now kept : Volumes) (s : StandFor
 
 pub kept_stand : (m : TreeMapping) (disk : DiskState) (now kept : Volumes) → StandForVolumes m disk now kept → IsSized m.tm → StandForVolumes (record { tm = kept_now m.tm; root = m.root }) disk now now
 kept_stand m disk now kept s sized =
-    let held = held_by m.tm.geometry m.root in
+    let held = held_by m.tm.geometry m.root m.tm.held_root in
     let h = keep_holds m.tm disk held s.store s.holds in
-    let f = forest_stays s.store (committed s.store) m.root (fixed_blocks m.tm.geometry) (2 ^ 24) s.sound.forest refl (frame_same s.store (committed s.store) held refl) in
+    let f = forest_stays s.store (committed s.store) m.root (fixed_blocks m.tm.geometry) (2 ^ 24) s.sound.forest refl (frame_same s.store (committed s.store) (m.root ∷ fixed_blocks m.tm.geometry) refl) in
+    let c = held_stays s.store (committed s.store) m.tm.held_root (fixed_blocks m.tm.geometry) (2 ^ 24) s.sound.copy refl (frame_same s.store (committed s.store) (held_refs m.tm.held_root ++ fixed_blocks m.tm.geometry) refl) in
     record {
       store = committed s.store;
       holds = h;
@@ -62,10 +65,12 @@ kept_stand m disk now kept s sized =
         counted = s.sound.counted;
         balanced = h.balanced;
         forest = f.forest;
-        sizes = subst (λ (ds : Volumes). AreSized m.tm.geometry ds) (sym (f.lists m.tm.geometry.metadata_blocks)) s.sound.sizes;
+        sizes = subst (λ (ds : Volumes). AreSized m.tm.geometry ds) (λ i. sym (f.lists m.tm.geometry.metadata_blocks) i ++ sym (c.1 m.tm.geometry.metadata_blocks) i) s.sound.sizes;
+        copy = c.0;
         few = omega (arith, ap length f.devices, s.sound.few);
+        few_held = omega (arith, ap length (c.1 m.tm.geometry.metadata_blocks), s.sound.few_held);
       };
-      listed = s.listed ∙ sym (f.lists m.tm.geometry.metadata_blocks);
+      listed = s.listed ∙ (λ i. sym (f.lists m.tm.geometry.metadata_blocks) i ++ sym (c.1 m.tm.geometry.metadata_blocks) i);
       within = record { limits = s.within.limits; volumes_now = s.within.volumes_now; volumes_kept = s.within.volumes_now; sized = sized.metadata_now };
       kept_places = λ place inside. unused_now m disk now kept s sized place;
     }

@@ -7,6 +7,7 @@ pub mod Tops
 pub mod Used
 pub mod Stands
 pub mod Frees
+pub mod Rooted
 pub mod Holding
 pub mod Copies
 pub mod Slotting
@@ -21,3 +22,5 @@ pub mod Walked
 pub mod Use
 pub mod Nexts
 pub mod WithoutRuns
+pub mod Holdings
+pub mod Copied

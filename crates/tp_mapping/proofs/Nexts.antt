@@ -11,9 +11,10 @@ use Rattle.tp_layout.specs.declared.entry.Entry.{Entry}
 use Rattle.tp_layout.specs.declared.kind.TreeKind.TheVariants.{Device}
 use Rattle.tp_refs.specs.Store.{Store, first_named, moved_by}
 use Rattle.tp_sharing.specs.Forest.{content}
-use Rattle.tp_sharing.specs.Volumes.{DeviceSlots, DevicesAscend, Volumes, device_from, device_of}
+use Rattle.tp_sharing.specs.Volumes.{DeviceSlots, DevicesAscend, Volumes, device_from, device_of, volumes_below}
+use Rattle.tp_sharing.proofs.Copies.{none_beyond}
 use Rattle.tp_sharing.proofs.Changes.{device_below}
-use Rattle.tp_sharing.proofs.Slots.{device_here, device_later, lists_ascend}
+use Rattle.tp_sharing.proofs.Slots.{device_here, device_later, lists_ascend_below}
 use Rattle.tp_stored.specs.Commit.{fixed_blocks}
 use Rattle.tp_tm.specs.Tm.{Tm}
 use Rattle.tp_btree.specs.Least.{first_entry}
@@ -23,6 +24,7 @@ use Rattle.tp_mapping.specs.Held.{HoldTrees}
 use Rattle.tp_mapping.specs.Mapping.{IsWithin}
 use Rattle.tp_mapping.specs.Next.{IsNext, first_device}
 use Rattle.tp_mapping.proofs.Between.{some_there}
+use Rattle.tp_mapping.proofs.Holding.{device_in}
 use Rattle.tp_mapping.proofs.Topmost.{moved_key}
 
 first_yes : (from : ℕ) (d : DeviceSlots) (ds : Volumes) → from ≤ d.id → first_device from (d ∷ ds) ≡ Some d.id
@@ -38,7 +40,7 @@ is_some : {A : Type 0} (o : Option A) (x : A) → o ≡ Some x → IsSome o
 is_some o x e = subst IsSome (sym e) refl
 
 pub first_is : (low from : ℕ) (ds : Volumes) → DevicesAscend low ds → (o : Option ℕ) → o ≡ first_device from ds → IsNext from ds o
-first_is low from [] a None e = λ id le. refl
+first_is low from [] a None e = λ id le l. refl
 first_is low from [] a (Some t) e = absurd (none-some t (sym e))
 first_is low from (d ∷ ds) a o e =
     elim (cases_lt d.id from) [
@@ -47,7 +49,7 @@ first_is low from (d ∷ ds) a o e =
     ]
   where
     behind : d.id < from → (o : Option ℕ) → IsNext from ds o → IsNext from (d ∷ ds) o
-    behind l None h = λ id le. device_later id d ds (λ p. absurd (omega (arith, p, l, le))) ∙ h id le
+    behind l None h = λ id le k. device_later id d ds (λ p. absurd (omega (arith, p, l, le))) ∙ h id le k
     behind l (Some t) h = (
       h.0,
       subst IsSome (sym (device_later t d ds (λ p. absurd (omega (arith, p, l, h.0))))) h.1,
@@ -83,18 +85,41 @@ first_of_entries m s q (e ∷ es) =
     ]
 
 module _ (g : Geometry) (t : Tm) (disk : DiskState) (root : ℕ) (now : Volumes) (h : HoldTrees g t disk root [] now) where
-  now_ascends : DevicesAscend 0 now
-  now_ascends = subst (DevicesAscend 0) (sym h.listed) (lists_ascend g.metadata_blocks h.store root (fixed_blocks g) (2 ^ 24) h.forest)
+  abbrev below : Volumes
+  below = volumes_below g.metadata_blocks h.store root
+
+  next_below : (q : ℕ) (o : Option Entry) → option_map (moved_by (first_named t.geometry.metadata_blocks Device 0)) o ≡ first_entry (from_key q (content 5 h.store root))
+      → (next : Option ℕ) → next ≡ option_map (λ (e : Entry). e.key) o → IsNext q below next
+  next_below q o told next e =
+      first_is 0 q below (lists_ascend_below g.metadata_blocks h.store root (fixed_blocks g) (2 ^ 24) h.forest) next
+      (e ∙ (sym (moved_key (first_named t.geometry.metadata_blocks Device 0) o) ∙ (ap (option_map (λ (x : Entry). x.key)) told
+      ∙ sym (first_of_entries g.metadata_blocks h.store q (content 5 h.store root)))))
+
+  low_below : (id : ℕ) → IsSome (device_of id below) → id < 2 ^ 24
+  low_below id some =
+      elim (cases_lt id (2 ^ 24)) [
+        | inl l ↦ l
+        | inr ge ↦ absurd (some_not_none (device_of id below) some (none_beyond g.metadata_blocks h.store root (fixed_blocks g) (2 ^ 24) id h.forest (omega (arith, ge))))
+      ]
+
+  -- the copies stand behind all devices
+  widened : (q : ℕ) (o : Option ℕ) → IsNext q below o → IsNext q now o
+  widened q None f = λ id le low. device_in g t disk root [] now h id low ∙ f id le low
+  widened q (Some n) f =
+      let low = low_below n f.1 in (
+        f.0,
+        subst IsSome (sym (device_in g t disk root [] now h n low)) f.1,
+        λ other le some.
+            elim (cases_lt other (2 ^ 24)) [
+              | inl l ↦ f.2 other le (subst IsSome (device_in g t disk root [] now h other l) some)
+              | inr ge ↦ omega (arith, ge, low)
+            ],
+      )
 
   pub next_told : (q : ℕ) (o : Option Entry) → option_map (moved_by (first_named t.geometry.metadata_blocks Device 0)) o ≡ first_entry (from_key q (content 5 h.store root))
       → (next : Option ℕ) → next ≡ option_map (λ (e : Entry). e.key) o → IsNext q now next
-  next_told q o told next e =
-      first_is 0 q now now_ascends next
-      (e ∙ (sym (moved_key (first_named t.geometry.metadata_blocks Device 0) o) ∙ (ap (option_map (λ (x : Entry). x.key)) told
-      ∙ (sym (first_of_entries g.metadata_blocks h.store q (content 5 h.store root)) ∙ ap (first_device q) (sym h.listed)))))
+  next_told q o told next e = widened q next (next_below q o told next e)
 
   pub next_inside : IsWithin g now → (q : ℕ) (x : Entry) → option_map (moved_by (first_named t.geometry.metadata_blocks Device 0)) (Some x) ≡ first_entry (from_key q (content 5 h.store root))
       → 2 ^ 24 ≤ x.key → ⊥
-  next_inside within q x told high =
-      let r = some_there (device_of x.key now) (next_told q (Some x) told (Some x.key) refl).1 in
-      omega (arith, high, within.ids x.key r.0 r.1)
+  next_inside within q x told high = absurd (omega (arith, high, low_below x.key (next_below q (Some x) told (Some x.key) refl).1))

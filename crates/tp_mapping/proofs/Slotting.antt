@@ -7,15 +7,15 @@ use Rattle.tp_layout.specs.declared.entry.Entry.{Entry}
 use Rattle.tp_layout.specs.declared.kind.TreeKind.TheVariants.{Mapping}
 use Rattle.tp_layout.specs.Entries.{found, with_entry, without_key}
 use Rattle.tp_layout.proofs.Ordered.{length-without_key}
-use Rattle.tp_refs.specs.Store.{MayName, Node, Store, count_of, first_named, moved_by, no_node, node_at, with_count}
-use Rattle.tp_refs.specs.Balance.{Frame, SameBelow}
+use Rattle.tp_refs.specs.Store.{MayName, Node, Store, count_of, no_node, node_at, with_count}
+use Rattle.tp_refs.specs.Balance.{Frame}
 use Rattle.tp_refs.proofs.Moves.{reordered}
 use Rattle.tp_refs.proofs.Steps.{frame_part, frame_same, frame_trans, held_closed, held_live, one_same}
 use Rattle.tp_trees.specs.Tree.{IsWhole, pairs}
 use Rattle.tp_trees.proofs.Frames.{pairs_same, tree_same}
 use Rattle.tp_trees.proofs.Heights.{mapping_low}
 use Rattle.tp_trees.proofs.Trees.{ascend_tree}
-use Rattle.tp_sharing.specs.Forest.{IsVolume, content}
+use Rattle.tp_sharing.specs.Forest.{content}
 use Rattle.tp_sharing.specs.Later.{mapped_after}
 use Rattle.tp_sharing.proofs.Later.{content_is_pairs, volume_with_entry, volume_without_entry}
 use Rattle.tp_sharing.proofs.Lists.{found_within, value_from}

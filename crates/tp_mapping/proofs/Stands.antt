@@ -3,25 +3,26 @@ use Rattle.std.proofs.Common.{◌≡◌, ℕ, suc, ◌+◌, ◌<◌, ◌≤◌, 
 use Rattle.std.specs.Prelude.{◌^◌, IsSome, MatchOption, Option, vec_capacity}
 use Rattle.std.specs.Option.{option_map}
 use Rattle.std.proofs.lemmas.Bool.{cases_eq, false≢true}
+use Rattle.std.proofs.lemmas.List.{length-map}
 use Rattle.tp_model.specs.Geometry.{Geometry}
 use Rattle.tp_model.specs.Told.{IsToldSize, told_blocks}
-use Rattle.tp_sharing.specs.Volumes.{BlockSlot, DeviceSlots, DevicesAscend, SlotsAscend, Unused, Volumes, changed_at, device_of, mapped_of, place_in, place_or_none, resized, size_of, slot_of, with_device, with_place, with_slot, without_device, without_place, without_slot}
+use Rattle.tp_sharing.specs.Volumes.{BlockSlot, DeviceSlots, DevicesAscend, SlotsAscend, Unused, Volumes, changed_at, device_of, devices_in, mapped_of, place_in, place_or_none, resized, size_of, slot_of, with_device, with_place, with_slot, without_device, without_place, without_slot}
 use Rattle.tp_sharing.proofs.Sized.{resized_is_put}
 use Rattle.tp_sharing.proofs.Told.{size_changes}
-use Rattle.tp_sharing.proofs.Slots.{device_here, device_later, place_here, place_later}
+use Rattle.tp_sharing.proofs.Slots.{place_here, place_later}
 use Rattle.tp_mapping.specs.declared.mapped.Mapped.{Mapped}
 use Rattle.tp_mapping.specs.declared.list.ListMapping.{ListMapping}
 use Rattle.tp_mapping.specs.declared.device.Device.{Device}
 use Rattle.tp_mapping.specs.Slots.{last_block}
 use Rattle.tp_mapping.proofs.Tops.{is_highest}
 use Rattle.tp_mapping.specs.Mapping.{AreWithin, IsHighest, slots_of, slots_or_none, IsFree, IsLeastFree, IsTold, IsWithin, NoneIsFree}
-use Rattle.tp_mapping.specs.List.{IsAsRoomy, IsRoomy, is_taken, is_used, is_used_elsewhere, volumes}
+use Rattle.tp_mapping.specs.List.{IsAsRoomy, IsRoomy, is_taken, is_used, is_used_elsewhere, volume, volumes}
 use Rattle.tp_mapping.specs.Standing.{IsBounded, StandsFor, counts_of}
 use Rattle.tp_mapping.proofs.Uses.{elsewhere_from_slot, slot_from_elsewhere, slot_from_used, used_from_slot}
 use Rattle.tp_mapping.specs.Runs.{without_places, without_run}
 use Rattle.tp_mapping.proofs.Between.{size_there}
 use Rattle.tp_mapping.proofs.WithoutRuns.{run_is_changed, within_run}
-use Rattle.tp_mapping.proofs.Within.{slots_ascend, within_resized, within_with_device, within_with_slot, within_without_device, within_without_slot}
+use Rattle.tp_mapping.proofs.Within.{low_changed, low_count, low_resized, low_run, low_with, low_without, slots_ascend, within_resized, within_with_device, within_with_slot, within_without_device, within_without_slot}
 
 none_some : {A : Type 0} (a : Option A) (x : A) → a ≡ None → a ≡ Some x → ⊥
 none_some a x e f = cc
@@ -75,6 +76,9 @@ neither true b h = absurd (false≢true (sym h))
 neither false b h = (refl, h)
 
 module _ (m : ListMapping) (now kept : Volumes) (s : StandsFor m now kept) where
+  pub devices_counted : devices_in now ≡ length m.devices.items
+  devices_counted = low_count now s.low ∙ (ap length s.listed ∙ length-map m.devices.items volume)
+
   -- ---- what is told
 
   listed_ascend : DevicesAscend 0 (volumes m.devices.items)
@@ -137,6 +141,7 @@ module _ (m : ListMapping) (now kept : Volumes) (s : StandsFor m now kept) where
   slot_put new id b p some hb below hp v r c =
       let x = some_of (device_of id now) some in record {
         listed = ap (with_slot id (record { block = b; place = p })) s.listed ∙ sym v;
+        low = low_changed id (with_place (record { block = b; place = p })) now s.low;
         within = within_next (with_slot id (record { block = b; place = p }) now) (within_with_slot m.geometry now s.within.volumes_now id (record { block = b; place = p }) x.0 x.1 hb below hp);
         least = s.least;
         most = s.most;
@@ -153,6 +158,7 @@ module _ (m : ListMapping) (now kept : Volumes) (s : StandsFor m now kept) where
       → StandsFor (record m { devices = new.devices }) (without_run id first n now) kept
   run_taken new id first n v r c = record {
     listed = ap (without_run id first n) s.listed ∙ sym v;
+    low = low_run id first n now s.low;
     within = within_next (without_run id first n now) (within_run m.geometry id first n now s.within.volumes_now);
     least = s.least;
     most = s.most;
@@ -169,6 +175,7 @@ module _ (m : ListMapping) (now kept : Volumes) (s : StandsFor m now kept) where
       → StandsFor (record m { devices = new.devices }) (without_slot id b now) kept
   slot_taken new id b v r c = record {
     listed = ap (without_slot id b) s.listed ∙ sym v;
+    low = low_changed id (without_place b) now s.low;
     within = within_next (without_slot id b now) (within_without_slot m.geometry now s.within.volumes_now id b);
     least = s.least;
     most = s.most;
@@ -188,12 +195,13 @@ module _ (m : ListMapping) (now kept : Volumes) (s : StandsFor m now kept) where
       let l : m.most_blocks + 1 ≤ length x.0 = h (m.most_blocks + 1) x.0 s.roomy (ap (device_of id) (sym s.listed) ∙ x.1) in
       omega (arith, l, own_few m.geometry now s.within.volumes_now id x.0 x.1 m.most_blocks s.bounded)
 
-  pub device_added : (new : ListMapping) (x : DeviceSlots) → IsToldSize m.geometry x.size → told_blocks m.geometry x.size ≤ m.most_blocks → ((b p : ℕ) → place_in b x.slots ≡ Some p → b < told_blocks m.geometry x.size) → x.id < 2 ^ 24 → length now < 65536 → SlotsAscend 0 x.slots → ((b p : ℕ) → place_in b x.slots ≡ Some p → (b < 2 ^ 24) × (p < m.geometry.data_blocks))
+  pub device_added : (new : ListMapping) (x : DeviceSlots) → IsToldSize m.geometry x.size → told_blocks m.geometry x.size ≤ m.most_blocks → ((b p : ℕ) → place_in b x.slots ≡ Some p → b < told_blocks m.geometry x.size) → x.id < 2 ^ 24 → devices_in now < 65536 → SlotsAscend 0 x.slots → ((b p : ℕ) → place_in b x.slots ≡ Some p → (b < 2 ^ 24) × (p < m.geometry.data_blocks))
       → volumes new.devices.items ≡ with_device x (volumes m.devices.items) → IsRoomy (m.most_blocks + 1) new.devices.items → IsRoomy (m.most_blocks + 1) new.spare.items
       → length new.devices.items + length new.spare.items ≡ length m.devices.items + length m.spare.items → vec_capacity m.devices ≤ vec_capacity new.devices → vec_capacity new.spare ≡ vec_capacity m.spare
       → StandsFor (record m { devices = new.devices; spare = new.spare }) (with_device x now) kept
   device_added new x may bound below hx few a each v r q l c d = record {
     listed = ap (with_device x) s.listed ∙ sym v;
+    low = low_with x now hx s.low;
     within = within_next (with_device x now) (within_with_device m.geometry now s.within.volumes_now x may below hx few a each);
     least = s.least;
     most = s.most;
@@ -214,6 +222,7 @@ module _ (m : ListMapping) (now kept : Volumes) (s : StandsFor m now kept) where
       → StandsFor (record m { devices = new.devices; spare = new.spare }) (without_device id now) kept
   device_removed new id v r q l c d = record {
     listed = ap (without_device id) s.listed ∙ sym v;
+    low = low_without id now s.low;
     within = within_next (without_device id now) (within_without_device m.geometry now s.within.volumes_now id);
     least = s.least;
     most = s.most;
@@ -233,6 +242,7 @@ module _ (m : ListMapping) (now kept : Volumes) (s : StandsFor m now kept) where
       → StandsFor (record m { kept = new.kept }) now now
   now_kept new l h = record {
     listed = s.listed;
+    low = s.low;
     within = record { limits = s.within.limits; volumes_now = s.within.volumes_now; volumes_kept = s.within.volumes_now; sized = s.within.sized };
     least = s.least;
     most = s.most;
@@ -288,6 +298,7 @@ module _ (m : ListMapping) (now kept : Volumes) (s : StandsFor m now kept) where
       let is : with_device x now ≡ resized id size now = resized_is_put 0 id size xs.0 now up xs.1 in
       record {
         listed = ap (resized id size) s.listed ∙ sym v;
+        low = low_resized id size now s.low;
         within = record {
           limits = s.within.limits;
           volumes_now = within_resized m.geometry now s.within.volumes_now id old size xs.0 xs.1 was may more;

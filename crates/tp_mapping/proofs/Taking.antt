@@ -9,15 +9,16 @@ use Rattle.tp_model.specs.Disk.{DiskState}
 use Rattle.tp_layout.specs.declared.entry.Entry.{Entry}
 use Rattle.tp_layout.specs.declared.kind.TreeKind.TheVariants.{Device}
 use Rattle.tp_layout.specs.Entries.{found, with_entry, without_key}
-use Rattle.tp_refs.specs.Store.{MayName, Store, first_named, moved_by, node_at}
+use Rattle.tp_refs.specs.Store.{Store, first_named, moved_by, node_at}
 use Rattle.tp_refs.specs.Balance.{Balanced}
 use Rattle.tp_refs.proofs.Moves.{reordered}
 use Rattle.tp_refs.proofs.Steps.{frame_part, occurrences-append, one_same}
 use Rattle.tp_trees.specs.Tree.{IsWhole}
 use Rattle.tp_trees.proofs.Heights.{mapping_low}
 use Rattle.tp_trees.proofs.Trees.{tree_rank}
-use Rattle.tp_sharing.specs.Forest.{IsVolume, content}
-use Rattle.tp_sharing.specs.Volumes.{BlockSlot, DeviceSlots, Volumes, device_of, place_in, place_or_none, size_of, slot_from, with_device, with_place, without_place}
+use Rattle.tp_sharing.specs.Forest.{content, held_refs}
+use Rattle.tp_sharing.proofs.Held.{copies_stay}
+use Rattle.tp_sharing.specs.Volumes.{BlockSlot, DeviceSlots, Volumes, copies_below, device_from, device_of, place_in, place_or_none, size_of, slot_from, volumes_below, with_device, with_place, without_place}
 use Rattle.tp_sharing.proofs.Changed.{slots_with, slots_without}
 use Rattle.tp_sharing.proofs.Changes.{device_changes, with_device_first, with_device_here, with_device_later, with_place_first, with_place_here, with_place_later, without_place_here, without_place_later}
 use Rattle.tp_sharing.proofs.Sized.{sized_with_device}
@@ -29,7 +30,7 @@ use Rattle.tp_tm.specs.Holds.{Holds}
 use Rattle.tp_btree.specs.Replaces.{CanReplace, Swapped}
 use Rattle.tp_btree.specs.declared.replacement.Changed.{Changed}
 use Rattle.tp_mapping.specs.declared.volume.Volume.{Volume}
-use Rattle.tp_mapping.specs.Held.{HoldBeside, HoldTrees, HoldVolume, HoldsSlots, Slotted, entry_of, slot_at}
+use Rattle.tp_mapping.specs.Held.{HoldBeside, HoldVolume, HoldsSlots, Slotted, entry_of, slot_at}
 use Rattle.tp_mapping.proofs.Holding.{SameCommit, block_below, changed_trees, height, may_tell, root_low, same_trees, size_told, sized_after, slots_of_volume, volume_few, volume_inside}
 use Rattle.tp_mapping.proofs.Copies.{held_few}
 use Rattle.tp_mapping.proofs.Between.{is_there, trees_ascend}
@@ -119,7 +120,7 @@ module _ (g : Geometry) (t : Tm) (disk : DiskState) (root : ℕ) (more : List �
   k = height 5 s root
 
   abbrev held : List ℕ
-  held = more ++ fixed_blocks g
+  held = more ++ (held_refs t.held_root ++ fixed_blocks g)
 
   abbrev x : Entry
   x = entry_of device v
@@ -139,8 +140,8 @@ module _ (g : Geometry) (t : Tm) (disk : DiskState) (root : ℕ) (more : List �
   held_both : Holds t disk [] (root ∷ v.root ∷ held) s
   held_both = record {
     stands = h.trees.holds.stands;
-    balanced = reordered s [] (v.root ∷ (more ++ held_by g root)) (root ∷ v.root ∷ held)
-        (λ y. omega (arith, occurrences-append y more (held_by g root), occurrences-append y more (fixed_blocks g))) h.trees.holds.balanced;
+    balanced = reordered s [] (v.root ∷ (more ++ held_by g root t.held_root)) (root ∷ v.root ∷ held)
+        (λ y. omega (arith, occurrences-append y more (held_by g root t.held_root), occurrences-append y more (held_refs t.held_root ++ fixed_blocks g))) h.trees.holds.balanced;
   }
 
   pub may_exchange : (old : Entry) → found device (content 5 s root) ≡ Some old → CanReplace t disk Device [] held s k 0 (2 ^ 24) root put old
@@ -155,7 +156,7 @@ module _ (g : Geometry) (t : Tm) (disk : DiskState) (root : ℕ) (more : List �
       value_rank = record { below = volume_rank.1; next = λ n. absurd (n refl); root = λ e. volume_rank.0 };
     };
     levels = root_low g t disk root (v.root ∷ more) now h.trees;
-    room = omega (arith, short, length-append more (fixed_blocks g), held_few g t disk root (v.root ∷ more) now h.trees, root_low g t disk root (v.root ∷ more) now h.trees);
+    room = omega (arith, short, length-append more (held_refs t.held_root ++ fixed_blocks g), held_few g t disk root (v.root ∷ more) now h.trees, root_low g t disk root (v.root ∷ more) now h.trees);
   })
 
   -- what was in it
@@ -188,29 +189,32 @@ module _ (g : Geometry) (t : Tm) (disk : DiskState) (root : ℕ) (more : List �
     was_exchanged w value mapped size slots is =
         let i = r.replaced in
         let whole : IsWhole 5 k r.after (2 ^ 24) done.root = record { tree = i.tree; branches = λ some. omega (arith, i.same, h.trees.forest.devices.branches some) } in
-        let frame = frame_part s r.after (old.value ∷ held) (fixed_blocks g) i.frame (λ y here. omega (arith, here, occurrences-append y more (fixed_blocks g))) in
-        let order : Holds u later [] (w.root ∷ (more ++ held_by g done.root)) r.after = record {
+        let frame = frame_part s r.after (old.value ∷ held) (held_refs t.held_root ++ fixed_blocks g) i.frame (λ y here. omega (arith, here, occurrences-append y more (held_refs t.held_root ++ fixed_blocks g))) in
+        let fixed = frame_part s r.after (held_refs t.held_root ++ fixed_blocks g) (fixed_blocks g) frame (λ y here. omega (arith, here, occurrences-append y (held_refs t.held_root) (fixed_blocks g))) in
+        let order : Holds u later [] (w.root ∷ (more ++ held_by g done.root t.held_root)) r.after = record {
           stands = r.holds.stands;
-          balanced = subst (λ b. Balanced r.after [] (b ∷ (more ++ held_by g done.root))) (was_value ∙ sym value)
-              (reordered r.after [] (done.root ∷ old.value ∷ held) (old.value ∷ (more ++ held_by g done.root))
-              (λ y. omega (arith, occurrences-append y more (held_by g done.root), occurrences-append y more (fixed_blocks g))) r.holds.balanced);
+          balanced = subst (λ b. Balanced r.after [] (b ∷ (more ++ held_by g done.root t.held_root))) (was_value ∙ sym value)
+              (reordered r.after [] (done.root ∷ old.value ∷ held) (old.value ∷ (more ++ held_by g done.root t.held_root))
+              (λ y. omega (arith, occurrences-append y more (held_by g done.root t.held_root), occurrences-append y more (held_refs t.held_root ++ fixed_blocks g))) r.holds.balanced);
         } in
-        let len = sized_after g t disk root (v.root ∷ more) now h.trees u later [] (w.root ∷ (more ++ held_by g done.root)) r.after c order in
+        let len = sized_after g t disk root (v.root ∷ more) now h.trees u later [] (w.root ∷ (more ++ held_by g done.root t.held_root)) r.after c order in
         let f = device_is_put s r.after root done.root (fixed_blocks g) [] (root ∷ v.root ∷ held) k (2 ^ 24) h.trees.forest
         (record {
           balance = held_both.balanced;
           held_root = omega (arith, one_same root root refl);
           sized = len;
-          frame = frame;
+          frame = fixed;
           stay = i.stay;
           whole = whole;
         }) x (i.content ∙ ap (λ (y : Entry). with_entry y (content 5 s root)) (sym put_is)) (h.volume device) (omega (arith, one_same v.root v.root refl)) volume_rank.1 in
-        let listed = (λ j. with_device (record { id = device; size = v.size; slots = (sym h.content_is) j }) (h.trees.listed j)) ∙ sym (f.1 g.metadata_blocks) in
+        let listed = (λ j. with_device (record { id = device; size = v.size; slots = (sym h.content_is) j }) (h.trees.listed j))
+        ∙ (copies_stay.with_one (device_from g.metadata_blocks s x) (volumes_below g.metadata_blocks s root) g.metadata_blocks s t.held_root low_id
+        ∙ ap (λ (ds : Volumes). ds ++ copies_below g.metadata_blocks s t.held_root) (sym (f.1 g.metadata_blocks))) in
         let kept = λ (id : ℕ).
         volume_kept s r.after (2 ^ 24) old (entry_of id w) (h.trees.forest.volumes device old there) len (value ∙ sym was_value) (mapped ∙ sym was_mapped)
         (λ j. i.frame old.value j (omega (arith, one_same old.value old.value refl))) in
         record {
-          trees = changed_trees g t disk root (v.root ∷ more) now h.trees u later done.root (w.root ∷ more) (with_device (record { id = device; size = v.size; slots = [] }) now) r.after c order f.0 listed
+          trees = changed_trees g t disk root (v.root ∷ more) now h.trees u later done.root (w.root ∷ more) (with_device (record { id = device; size = v.size; slots = [] }) now) r.after c order frame f.0 listed
               (omega (arith, with_there_length 0 (record { id = device; size = v.size; slots = [] }) now (trees_ascend g t disk root (v.root ∷ more) now h.trees) (is_there _ slots is), h.trees.few))
               (sized_with_device g now h.trees.sizes (record { id = device; size = v.size; slots = [] }) h.told h.inside);
           volume = λ id. (kept id).0;
@@ -223,17 +227,17 @@ module _ (g : Geometry) (t : Tm) (disk : DiskState) (root : ℕ) (more : List �
 -- ---- a volume beside the device tree is changed
 
 pub volume_slots : (g : Geometry) (t : Tm) (disk : DiskState) (root : ℕ) (more : List ℕ) (v : Volume) (slots : List BlockSlot) (now : Volumes) (h : HoldBeside g t disk root more v slots now) → length more ≤ 8
-    → HoldsSlots t disk [] (more ++ held_by g root) h.trees.store (2 ^ 24) v
+    → HoldsSlots t disk [] (more ++ held_by g root t.held_root) h.trees.store (2 ^ 24) v
 volume_slots g t disk root more v slots now h short = record {
   holds = h.trees.holds;
   volume = h.volume;
   most = omega arith;
-  room = omega (arith, short, length-append more (held_by g root), held_few g t disk root (v.root ∷ more) now h.trees);
+  room = omega (arith, short, length-append more (held_by g root t.held_root), held_few g t disk root (v.root ∷ more) now h.trees);
 }
 
 module _ (g : Geometry) (t : Tm) (disk : DiskState) (root : ℕ) (more : List ℕ) (v : Volume) (slots : List BlockSlot) (now : Volumes) (h : HoldBeside g t disk root more v slots now) where
   changed_beside : (u : Tm) (later : DiskState) → SameCommit t u → (w : Volume) (es : List Entry) (after : List BlockSlot) → map (slot_from g.metadata_blocks) es ≡ after
-      → w.size ≡ v.size → ((block place : ℕ) → place_in block after ≡ Some place → block < told_blocks g v.size) → Slotted h.trees.store u later [] (held_by g root) (2 ^ 24) w es → HoldVolume g u later root w after now
+      → w.size ≡ v.size → ((block place : ℕ) → place_in block after ≡ Some place → block < told_blocks g v.size) → Slotted h.trees.store u later [] (held_by g root t.held_root) (2 ^ 24) w es → HoldVolume g u later root w after now
   unfolding same_trees changed_trees
   changed_beside u later c w es after is size below q = record {
     trees = same_trees g t disk root (v.root ∷ more) now h.trees u later (w.root ∷ []) q.after c q.holds q.frame;
@@ -249,7 +253,7 @@ module _ (g : Geometry) (t : Tm) (disk : DiskState) (root : ℕ) (more : List �
       (λ i. record { block = block; place = e i })
 
   pub volume_with : (u : Tm) (later : DiskState) → SameCommit t u → (w : Volume) (block place : ℕ) → w.size ≡ v.size → block < told_blocks g v.size
-      → Slotted h.trees.store u later [] (held_by g root) (2 ^ 24) w (with_entry (slot_at t.geometry.metadata_blocks block place) (content 1 h.trees.store v.root))
+      → Slotted h.trees.store u later [] (held_by g root t.held_root) (2 ^ 24) w (with_entry (slot_at t.geometry.metadata_blocks block place) (content 1 h.trees.store v.root))
       → HoldVolume g u later root w (with_place (record { block = block; place = place }) slots) now
   volume_with u later c w block place size below q =
       changed_beside u later c w (with_entry (slot_at t.geometry.metadata_blocks block place) (content 1 h.trees.store v.root)) (with_place (record { block = block; place = place }) slots)
@@ -260,7 +264,7 @@ module _ (g : Geometry) (t : Tm) (disk : DiskState) (root : ℕ) (more : List �
       ]) q
 
   pub volume_without : (u : Tm) (later : DiskState) → SameCommit t u → (w : Volume) (block : ℕ) → w.size ≡ v.size
-      → Slotted h.trees.store u later [] (held_by g root) (2 ^ 24) w (without_key block (content 1 h.trees.store v.root))
+      → Slotted h.trees.store u later [] (held_by g root t.held_root) (2 ^ 24) w (without_key block (content 1 h.trees.store v.root))
       → HoldVolume g u later root w (without_place block slots) now
   volume_without u later c w block size q =
       changed_beside u later c w (without_key block (content 1 h.trees.store v.root)) (without_place block slots)

@@ -16,6 +16,7 @@ use Rattle.tp_mapping.specs.Mapping.{free_places}
 use Rattle.tp_mapping.specs.Slots.{is_used}
 use Rattle.tp_mapping.specs.Trees.{StandForVolumes}
 use Rattle.tp_mapping.specs.declared.trees.TreeMapping.{TreeMapping}
+use Rattle.tp_mapping.proofs.Between.{sound_both}
 use Rattle.tp_mapping.proofs.Uses.{slot_from_used, used_from_slot}
 
 zero_if_unused : (n p : ℕ) (ds : Volumes) → DevicesAscend 0 ds → (n ≡ 0) ↔ (Unused p ds) → (n == 0) ≡ not (is_used p ds)
@@ -47,13 +48,13 @@ module _ (m : TreeMapping) (disk : DiskState) (now kept : Volumes) (s : StandFor
   used_is =
       counts_agree (λ p. nat_lt 0 (slice_index m.tm.data_now p)) (λ p. nat_lt 0 (count_of s.store (blocks + p))) m.tm.geometry.data_blocks (λ p l. ap (nat_lt 0) (sym (count_is p)))
       ∙ ap (λ n. count_by (λ p. nat_lt 0 (count_of s.store (blocks + p))) (range_with_len 0 n)) (sym places_many)
-      ∙ used_different blocks s.store m.root (fixed_blocks m.tm.geometry) (2 ^ 24) s.sound.balanced s.sound.forest s.sound.sized
+      ∙ used_different blocks s.store m.root m.tm.held_root (fixed_blocks m.tm.geometry) (2 ^ 24) s.sound.balanced (sound_both m.tm.geometry m.root m.tm.held_root s.store s.sound) s.sound.sized
       ∙ ap used (sym s.listed)
 
   -- a data block's count is 0 exactly where no slot has it
   pub unused_now : (p : ℕ) → (slice_index m.tm.data_now p ≡ 0) ↔ (Unused p now)
   unused_now p =
-      let both = free_unused blocks s.store m.root (fixed_blocks m.tm.geometry) (2 ^ 24) s.sound.balanced s.sound.forest s.sound.sized p in (
+      let both = free_unused blocks s.store m.root m.tm.held_root (fixed_blocks m.tm.geometry) (2 ^ 24) s.sound.balanced (sound_both m.tm.geometry m.root m.tm.held_root s.store s.sound) s.sound.sized p in (
         λ e. subst (Unused p) (sym s.listed) (both.0 (count_is p ∙ e)),
         λ none. sym (count_is p) ∙ both.1 (subst (Unused p) s.listed none),
       )

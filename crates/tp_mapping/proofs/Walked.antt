@@ -13,9 +13,10 @@ use Rattle.tp_refs.specs.Store.{Store, moved_by}
 use Rattle.tp_trees.specs.Tree.{blank}
 use Rattle.tp_trees.proofs.Trees.{ascend_tree}
 use Rattle.tp_sharing.specs.Forest.{content}
-use Rattle.tp_sharing.specs.Volumes.{BlockSlot, Volumes, slot_from, slot_of, volumes_below}
+use Rattle.tp_sharing.specs.Volumes.{BlockSlot, Volumes, place_or_none, slot_from, slot_of, volumes_of}
 use Rattle.tp_sharing.proofs.InUse.{slots_are_within}
 use Rattle.tp_sharing.proofs.Lists.{entry_of, leaf_at}
+use Rattle.tp_sharing.proofs.Copies.{copies_are_listed}
 use Rattle.tp_sharing.proofs.Slots.{lookups_are_listed}
 use Rattle.tp_stored.specs.Commit.{fixed_blocks}
 use Rattle.tp_tm.specs.Tm.{Tm}
@@ -27,7 +28,7 @@ use Rattle.tp_mapping.specs.Held.{HasVolume}
 use Rattle.tp_mapping.specs.Mapping.{IsFilled, from_block, slots_of, slots_or_none}
 use Rattle.tp_mapping.specs.Telling.{NameBlocks, NamesBlocks, as_slot}
 use Rattle.tp_mapping.proofs.Filling.{from_no, from_yes}
-use Rattle.tp_mapping.proofs.Holding.{height, nodes_many, slots_of_volume, volume_there}
+use Rattle.tp_mapping.proofs.Holding.{both, height, low_id, nodes_many, slots_of_volume, volume_there}
 
 key_yes : (q : ℕ) (e : Entry) (es : List Entry) → q ≤ e.key → from_key q (e ∷ es) ≡ e ∷ from_key q es
 key_yes q e es h = grind (arith, nat_tests)
@@ -131,9 +132,10 @@ module _ (g : Geometry) (t : Tm) (disk : DiskState) (root : ℕ) (now : Volumes)
       let leaf = leaf_at 0 (2 ^ 24) all r.0
       (ascend_tree 1 (height 1 s v.root) s 0 (2 ^ 24) v.root (volume_there g t disk root [] now h.trees device (held.entry_of device v) h.told).tree.tree) r.1 in
       let f = entry_of y.key y.value all leaf.is in
-      let slot : slot_of device y.key (volumes_below m s root) ≡ Some (f.0.value - m) =
-      lookups_are_listed.slots m s root device y.key (held.entry_of device v) h.told ∙ ap (option_map (λ (z : Entry). z.value - m)) f.1 in
-      let w = slots_are_within m s root (fixed_blocks g) (2 ^ 24) h.trees.holds.balanced h.trees.forest (nodes_many g t disk root [] now h.trees) device y.key (f.0.value - m) slot in (
+      let slot : slot_of device y.key (volumes_of m s root t.held_root) ≡ Some (f.0.value - m) =
+      ap (place_or_none y.key) (copies_are_listed.now m s root t.held_root device (low_id g t disk root [] now h.trees device (held.entry_of device v) h.told))
+      ∙ lookups_are_listed.slots m s root device y.key (held.entry_of device v) h.told ∙ ap (option_map (λ (z : Entry). z.value - m)) f.1 in
+      let w = slots_are_within m s root t.held_root (fixed_blocks g) (2 ^ 24) h.trees.holds.balanced (both g t disk root [] now h.trees) (nodes_many g t disk root [] now h.trees) device y.key (f.0.value - m) slot in (
         omega (arith, w.1, ap (λ (z : Entry). z.key) r.2),
         omega (arith, w.2, f.2, h.trees.counted, ap (λ (z : Entry). z.value) r.2, ap (λ (z : Geometry). z.data_blocks) h.trees.geometry),
       )

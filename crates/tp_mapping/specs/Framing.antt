@@ -15,8 +15,8 @@ use Rattle.tp_mapping.specs.Mapping.{SameTreeBlocks}
 use Rattle.tp_mapping.specs.Trees.{StandForVolumes}
 use Rattle.tp_mapping.specs.declared.trees.TreeMapping.{TreeMapping}
 
-node_behind : (g : Geometry) (root : ℕ) (s : Store) → IsSound g root s → (b : ℕ) → 0 < (node_at s b).rank → fixed_part g ≤ b
-node_behind g root s sound b ranked =
+node_behind : (g : Geometry) (root held : ℕ) (s : Store) → IsSound g root held s → (b : ℕ) → 0 < (node_at s b).rank → fixed_part g ≤ b
+node_behind g root held s sound b ranked =
     elim (cases_lt b (fixed_part g)) [
       | inl l ↦ absurd (omega (arith, ranked, sound.forest.bare b (omega (arith, in_range b 0 (fixed_part g) (omega arith) (omega (arith, l))))))
       | inr h ↦ omega (arith, h)
@@ -46,7 +46,7 @@ frame_stands m old new now kept same s = record {
       sized = s.holds.stands.sized;
       nodes = λ b live closed ranked.
           spelled_same m.tm.geometry m.tm.geometry.metadata_blocks b (seen old.cells) (seen new.cells) (node_at s.store b) same
-          (node_behind m.tm.geometry m.root s.store s.sound b ranked) (omega (arith, rank_inside s.store b ranked, s.sound.sized)) (s.holds.stands.nodes b live closed ranked);
+          (node_behind m.tm.geometry m.root m.tm.held_root s.store s.sound b ranked) (omega (arith, rank_inside s.store b ranked, s.sound.sized)) (s.holds.stands.nodes b live closed ranked);
     };
     balanced = s.holds.balanced;
   };

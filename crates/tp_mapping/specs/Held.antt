@@ -5,11 +5,11 @@ use Rattle.tp_model.specs.Geometry.{Geometry, IsWithinLimits}
 use Rattle.tp_layout.specs.declared.entry.Entry.{Entry}
 use Rattle.tp_layout.specs.Entries.{found}
 use Rattle.tp_refs.specs.Store.{Store, node_at}
-use Rattle.tp_refs.specs.Balance.{Frame, HasRoomFor}
-use Rattle.tp_trees.specs.Tree.{IsWhole}
-use Rattle.tp_sharing.specs.Forest.{Forest, IsVolume, content}
+use Rattle.tp_refs.specs.Balance.{Frame, HasRoomFor, occurrences}
+use Rattle.tp_trees.specs.Tree.{IsWhole, is_shared_path}
+use Rattle.tp_sharing.specs.Forest.{Forest, HeldForest, IsVolume, content}
 use Rattle.tp_model.specs.Told.{IsToldSize, told_blocks}
-use Rattle.tp_sharing.specs.Volumes.{AreSized, BlockSlot, Volumes, place_in, slot_from, volumes_below}
+use Rattle.tp_sharing.specs.Volumes.{AreSized, BlockSlot, Volumes, copies_below, devices_in, place_in, slot_from, volumes_below, volumes_of}
 use Rattle.tp_stored.specs.Commit.{fixed_blocks, held_by}
 use Rattle.tp_counts.specs.Counts.{used_in}
 use Rattle.tp_counts.specs.StoreErrors.{is_fault}
@@ -18,36 +18,60 @@ use Rattle.tp_counts.specs.declared.error.StoreError.TheVariants.{Damaged}
 use Rattle.tp_tm.specs.Tm.{Tm, counts_now}
 use Rattle.tp_tm.specs.Holds.{Holds}
 use Rattle.tp_btree.specs.Inserts.{Ran}
+use Rattle.tp_btree.specs.Trees.{StandsBelow}
+use Rattle.tp_layout.specs.declared.kind.TreeKind.TheVariants.{Mapping}
+use Rattle.tp_mapping.specs.declared.volume.There.{There}
 use Rattle.tp_mapping.specs.declared.volume.Volume.{Volume}
 
 -- how many metadata blocks have a count over 0, by the row of all counts
 abbrev pub in_use : Tm → ℕ
 in_use t = used_in t.geometry.metadata_blocks (counts_now t)
 
--- The device tree below a root stands for these volumes. References to the root, to the fixed part and to these blocks are held.
+-- The device tree below a root stands for these volumes, and that of a held copy, if there is one, for their copies. References to both roots, to the fixed part and to these blocks are held.
 pub record HoldTrees (g : Geometry) (t : Tm) (disk : DiskState) (root : ℕ) (more : List ℕ) (now : Volumes) : Type 0 where
   pub store : Store
   pub geometry : t.geometry ≡ g
-  pub holds : Holds t disk [] (more ++ held_by g root) store
+  pub holds : Holds t disk [] (more ++ held_by g root t.held_root) store
   pub limits : IsWithinLimits g
   pub counted : length store.counts ≡ g.metadata_blocks + g.data_blocks
   pub forest : Forest store root (fixed_blocks g) (2 ^ 24)
-  pub listed : now ≡ volumes_below g.metadata_blocks store root
-  pub few : length now ≤ 65536
+  pub copy : HeldForest store t.held_root (fixed_blocks g) (2 ^ 24)
+  pub listed : now ≡ volumes_of g.metadata_blocks store root t.held_root
+  pub few : devices_in now ≤ 65536
+  pub few_held : length (copies_below g.metadata_blocks store t.held_root) ≤ 65536
   pub sizes : AreSized g now
+
+-- The trees below a root, that of the devices or that of a held copy of it, stand on the disk. One of these held references is to the root.
+pub record HoldsRoot (g : Geometry) (t : Tm) (disk : DiskState) (refs : List ℕ) (root : ℕ) (s : Store) : Type 0 where
+  pub geometry : t.geometry ≡ g
+  pub holds : Holds t disk [] refs s
+  pub named : 0 < occurrences root refs
+  pub forest : Forest s root (fixed_blocks g) (2 ^ 24)
+  pub few : length (content 5 s root) ≤ 65536
+  pub sizes : AreSized g (volumes_below g.metadata_blocks s root)
 
 -- the entry of a device with this volume
 abbrev pub entry_of : ℕ → Volume → Entry
 entry_of device v = record { key = device; value = v.root; mapped = v.mapped; size = v.size }
 
--- The device tree tells this of a device.
-abbrev pub TellsVolume : ℕ → Store → ℕ → Option Volume → Type 0
-TellsVolume device s root None = found device (content 5 s root) ≡ None
-TellsVolume device s root (Some v) = found device (content 5 s root) ≡ Some (entry_of device v)
+-- The device tree tells this of a device: its entry, and whether a node on the path to that is named more than once.
+abbrev pub TellsVolume : ℕ → Store → ℕ → Option There → Type 0
+TellsVolume device s root None = (device < 2 ^ 24) × (found device (content 5 s root) ≡ None)
+TellsVolume device s root (Some x) = (found device (content 5 s root) ≡ Some (entry_of device x.volume)) × (x.is_shared ≡ is_shared_path ((node_at s root).rank - 5) s device root)
 
 pub record HasVolume (g : Geometry) (t : Tm) (disk : DiskState) (root : ℕ) (more : List ℕ) (now : Volumes) (device : ℕ) (v : Volume) : Type 0 where
   pub trees : HoldTrees g t disk root more now
-  pub told : TellsVolume device trees.store root (Some v)
+  pub told : found device (content 5 trees.store root) ≡ Some (entry_of device v)
+
+-- the same, and whether the path to the volume's root is shared
+pub record HasThere (g : Geometry) (t : Tm) (disk : DiskState) (root : ℕ) (now : Volumes) (device : ℕ) (x : There) : Type 0 where
+  pub volume : HasVolume g t disk root [] now device x.volume
+  pub shared : x.is_shared ≡ is_shared_path ((node_at volume.trees.store root).rank - 5) volume.trees.store device root
+
+-- A volume's tree stands below this root, and its values are data blocks of the pool.
+pub record HoldsVolume (t : Tm) (disk : DiskState) (refs : List ℕ) (s : Store) (root : ℕ) : Type 0 where
+  pub stands : StandsBelow t disk Mapping [] refs s ((node_at s root).rank - 1) 0 (2 ^ 24) root
+  pub blocks : (block : ℕ) (x : Entry) → found block (content 1 s root) ≡ Some x → x.value < t.geometry.metadata_blocks + t.geometry.data_blocks
 
 -- A volume's tree with these slots stands beside the device tree, and references to its root and to these blocks are held. Its size is one that it may have, and its
 -- virtual blocks are below it.

@@ -3,13 +3,14 @@ use Rattle.std.specs.Prelude.{◌≡◌, ℕ, ◌+◌, ◌*◌, ◌^◌, ◌<◌
 use Rattle.std.specs.List.{count_by, range_with_len}
 use Rattle.std.specs.Option.{option_map_or}
 use Rattle.tp_model.specs.Geometry.{Geometry, IsWithinLimits, fixed_part}
+use Rattle.tp_model.specs.Pool.{is_now}
 use Rattle.tp_model.specs.Sectors.{Sector, sector_at}
 use Rattle.tp_model.specs.Disk.{DiskState, FaultHasCause, IsSameDisk}
 use Rattle.tp_counts.specs.LookUps.{IsLookedUp}
 use Rattle.tp_counts.specs.declared.error.StoreError.{StoreError}
 use Rattle.tp_counts.specs.declared.error.StoreError.TheVariants.{Damaged}
 use Rattle.tp_counts.specs.StoreErrors.{is_fault}
-use Rattle.tp_sharing.specs.Volumes.{AreSized, BlockSlot, DevicesAscend, OtherSlot, Unused, Volumes, device_of, size_of, slot_of}
+use Rattle.tp_sharing.specs.Volumes.{AreSized, BlockSlot, DevicesAscend, OtherSlot, Unused, Volumes, device_of, devices_in, size_of, slot_of}
 use Rattle.tp_tm.specs.Keeps.{LeavesKept}
 use Rattle.tp_mapping.specs.Slots.{is_used}
 use Rattle.tp_mapping.specs.declared.mapped.Mapped.{Mapped}
@@ -19,8 +20,8 @@ use Rattle.tp_mapping.specs.declared.mapped.Mapped.{Mapped}
 -- The devices and their slots are in order and within the sizes of a pool.
 pub record IsWithin (g : Geometry) (volumes : Volumes) : Type 0 where
   pub ascend : DevicesAscend 0 volumes
-  pub few : length volumes ≤ 65536
-  pub ids : (id : ℕ) (slots : List BlockSlot) → device_of id volumes ≡ Some slots → id < 2 ^ 24
+  pub few : devices_in volumes ≤ 65536
+  pub ids : (id : ℕ) (slots : List BlockSlot) → device_of id volumes ≡ Some slots → id < 2 ^ 25
   pub slots : (id block place : ℕ) → slot_of id block volumes ≡ Some place → (block < 2 ^ 24) × (place < g.data_blocks)
   pub sized : AreSized g volumes
 
@@ -35,6 +36,11 @@ pub record AreWithin (g : Geometry) (counts : List ℕ) (now kept : Volumes) : T
 pub record SameTreeBlocks (g : Geometry) (old new : List Sector) : Type 0 where
   pub same_length : length new ≡ length old
   pub same : (i : ℕ) → 8 * fixed_part g ≤ i → i < 8 * g.metadata_blocks → sector_at new i ≡ sector_at old i
+
+-- the devices without the copies of a held root
+abbrev pub without_copies : Volumes → Volumes
+without_copies [] = []
+without_copies (d ∷ ds) = if is_now d.id then d ∷ without_copies ds else without_copies ds
 
 -- ---- sizes
 
@@ -130,11 +136,13 @@ pub record Ran (n : ℕ) (faulted : Bool) (before_room after_room : ℕ) (counts
   pub cause : FaultHasCause faulted before after
   pub flushes : after.flushes ≡ before.flushes
 
-module _ {M : Type 0} (sizes : M → Geometry) (room_of : M → ℕ) (kept_of data_of : M → List ℕ) where
-  -- A call changed a mapping, by n free metadata blocks at most. `OfAll P` says P of all that may stand before it, by the volumes of now and of the last commit. Of all that it made
-  -- what it was to make, and where any stands it found nothing damaged. What the last commit names stays named.
+module _ {M : Type 0} (sizes : M → Geometry) (room_of used_of : M → ℕ) (kept_of data_of : M → List ℕ) (held_of : M → ℕ) where
+  -- A call changed a mapping, by n free metadata blocks at most, and as many more are in use then at most. `OfAll P` says P of all that may stand before it, by the volumes of now and of the last commit. Of all that it made
+  -- what it was to make, and where any stands it found nothing damaged. What the last commit names stays named, and a held copy stays held.
   pub record IsChanged {A : Type 0} (n : ℕ) (old new : M) (before after : DiskState) (result : Result A StoreError) (OfAll : (Volumes → Volumes → Type 0) → Type 0) (Made : A → Volumes → Volumes → Type 0) : Type 0 where
     pub made : IfOk result (λ answer. OfAll (Made answer))
     pub damaged : result ≡ Err Damaged → OfAll (λ now kept. ⊥)
     pub ran : Ran n (is_fault result) (room_of old) (room_of new) (kept_of old) (kept_of new) (sizes old) (sizes new) before after
+    pub used : used_of new ≤ used_of old + n
     pub same_kept : data_of new ≡ data_of old
+    pub same_held : held_of new ≡ held_of old

@@ -8,15 +8,15 @@ use Rattle.tp_layout.specs.Entries.{first_key, found}
 use Rattle.tp_image.proofs.Uniqueness.{IsNodeAt-one}
 use Rattle.tp_refs.specs.Store.{Node, Store, children, count_of, node_at, node_from, values}
 use Rattle.tp_refs.specs.Balance.{Balanced, occurrences}
-use Rattle.tp_refs.proofs.Steps.{child_live, held_live, one_same}
+use Rattle.tp_refs.proofs.Steps.{child_live, held_live, occurrences-append, one_same}
 use Rattle.tp_trees.specs.Tree.{IsTree, IsWhole, Parted, joined, pairs}
 use Rattle.tp_trees.proofs.Frames.{Below}
 use Rattle.tp_trees.proofs.Trees.{ascend_tree, children_values, tree_rank}
-use Rattle.tp_sharing.specs.Forest.{Forest, content}
-use Rattle.tp_sharing.specs.Volumes.{Volumes, device_from, volumes_below}
+use Rattle.tp_sharing.specs.Forest.{Forest, HeldForest, content, held_refs}
+use Rattle.tp_sharing.specs.Volumes.{Volumes, as_copy, copies_below, device_from, volumes_below}
 use Rattle.tp_sharing.proofs.Changed.{kept_devices}
 use Rattle.tp_sharing.proofs.Later.{volumes_are_live}
-use Rattle.tp_stored.specs.Commit.{fixed_blocks}
+use Rattle.tp_stored.specs.Commit.{fixed_blocks, held_by}
 use Rattle.tp_tm.specs.Holds.{IsSpelled}
 use Rattle.tp_mapping.specs.Standing.{StandsFor}
 use Rattle.tp_mapping.specs.Trees.{StandForVolumes}
@@ -58,22 +58,25 @@ module _ (s t : Store) (held : List ℕ) (bal : Balanced s [] held) (alike : Are
 
 -- ---- the volumes of two stores
 
-module _ (s t : Store) (root : ℕ) (fixed : List ℕ) (top : ℕ) (bal : Balanced s [] (root ∷ fixed)) (alike : AreAlike s t) (f : Forest s root fixed top) (w : Forest t root fixed top) where
-  root_held : 0 < occurrences root (root ∷ fixed)
-  root_held = omega (arith, one_same root root refl)
+module _ (s t : Store) (held : List ℕ) (fixed : List ℕ) (top : ℕ) (bal : Balanced s [] held) (alike : AreAlike s t) where
+  module _ (root : ℕ) (named : 0 < occurrences root held) (f : Forest s root fixed top) (w : Forest t root fixed top) where
+    devices_alike : content 5 t root ≡ content 5 s root
+    devices_alike = content_alike s t held bal alike 5 (2 ^ 24) root (omega arith) (held_live s [] held root bal named) f.devices w.devices
 
-  devices_alike : content 5 t root ≡ content 5 s root
-  devices_alike = content_alike s t (root ∷ fixed) bal alike 5 (2 ^ 24) root (omega arith) (held_live s [] (root ∷ fixed) root bal root_held) f.devices w.devices
+    volume_alike : (device : ℕ) (e : Entry) → found device (content 5 s root) ≡ Some e → content 1 t e.value ≡ content 1 s e.value
+    volume_alike device e is =
+        content_alike s t held bal alike 1 top e.value (omega arith) (volumes_are_live s [] held root fixed top bal named f device e is).0
+        (f.volumes device e is).tree (w.volumes device e (ap (found device) devices_alike ∙ is)).tree
 
-  volume_alike : (device : ℕ) (e : Entry) → found device (content 5 s root) ≡ Some e → content 1 t e.value ≡ content 1 s e.value
-  volume_alike device e is =
-      content_alike s t (root ∷ fixed) bal alike 1 top e.value (omega arith) (volumes_are_live s [] (root ∷ fixed) root fixed top bal root_held f device e is).0
-      (f.volumes device e is).tree (w.volumes device e (ap (found device) devices_alike ∙ is)).tree
+    volumes_alike : (m : ℕ) → volumes_below m t root ≡ volumes_below m s root
+    volumes_alike m =
+        ap (map (device_from m t)) devices_alike
+        ∙ kept_devices m s t 0 (2 ^ 24) (content 5 s root) (ascend_tree 5 ((node_at s root).rank - 5) s 0 (2 ^ 24) root f.devices.tree) volume_alike
 
-  volumes_alike : (m : ℕ) → volumes_below m t root ≡ volumes_below m s root
-  volumes_alike m =
-      ap (map (device_from m t)) devices_alike
-      ∙ kept_devices m s t 0 (2 ^ 24) (content 5 s root) (ascend_tree 5 ((node_at s root).rank - 5) s 0 (2 ^ 24) root f.devices.tree) volume_alike
+  copies_alike : (copy : ℕ) → ((r : ℕ) → 0 < occurrences r (held_refs copy) → 0 < occurrences r held) → HeldForest s copy fixed top → HeldForest t copy fixed top
+      → (m : ℕ) → copies_below m t copy ≡ copies_below m s copy
+  copies_alike zero named f w m = refl
+  copies_alike (suc n) named f w m = ap (map as_copy) (volumes_alike (suc n) (named (suc n) (omega (arith, one_same (suc n) (suc n) refl))) f w m)
 
 -- ---- what stands
 
@@ -89,7 +92,12 @@ trees_stand_for_one m disk now kept next last a b =
     let same : count_of b.store at ≡ count_of a.store at = ap (λ ns. get_or ns at 0) counts in
     spelled_one g.metadata_blocks (seen disk.cells) at (node_at a.store at) (node_at b.store at) (a.holds.stands.nodes at live refl here)
     (b.holds.stands.nodes at (omega (arith, same, live)) refl there) in
-    b.listed ∙ volumes_alike a.store b.store m.root (fixed_blocks g) (2 ^ 24) a.sound.balanced alike a.sound.forest b.sound.forest g.metadata_blocks ∙ sym a.listed
+    let held = held_by g m.root m.tm.held_root in
+    let now_same = volumes_alike a.store b.store held (fixed_blocks g) (2 ^ 24) a.sound.balanced alike m.root (omega (arith, one_same m.root m.root refl)) a.sound.forest b.sound.forest g.metadata_blocks in
+    let copies_same =
+    copies_alike a.store b.store held (fixed_blocks g) (2 ^ 24) a.sound.balanced alike m.tm.held_root
+    (λ r here. omega (arith, here, occurrences-append r (held_refs m.tm.held_root) (fixed_blocks g))) a.sound.copy b.sound.copy g.metadata_blocks in
+    b.listed ∙ ((λ i. now_same i ++ copies_same i) ∙ sym a.listed)
 
 pub list_stands_for_one : (m : ListMapping) (now kept next last : Volumes) → StandsFor m now kept → StandsFor m next last → next ≡ now
 list_stands_for_one m now kept next last a b = b.listed ∙ sym a.listed

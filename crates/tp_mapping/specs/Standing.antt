@@ -1,5 +1,5 @@
 -- Internal: when a list stands for volumes (own).
-use Rattle.std.specs.Prelude.{◌≡◌, ℕ, ◌+◌, ◌*◌, ◌<◌, ◌≤◌, ◌↔◌, ◌^◌, List, Some, false, length, nat_lt, replicate, slice_index_or, vec_capacity, if◌then◌else◌}
+use Rattle.std.specs.Prelude.{◌≡◌, ℕ, ◌+◌, ◌*◌, ◌<◌, ◌≤◌, ◌↔◌, ◌^◌, ⊤, List, [], ◌∷◌, Some, false, length, nat_lt, replicate, slice_index_or, vec_capacity, if◌then◌else◌}
 use Rattle.tp_model.specs.Geometry.{Geometry}
 use Rattle.tp_model.specs.Told.{told_blocks}
 use Rattle.tp_sharing.specs.Volumes.{Unused, Volumes, size_of}
@@ -19,9 +19,15 @@ room_of n = if nat_lt 65536 n then 524304 else 8 * n + 16
 abbrev pub IsBounded : Geometry → ℕ → Volumes → Type 0
 IsBounded g most volumes = (id size : ℕ) → size_of id volumes ≡ Some size → told_blocks g size ≤ most
 
--- The list stands for these volumes, and has room for each change.
+-- none of these is a copy
+abbrev pub AreLow : Volumes → Type 0
+AreLow [] = ⊤
+AreLow (d ∷ ds) = (d.id < 2 ^ 24) × AreLow ds
+
+-- The list stands for these volumes, none of which is a copy, and has room for each change.
 pub record StandsFor (m : ListMapping) (now kept : Volumes) : Type 0 where
   pub listed : now ≡ volumes m.devices.items
+  pub low : AreLow now
   pub within : AreWithin m.geometry (counts_of m.geometry) now kept
   pub least : m.geometry.virtual_blocks ≤ m.most_blocks
   pub most : m.most_blocks ≤ 2 ^ 24

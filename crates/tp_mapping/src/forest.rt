@@ -5,7 +5,7 @@ ghost use Rattle.tp_model.specs.Geometry.{Geometry, sectors_of_image};
 ghost use Rattle.tp_counts.specs.StoreErrors.{is_fault};
 ghost use Rattle.tp_layout.specs.Node.{FitsEntry, is_long};
 ghost use Rattle.tp_layout.specs.declared.kind.TreeKind.TheVariants.{Device};
-ghost use Rattle.tp_sharing.specs.Volumes.{BlockSlot, Volumes, device_of, size_of, with_device, without_device};
+ghost use Rattle.tp_sharing.specs.Volumes.{BlockSlot, Volumes, device_of, devices_in, size_of, with_device, without_device};
 ghost use Rattle.tp_tm.specs.Tm.{free_metadata};
 ghost use Rattle.tp_btree.specs.Inserts.{Ran};
 ghost use Rattle.tp_mapping.specs.Held.{ChangesBelow, HoldBeside, HoldTrees, HoldVolume, HoldsOld, entry_of, in_use};
@@ -44,12 +44,12 @@ pub(crate) fn put_new<D: Disk>(
     requires inside { root < tm.old.geometry.metadata_blocks }
     requires room { 7 ≤ free_metadata tm.old }
     ensures put { IfOk result (λ top. IsTrue (D.state disk.old).is_honest → (g : Geometry) (slots : List BlockSlot) (now : Volumes) → HoldVolume g tm.old (D.state disk.old) root volume slots now
-        → device_of device now ≡ None → length now < 65536
+        → device_of device now ≡ None → devices_in now < 65536
         → HoldTrees g tm.new (D.state disk.new) top [] (with_device (record { id = device; size = volume.size; slots = slots }) now)) }
     ensures damaged { result ≡ Err StoreError.Damaged → IsTrue (D.state disk.old).is_honest → (g : Geometry) (slots : List BlockSlot) (now : Volumes) → HoldVolume g tm.old (D.state disk.old) root volume slots now
-        → device_of device now ≡ None → length now < 65536 → ⊥ }
-    ensures used { IfOk result (λ top. IsTrue (D.state disk.old).is_honest → (g : Geometry) (slots : List BlockSlot) (now : Volumes) → HoldVolume g tm.old (D.state disk.old) root volume slots now
-        → device_of device now ≡ None → length now < 65536 → in_use tm.new ≤ in_use tm.old + 3) }
+        → device_of device now ≡ None → devices_in now < 65536 → ⊥ }
+    ensures used { IfOk result (λ top. tm.old.held_root ≡ 0 → IsTrue (D.state disk.old).is_honest → (g : Geometry) (slots : List BlockSlot) (now : Volumes) → HoldVolume g tm.old (D.state disk.old) root volume slots now
+        → device_of device now ≡ None → devices_in now < 65536 → in_use tm.new ≤ in_use tm.old + 3) }
     ensures ran { Ran 7 (is_fault result) tm.old tm.new (D.state disk.old) (D.state disk.new) }
 {
     insert(
@@ -103,7 +103,7 @@ pub(crate) fn take_volume<D: Disk>(
     ensures few { IfOk result (λ taken. taken.volume.mapped ≤ 2 ^ 24) }
     ensures damaged { result ≡ Err StoreError.Damaged → IsTrue (D.state disk.old).is_honest → (g : Geometry) (more : List ℕ) (now : Volumes) → length more ≤ 8
         → HoldTrees g tm.old (D.state disk.old) root more now → IsSome (device_of device now) → ⊥ }
-    ensures used { IfOk result (λ taken. IsTrue (D.state disk.old).is_honest → (g : Geometry) (now : Volumes) → HoldTrees g tm.old (D.state disk.old) root [] now
+    ensures used { IfOk result (λ taken. tm.old.held_root ≡ 0 → IsTrue (D.state disk.old).is_honest → (g : Geometry) (now : Volumes) → HoldTrees g tm.old (D.state disk.old) root [] now
         → IsSome (device_of device now) → in_use tm.new ≤ in_use tm.old + 1) }
     ensures ran { Ran 4 (is_fault result) tm.old tm.new (D.state disk.old) (D.state disk.new) }
 {
@@ -134,7 +134,7 @@ pub(crate) fn put_over<D: Disk>(
         → IsSome (device_of device now) → HoldTrees g tm.new (D.state disk.new) top [] (with_device (record { id = device; size = volume.size; slots = slots }) now)) }
     ensures damaged { result ≡ Err StoreError.Damaged → IsTrue (D.state disk.old).is_honest → (g : Geometry) (slots : List BlockSlot) (now : Volumes) → HoldVolume g tm.old (D.state disk.old) root volume slots now
         → IsSome (device_of device now) → ⊥ }
-    ensures used { IfOk result (λ top. IsTrue (D.state disk.old).is_honest → (g : Geometry) (slots : List BlockSlot) (now : Volumes) → HoldVolume g tm.old (D.state disk.old) root volume slots now
+    ensures used { IfOk result (λ top. tm.old.held_root ≡ 0 → IsTrue (D.state disk.old).is_honest → (g : Geometry) (slots : List BlockSlot) (now : Volumes) → HoldVolume g tm.old (D.state disk.old) root volume slots now
         → IsSome (device_of device now) → in_use tm.new ≤ in_use tm.old) }
     ensures ran { Ran 3 (is_fault result) tm.old tm.new (D.state disk.old) (D.state disk.new) }
 {
@@ -157,7 +157,7 @@ pub(crate) fn take_out<D: Disk>(
     ensures changed { ChangesBelow 5 tm.old tm.new (D.state disk.old) (D.state disk.new) result
         (λ P. IsTrue (D.state disk.old).is_honest → (g : Geometry) (now : Volumes) → HoldTrees g tm.old (D.state disk.old) root [] now → IsSome (device_of device now) → P g now)
         (λ top g now. HoldTrees g tm.new (D.state disk.new) top [] (without_device device now)) }
-    ensures used { IfOk result (λ top. IsTrue (D.state disk.old).is_honest → (g : Geometry) (now : Volumes) → HoldTrees g tm.old (D.state disk.old) root [] now
+    ensures used { IfOk result (λ top. tm.old.held_root ≡ 0 → IsTrue (D.state disk.old).is_honest → (g : Geometry) (now : Volumes) → HoldTrees g tm.old (D.state disk.old) root [] now
         → IsSome (device_of device now) → in_use tm.new ≤ in_use tm.old) }
 {
     let key = device.number() as u64;

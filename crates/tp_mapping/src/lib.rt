@@ -7,9 +7,11 @@
 mod device;
 mod emptying;
 mod forest;
+mod held_runs;
 mod list;
 mod mapped;
 mod mapping;
+mod reserving;
 mod runs;
 mod sizes;
 mod slots;

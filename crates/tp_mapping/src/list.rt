@@ -169,6 +169,8 @@ impl Mapping for ListMapping {
 
     ghost kept_data = { λ m. [] };
 
+    ghost held_root = { λ m. 0 };
+
     fn look_up<D: Disk>(
         &self,
         _disk: &mut D,

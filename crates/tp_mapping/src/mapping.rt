@@ -5,7 +5,7 @@ ghost use Rattle.tp_model.specs.Geometry.{Geometry, sectors_of_image};
 ghost use Rattle.std.specs.Option.{option_map};
 ghost use Rattle.tp_model.specs.Told.{IsToldSize, told_blocks};
 ghost use Rattle.tp_model.specs.Disk.{DiskState, seen};
-ghost use Rattle.tp_sharing.specs.Volumes.{BlockSlot, Volumes, device_of, mapped_of, resized, size_of, slot_of, used, with_device, with_slot, without_device, without_slot};
+ghost use Rattle.tp_sharing.specs.Volumes.{BlockSlot, Volumes, device_of, devices_in, mapped_of, resized, size_of, slot_of, used, with_device, with_slot, without_device, without_slot};
 ghost use Rattle.tp_counts.specs.Counts.{used_in};
 ghost use Rattle.tp_mapping.specs.Mapping.{AreInside, AreTold, AreWithin, IsChanged, IsFilled, IsHighest, IsLeastFree, IsLonger, IsTold, LooksUp, NoneIsFree, SameTreeBlocks, free_places, from_block, size_for, slots_of};
 ghost use Rattle.tp_mapping.specs.Next.{IsNext};
@@ -27,7 +27,7 @@ pub const MOST_SLOTS: usize = 252;
 ///
 /// A mapping may stand on a disk, which each call that may read or write takes: the same one each time. What stands is said
 /// where the disk is honest. Numbers of blocks are data blocks, or virtual blocks, of which each device has as many as its size says, and `room` counts free
-/// metadata blocks of 4096 bytes.
+/// metadata blocks of 4096 bytes. A call names at most as many more metadata blocks as it takes.
 ///
 /// A call refuses with `Fault` exactly where the disk failed in it, and with `Damaged` where what it read is not a mapping's,
 /// which is nowhere where the mapping stands on an honest disk. After an `Err` of a call that reads, the mapping is as
@@ -51,6 +51,9 @@ pub trait Mapping {
 
     /// How often the last commit names each metadata block.
     ghost kept_counts: { Self → List ℕ };
+
+    /// The root of a held copy of the trees; 0 where there is none.
+    ghost held_root: { Self → ℕ };
 
     /// How often the last commit names each data block.
     ghost kept_data: { Self → List ℕ };
@@ -118,7 +121,7 @@ pub trait Mapping {
     /// How many devices there are.
     fn devices<D: Disk>(&self, disk: &mut D) -> Result<u32, StoreError>
         requires disk { sectors_of_image (geometry self.now) ≤ (D.state disk.old).size }
-        ensures { LooksUp (stands self.now) (D.state disk.old) (D.state disk.new) result (λ answer now. answer ≡ length now) };
+        ensures { LooksUp (stands self.now) (D.state disk.old) (D.state disk.new) result (λ answer now. answer ≡ devices_in now) };
 
     /// The least id of a device that is `from` or more, if there is one.
     fn next_id<D: Disk>(&self, disk: &mut D, from: DevId) -> Result<Option<DevId>, StoreError>
@@ -148,7 +151,7 @@ pub trait Mapping {
     ) -> Result<Option<Pb>, StoreError>
         requires disk { sectors_of_image (geometry self.old) ≤ (D.state disk.old).size }
         requires room { 16 ≤ room self.old }
-        ensures changed { IsChanged geometry room kept_counts kept_data 16 self.old self.new (D.state disk.old) (D.state disk.new) result
+        ensures changed { IsChanged geometry room (λ m. used_in (geometry m).metadata_blocks (counts m)) kept_counts kept_data held_root 16 self.old self.new (D.state disk.old) (D.state disk.new) result
             (λ P. IsTrue (D.state disk.old).is_honest → (now kept : Volumes) → stands self.old (D.state disk.old) now kept → IsSome (device_of device now)
             → ((size : ℕ) → size_of device now ≡ Some size → block < told_blocks (geometry self.old) size) → P now kept)
             (λ answer now kept. MatchOption answer (NoneIsFree (geometry self.old) now kept) (λ place. IsLeastFree (geometry self.old) now kept place
@@ -158,14 +161,14 @@ pub trait Mapping {
         ensures used { used_in (geometry self.new).metadata_blocks (counts self.new) ≤ used_in (geometry self.old).metadata_blocks (counts self.old) + 16 };
 
     /// Takes the data block of a virtual block that has one. It takes 16 metadata blocks at most, and at most 8 more are named
-    /// then.
+    /// then, where no copy of the trees is held.
     fn unmap<D: Disk>(&mut self, disk: &mut D, device: DevId, block: Vb) -> Result<(), StoreError>
         requires disk { sectors_of_image (geometry self.old) ≤ (D.state disk.old).size }
         requires room { 16 ≤ room self.old }
-        ensures { IsChanged geometry room kept_counts kept_data 16 self.old self.new (D.state disk.old) (D.state disk.new) result
+        ensures { IsChanged geometry room (λ m. used_in (geometry m).metadata_blocks (counts m)) kept_counts kept_data held_root 16 self.old self.new (D.state disk.old) (D.state disk.new) result
             (λ P. IsTrue (D.state disk.old).is_honest → (now kept : Volumes) → stands self.old (D.state disk.old) now kept → IsSome (slot_of device block now) → P now kept)
             (λ done now kept. stands self.new (D.state disk.new) (without_slot device block now) kept
-            × (used_in (geometry self.new).metadata_blocks (counts self.new) ≤ used_in (geometry self.old).metadata_blocks (counts self.old) + 8)) };
+            × (held_root self.old ≡ 0 → used_in (geometry self.new).metadata_blocks (counts self.new) ≤ used_in (geometry self.old).metadata_blocks (counts self.old) + 8)) };
 
     /// Takes the data blocks of `count` virtual blocks of a device that exists, from `first` on, where they have one. The device
     /// is taken out of its place once for all of them: it takes 7 metadata blocks for each at most, and 7 more, and at most as many more are
@@ -180,7 +183,7 @@ pub trait Mapping {
         requires disk { sectors_of_image (geometry self.old) ≤ (D.state disk.old).size }
         requires run { first + count ≤ 2 ^ 24 }
         requires room { 7 * count + 7 ≤ room self.old }
-        ensures changed { IsChanged geometry room kept_counts kept_data (7 * count + 7) self.old self.new (D.state disk.old) (D.state disk.new) result
+        ensures changed { IsChanged geometry room (λ m. used_in (geometry m).metadata_blocks (counts m)) kept_counts kept_data held_root (7 * count + 7) self.old self.new (D.state disk.old) (D.state disk.new) result
             (λ P. IsTrue (D.state disk.old).is_honest → (now kept : Volumes) → stands self.old (D.state disk.old) now kept → IsSome (device_of device now) → P now kept)
             (λ done now kept. stands self.new (D.state disk.new) (without_run device first count now) kept) }
         ensures used { used_in (geometry self.new).metadata_blocks (counts self.new) ≤ used_in (geometry self.old).metadata_blocks (counts self.old) + (7 * count + 7) };
@@ -190,14 +193,14 @@ pub trait Mapping {
     fn create<D: Disk>(&mut self, disk: &mut D, device: DevId) -> Result<(), StoreError>
         requires disk { sectors_of_image (geometry self.old) ≤ (D.state disk.old).size }
         requires room { 24 ≤ room self.old }
-        ensures changed { IsChanged geometry room kept_counts kept_data 8 self.old self.new (D.state disk.old) (D.state disk.new) result
-            (λ P. IsTrue (D.state disk.old).is_honest → (now kept : Volumes) → stands self.old (D.state disk.old) now kept → device_of device now ≡ None → length now < 65536
+        ensures changed { IsChanged geometry room (λ m. used_in (geometry m).metadata_blocks (counts m)) kept_counts kept_data held_root 8 self.old self.new (D.state disk.old) (D.state disk.new) result
+            (λ P. IsTrue (D.state disk.old).is_honest → (now kept : Volumes) → stands self.old (D.state disk.old) now kept → device_of device now ≡ None → devices_in now < 65536
             → P now kept)
             (λ done now kept. stands self.new (D.state disk.new) (with_device (record { id = device; size = 0; slots = [] }) now) kept) }
         ensures used { used_in (geometry self.new).metadata_blocks (counts self.new) ≤ used_in (geometry self.old).metadata_blocks (counts self.old) + 8 };
 
     /// Adds a device with the size and the slots of another one, of an id that no device has, to fewer than 65536. It takes 8 metadata
-    /// blocks at most; 24 are to be free, so that 16 stay for what makes room. At most 3 more are named then.
+    /// blocks at most; 24 are to be free, so that 16 stay for what makes room. At most 3 more are named then, where no copy of the trees is held.
     fn snapshot<D: Disk>(
         &mut self,
         disk: &mut D,
@@ -206,40 +209,42 @@ pub trait Mapping {
     ) -> Result<(), StoreError>
         requires disk { sectors_of_image (geometry self.old) ≤ (D.state disk.old).size }
         requires room { 24 ≤ room self.old }
-        ensures { IsChanged geometry room kept_counts kept_data 8 self.old self.new (D.state disk.old) (D.state disk.new) result
-            (λ P. IsTrue (D.state disk.old).is_honest → (now kept : Volumes) → stands self.old (D.state disk.old) now kept → device_of device now ≡ None → length now < 65536
+        ensures { IsChanged geometry room (λ m. used_in (geometry m).metadata_blocks (counts m)) kept_counts kept_data held_root 8 self.old self.new (D.state disk.old) (D.state disk.new) result
+            (λ P. IsTrue (D.state disk.old).is_honest → (now kept : Volumes) → stands self.old (D.state disk.old) now kept → device_of device now ≡ None → devices_in now < 65536
             → IsSome (device_of origin now) → P now kept)
             (λ done now kept. ((slots : List BlockSlot) (size : ℕ) → device_of origin now ≡ Some slots → size_of origin now ≡ Some size
             → stands self.new (D.state disk.new) (with_device (record { id = device; size = size; slots = slots }) now) kept)
-            × (used_in (geometry self.new).metadata_blocks (counts self.new) ≤ used_in (geometry self.old).metadata_blocks (counts self.old) + 3)) };
+            × (held_root self.old ≡ 0 → used_in (geometry self.new).metadata_blocks (counts self.new) ≤ used_in (geometry self.old).metadata_blocks (counts self.old) + 3)) };
 
     /// Gives a device that exists so many virtual blocks, no fewer than it has. Those behind its old end have no data block. It takes 8
-    /// metadata blocks at most; 24 are to be free, so that 16 stay for what makes room. At most 1 more is named then.
+    /// metadata blocks at most; 24 are to be free, so that 16 stay for what makes room. At most 1 more is named then, where no copy of the trees is held.
     fn grow<D: Disk>(&mut self, disk: &mut D, device: DevId, blocks: u32) -> Result<(), StoreError>
         requires disk { sectors_of_image (geometry self.old) ≤ (D.state disk.old).size }
         requires room { 24 ≤ room self.old }
         requires most { blocks ≤ most_blocks self.old }
-        ensures { IsChanged geometry room kept_counts kept_data 8 self.old self.new (D.state disk.old) (D.state disk.new) result
+        ensures { IsChanged geometry room (λ m. used_in (geometry m).metadata_blocks (counts m)) kept_counts kept_data held_root 8 self.old self.new (D.state disk.old) (D.state disk.new) result
             (λ P. IsTrue (D.state disk.old).is_honest → (now kept : Volumes) → stands self.old (D.state disk.old) now kept → IsSome (device_of device now)
             → IsToldSize (geometry self.old) (size_for (geometry self.old) blocks) → ((size : ℕ) → size_of device now ≡ Some size → told_blocks (geometry self.old) size ≤ blocks)
             → P now kept)
             (λ done now kept. stands self.new (D.state disk.new) (resized device (size_for (geometry self.old) blocks) now) kept
-            × (used_in (geometry self.new).metadata_blocks (counts self.new) ≤ used_in (geometry self.old).metadata_blocks (counts self.old) + 1)) };
+            × (held_root self.old ≡ 0 → used_in (geometry self.new).metadata_blocks (counts self.new) ≤ used_in (geometry self.old).metadata_blocks (counts self.old) + 1)) };
 
-    /// Removes a device that exists, with its slots. It takes 16 metadata blocks at most. No more are named then.
+    /// Removes a device that exists, with its slots. It takes 16 metadata blocks at most. No more are named then, where no copy of the trees is
+    /// held.
     fn delete<D: Disk>(&mut self, disk: &mut D, device: DevId) -> Result<(), StoreError>
         requires disk { sectors_of_image (geometry self.old) ≤ (D.state disk.old).size }
         requires room { 16 ≤ room self.old }
-        ensures { IsChanged geometry room kept_counts kept_data 16 self.old self.new (D.state disk.old) (D.state disk.new) result
+        ensures { IsChanged geometry room (λ m. used_in (geometry m).metadata_blocks (counts m)) kept_counts kept_data held_root 16 self.old self.new (D.state disk.old) (D.state disk.new) result
             (λ P. IsTrue (D.state disk.old).is_honest → (now kept : Volumes) → stands self.old (D.state disk.old) now kept → IsSome (device_of device now) → P now kept)
             (λ done now kept. stands self.new (D.state disk.new) (without_device device now) kept
-            × (used_in (geometry self.new).metadata_blocks (counts self.new) ≤ used_in (geometry self.old).metadata_blocks (counts self.old))) };
+            × (held_root self.old ≡ 0 → used_in (geometry self.new).metadata_blocks (counts self.new) ≤ used_in (geometry self.old).metadata_blocks (counts self.old))) };
 
     /// A commit was kept: the volumes at the last commit are those of now.
     fn keep(&mut self)
         ensures kept { (disk : DiskState) (now kept : Volumes) → stands self.old disk now kept → stands self.new disk now now }
         ensures geometry { geometry self.new ≡ geometry self.old }
         ensures counts { (counts self.new ≡ counts self.old) × (kept_counts self.new ≡ counts self.old) }
+        ensures held { held_root self.new ≡ held_root self.old }
         ensures room { room self.old ≤ room self.new };
 
     /// What stands is within the pool's sizes.

@@ -5,7 +5,7 @@ ghost use Rattle.tp_model.specs.Geometry.{Geometry, sectors_of_image};
 ghost use Rattle.tp_model.specs.Told.{IsToldSize, told_blocks};
 ghost use Rattle.tp_counts.specs.StoreErrors.{is_fault};
 ghost use Rattle.tp_model.specs.Disk.{DiskState};
-ghost use Rattle.tp_sharing.specs.Volumes.{BlockSlot, Volumes, device_of, place_in, resized, size_of, slot_of, with_device, with_place, with_slot, without_device, without_place, without_slot};
+ghost use Rattle.tp_sharing.specs.Volumes.{BlockSlot, Volumes, device_of, devices_in, place_in, resized, size_of, slot_of, with_device, with_place, with_slot, without_device, without_place, without_slot};
 ghost use Rattle.tp_tm.specs.Tm.{free_metadata, used_metadata};
 ghost use Rattle.tp_btree.specs.Inserts.{Ran};
 ghost use Rattle.tp_mapping.specs.Held.{ChangesBelow, HoldTrees, HoldVolume, in_use};
@@ -76,7 +76,7 @@ fn take_without<D: Disk>(
     ensures damaged { result ≡ Err StoreError.Damaged → IsTrue (D.state disk.old).is_honest → (g : Geometry) (now : Volumes)
         → HoldTrees g tm.old (D.state disk.old) root [] now
         → IsSome (slot_of device block now) → ⊥ }
-    ensures used { IfOk result (λ taken. IsTrue (D.state disk.old).is_honest → (g : Geometry) (now : Volumes)
+    ensures used { IfOk result (λ taken. tm.old.held_root ≡ 0 → IsTrue (D.state disk.old).is_honest → (g : Geometry) (now : Volumes)
         → HoldTrees g tm.old (D.state disk.old) root [] now
         → IsSome (slot_of device block now) → in_use tm.new ≤ in_use tm.old + 8) }
     ensures ran { Ran 11 (is_fault result) tm.old tm.new (D.state disk.old) (D.state disk.new) }
@@ -135,7 +135,7 @@ fn create_below<D: Disk>(
     requires room { 8 ≤ free_metadata tm.old }
     ensures { ChangesBelow 8 tm.old tm.new (D.state disk.old) (D.state disk.new) result
         (λ P. IsTrue (D.state disk.old).is_honest → (g : Geometry) (now : Volumes) → HoldTrees g tm.old (D.state disk.old) root [] now → device_of device now ≡ None
-        → length now < 65536 → P g now)
+        → devices_in now < 65536 → P g now)
         (λ top g now. HoldTrees g tm.new (D.state disk.new) top [] (with_device (record { id = device; size = 0; slots = [] }) now)) }
 {
     let volume = new_volume(tm, disk)?;
@@ -155,12 +155,12 @@ fn snapshot_below<D: Disk>(
     requires room { 8 ≤ free_metadata tm.old }
     ensures changed { ChangesBelow 8 tm.old tm.new (D.state disk.old) (D.state disk.new) result
         (λ P. IsTrue (D.state disk.old).is_honest → (g : Geometry) (now : Volumes) → HoldTrees g tm.old (D.state disk.old) root [] now → device_of device now ≡ None
-        → length now < 65536 → IsSome (device_of origin now) → P g now)
+        → devices_in now < 65536 → IsSome (device_of origin now) → P g now)
         (λ top g now. (slots : List BlockSlot) (size : ℕ) → device_of origin now ≡ Some slots → size_of origin now ≡ Some size
         → HoldTrees g tm.new (D.state disk.new) top [] (with_device (record { id = device; size = size; slots = slots }) now)) }
-    ensures used { IfOk result (λ top. IsTrue (D.state disk.old).is_honest → (g : Geometry) (now : Volumes)
+    ensures used { IfOk result (λ top. tm.old.held_root ≡ 0 → IsTrue (D.state disk.old).is_honest → (g : Geometry) (now : Volumes)
         → HoldTrees g tm.old (D.state disk.old) root [] now
-        → device_of device now ≡ None → length now < 65536 → IsSome (device_of origin now) → in_use tm.new ≤ in_use tm.old + 3) }
+        → device_of device now ≡ None → devices_in now < 65536 → IsSome (device_of origin now) → in_use tm.new ≤ in_use tm.old + 3) }
 {
     let volume = named_again(tm, disk, root, origin)?;
     put_new(tm, disk, root, device, volume)
@@ -181,7 +181,7 @@ fn grow_below<D: Disk>(
         (λ P. IsTrue (D.state disk.old).is_honest → (g : Geometry) (now : Volumes) → HoldTrees g tm.old (D.state disk.old) root [] now → IsSome (device_of device now)
         → IsToldSize g size → ((old : ℕ) → size_of device now ≡ Some old → told_blocks g old ≤ told_blocks g size) → P g now)
         (λ top g now. HoldTrees g tm.new (D.state disk.new) top [] (resized device size now)) }
-    ensures used { IfOk result (λ top. IsTrue (D.state disk.old).is_honest → (g : Geometry) (now : Volumes)
+    ensures used { IfOk result (λ top. tm.old.held_root ≡ 0 → IsTrue (D.state disk.old).is_honest → (g : Geometry) (now : Volumes)
         → HoldTrees g tm.old (D.state disk.old) root [] now → IsSome (device_of device now)
         → IsToldSize g size → ((old : ℕ) → size_of device now ≡ Some old → told_blocks g old ≤ told_blocks g size) → in_use tm.new ≤ in_use tm.old + 1) }
 {
@@ -205,7 +205,7 @@ fn unmap_below<D: Disk>(
         (λ P. IsTrue (D.state disk.old).is_honest → (g : Geometry) (now : Volumes) → HoldTrees g tm.old (D.state disk.old) root [] now → IsSome (slot_of device block now)
         → P g now)
         (λ top g now. HoldTrees g tm.new (D.state disk.new) top [] (without_slot device block now)) }
-    ensures used { IfOk result (λ top. IsTrue (D.state disk.old).is_honest → (g : Geometry) (now : Volumes)
+    ensures used { IfOk result (λ top. tm.old.held_root ≡ 0 → IsTrue (D.state disk.old).is_honest → (g : Geometry) (now : Volumes)
         → HoldTrees g tm.old (D.state disk.old) root [] now
         → IsSome (slot_of device block now) → in_use tm.new ≤ in_use tm.old + 8) }
 {
@@ -245,7 +245,7 @@ impl TreeMapping {
         requires room { 24 ≤ free_metadata self.old.tm }
         ensures changed { ChangesTrees 8 self.old self.new (D.state disk.old) (D.state disk.new) result
             (λ P. IsTrue (D.state disk.old).is_honest → (now kept : Volumes) → StandForVolumes self.old (D.state disk.old) now kept → device_of device now ≡ None
-            → length now < 65536 → P now kept)
+            → devices_in now < 65536 → P now kept)
             (λ done now kept. StandForVolumes self.new (D.state disk.new) (with_device (record { id = device; size = 0; slots = [] }) now) kept) }
         ensures used { used_metadata self.new.tm ≤ used_metadata self.old.tm + 8 }
     {
@@ -265,10 +265,10 @@ impl TreeMapping {
         requires room { 24 ≤ free_metadata self.old.tm }
         ensures { ChangesTrees 8 self.old self.new (D.state disk.old) (D.state disk.new) result
             (λ P. IsTrue (D.state disk.old).is_honest → (now kept : Volumes) → StandForVolumes self.old (D.state disk.old) now kept → device_of device now ≡ None
-            → length now < 65536 → IsSome (device_of origin now) → P now kept)
+            → devices_in now < 65536 → IsSome (device_of origin now) → P now kept)
             (λ done now kept. ((slots : List BlockSlot) (size : ℕ) → device_of origin now ≡ Some slots → size_of origin now ≡ Some size
             → StandForVolumes self.new (D.state disk.new) (with_device (record { id = device; size = size; slots = slots }) now) kept)
-            × (used_metadata self.new.tm ≤ used_metadata self.old.tm + 3)) }
+            × (self.old.tm.held_root ≡ 0 → used_metadata self.new.tm ≤ used_metadata self.old.tm + 3)) }
     {
         let _ = self.tm.geometry();
         let root = self.device_root()?;
@@ -290,7 +290,7 @@ impl TreeMapping {
             → IsToldSize self.old.tm.geometry (told.size_for self.old.tm.geometry blocks)
             → ((size : ℕ) → size_of device now ≡ Some size → told_blocks self.old.tm.geometry size ≤ blocks) → P now kept)
             (λ done now kept. StandForVolumes self.new (D.state disk.new) (resized device (told.size_for self.old.tm.geometry blocks) now) kept
-            × (used_metadata self.new.tm ≤ used_metadata self.old.tm + 1)) }
+            × (self.old.tm.held_root ≡ 0 → used_metadata self.new.tm ≤ used_metadata self.old.tm + 1)) }
     {
         let geometry = self.tm.geometry();
         let size = size_for(&geometry, blocks);
@@ -310,7 +310,7 @@ impl TreeMapping {
         ensures { ChangesTrees 16 self.old self.new (D.state disk.old) (D.state disk.new) result
             (λ P. IsTrue (D.state disk.old).is_honest → (now kept : Volumes) → StandForVolumes self.old (D.state disk.old) now kept → IsSome (device_of device now) → P now kept)
             (λ done now kept. StandForVolumes self.new (D.state disk.new) (without_device device now) kept
-            × (used_metadata self.new.tm ≤ used_metadata self.old.tm)) }
+            × (self.old.tm.held_root ≡ 0 → used_metadata self.new.tm ≤ used_metadata self.old.tm)) }
     {
         let _ = self.tm.geometry();
         let root = self.device_root()?;
@@ -331,7 +331,7 @@ impl TreeMapping {
             (λ P. IsTrue (D.state disk.old).is_honest → (now kept : Volumes) → StandForVolumes self.old (D.state disk.old) now kept → IsSome (slot_of device block now)
             → P now kept)
             (λ done now kept. StandForVolumes self.new (D.state disk.new) (without_slot device block now) kept
-            × (used_metadata self.new.tm ≤ used_metadata self.old.tm + 8)) }
+            × (self.old.tm.held_root ≡ 0 → used_metadata self.new.tm ≤ used_metadata self.old.tm + 8)) }
     {
         let _ = self.tm.geometry();
         let root = self.device_root()?;
@@ -371,6 +371,7 @@ impl TreeMapping {
         ensures kept { (disk : DiskState) (now kept : Volumes) → StandForVolumes self.old disk now kept → StandForVolumes self.new disk now now }
         ensures geometry { self.new.tm.geometry ≡ self.old.tm.geometry }
         ensures counts { (self.new.tm.metadata_now ≡ self.old.tm.metadata_now) × (self.new.tm.metadata_kept ≡ self.old.tm.metadata_now) }
+        ensures held { self.new.tm.held_root ≡ self.old.tm.held_root }
         ensures room { free_metadata self.old.tm ≤ free_metadata self.new.tm }
     {
         let _ = self.tm.geometry();

@@ -33,6 +33,8 @@ impl Mapping for TreeMapping {
 
     ghost kept_data = { λ m. m.tm.data_kept };
 
+    ghost held_root = { λ m. m.tm.held_root };
+
     fn look_up<D: Disk>(
         &self,
         disk: &mut D,
@@ -50,8 +52,8 @@ impl Mapping for TreeMapping {
         places: &mut [Option<Mapped>],
     ) -> Result<bool, StoreError> {
         match self.volume_of(disk, device)? {
-            Some(volume) => {
-                places_at(&self.tm, disk, volume, first, places)?;
+            Some(there) => {
+                places_at(&self.tm, disk, there, first, places)?;
                 Ok(true)
             }
             None => {

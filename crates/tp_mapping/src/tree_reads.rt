@@ -6,10 +6,10 @@ ghost use Rattle.tp_model.specs.Geometry.{Geometry, sectors_of_image};
 ghost use Rattle.tp_model.specs.Told.{IsToldSize, told_blocks};
 ghost use Rattle.tp_counts.specs.LookUps.{IsLookedUp};
 ghost use Rattle.tp_model.specs.Disk.{DiskState};
-ghost use Rattle.tp_sharing.specs.Volumes.{Volumes, mapped_of, size_of, used};
+ghost use Rattle.tp_sharing.specs.Volumes.{Volumes, devices_in, mapped_of, size_of, used};
 ghost use Rattle.tp_tm.specs.Tm.{free_metadata};
 ghost use Rattle.tp_mapping.specs.Mapping.{IsFilled, IsHighest, IsLonger, IsTold, LooksUp, free_places, from_block, slots_of};
-ghost use Rattle.tp_mapping.specs.Held.{HasVolume};
+ghost use Rattle.tp_mapping.specs.Held.{HasThere, HasVolume};
 ghost use Rattle.tp_mapping.specs.Trees.{StandForVolumes};
 ghost use Rattle.tp_mapping.specs.Telling.{IsThere, NameBlocks, NamesBlocks, as_slot};
 
@@ -17,7 +17,7 @@ use crate::mapped::{Mapped, Slot};
 use crate::mapping::MOST_SLOTS;
 use crate::sizes::told_blocks;
 use crate::trees::TreeMapping;
-use crate::volume::{MOST_BLOCKS, Volume, data_block_of, volume_at};
+use crate::volume::{MOST_BLOCKS, There, Volume, data_block_of, volume_at};
 use arrayvec::ArrayVec;
 use tp_btree::{count, last, lookup, walk};
 use tp_counts::StoreError;
@@ -30,23 +30,23 @@ use tp_tm::Tm;
 fn place_at<D: Disk>(
     tm: &Tm,
     disk: &mut D,
-    volume: Volume,
+    there: There,
     block: Vb,
 ) -> Result<Option<Mapped>, StoreError>
     requires disk { sectors_of_image tm.now.geometry ≤ (D.state disk.old).size }
-    requires inside { volume.root < tm.now.geometry.metadata_blocks }
-    ensures looked { IsLookedUp (λ P. IsTrue (D.state disk.old).is_honest → (g : Geometry) (root : ℕ) (now : Volumes) (device : ℕ) → HasVolume g tm.now (D.state disk.old) root [] now device volume
+    requires inside { there.volume.root < tm.now.geometry.metadata_blocks }
+    ensures looked { IsLookedUp (λ P. IsTrue (D.state disk.old).is_honest → (g : Geometry) (root : ℕ) (now : Volumes) (device : ℕ) → HasThere g tm.now (D.state disk.old) root now device there
         → P device now) (D.state disk.old) (D.state disk.new) result (λ answer device now. IsTold device block now answer) }
     ensures inside { IfOk result (λ answer. IfSome answer (λ at. at.place < tm.now.geometry.data_blocks)) }
 {
     let key = block.number() as u64;
-    let Some(found) = lookup(tm, disk, TreeKind::Mapping, volume.root, key)? else {
+    let Some(found) = lookup(tm, disk, TreeKind::Mapping, there.volume.root, key)? else {
         return Ok(None);
     };
     let place = data_block_of(tm, found.entry.value)?;
     Ok(Some(Mapped {
         place,
-        is_shared: found.is_shared,
+        is_shared: there.is_shared | found.is_shared,
     }))
 }
 
@@ -146,11 +146,11 @@ impl TreeMapping {
         &self,
         disk: &mut D,
         device: DevId,
-    ) -> Result<Option<Volume>, StoreError>
+    ) -> Result<Option<There>, StoreError>
         requires disk { sectors_of_image self.now.tm.geometry ≤ (D.state disk.old).size }
         ensures looked { LooksUp (StandForVolumes self.now) (D.state disk.old) (D.state disk.new) result (λ answer now. IsThere self.now (D.state disk.new) now device answer) }
-        ensures inside { IfOk result (λ answer. IfSome answer (λ volume. volume.root < self.now.tm.geometry.metadata_blocks)) }
-        ensures told { IfOk result (λ answer. IfSome answer (λ volume. IsToldSize self.now.tm.geometry volume.size)) }
+        ensures inside { IfOk result (λ answer. IfSome answer (λ there. there.volume.root < self.now.tm.geometry.metadata_blocks)) }
+        ensures told { IfOk result (λ answer. IfSome answer (λ there. IsToldSize self.now.tm.geometry there.volume.size)) }
     {
         let root = self.device_root()?;
         volume_at(&self.tm, disk, root, device)
@@ -167,7 +167,7 @@ impl TreeMapping {
         ensures inside { IfOk result (λ answer. IfSome answer (λ at. at.place < self.now.tm.geometry.data_blocks)) }
     {
         match self.volume_of(disk, device)? {
-            Some(volume) => place_at(&self.tm, disk, volume, block),
+            Some(there) => place_at(&self.tm, disk, there, block),
             None => Ok(None),
         }
     }
@@ -181,7 +181,7 @@ impl TreeMapping {
         ensures { LooksUp (StandForVolumes self.now) (D.state disk.old) (D.state disk.new) result (λ answer now. answer ≡ mapped_of device now) }
     {
         match self.volume_of(disk, device)? {
-            Some(volume) => Ok(Some(volume.mapped)),
+            Some(there) => Ok(Some(there.volume.mapped)),
             None => Ok(None),
         }
     }
@@ -198,7 +198,7 @@ impl TreeMapping {
         let geometry = self.tm.geometry();
         let _ = geometry.virtual_blocks();
         match self.volume_of(disk, device)? {
-            Some(volume) => Ok(Some(told_blocks(&geometry, volume.size))),
+            Some(there) => Ok(Some(told_blocks(&geometry, there.volume.size))),
             None => Ok(None),
         }
     }
@@ -226,7 +226,7 @@ impl TreeMapping {
 
     pub(crate) fn count_devices<D: Disk>(&self, disk: &mut D) -> Result<u32, StoreError>
         requires disk { sectors_of_image self.now.tm.geometry ≤ (D.state disk.old).size }
-        ensures { LooksUp (StandForVolumes self.now) (D.state disk.old) (D.state disk.new) result (λ answer now. answer ≡ length now) }
+        ensures { LooksUp (StandForVolumes self.now) (D.state disk.old) (D.state disk.new) result (λ answer now. answer ≡ devices_in now) }
     {
         let root = self.device_root()?;
         let number = count(&self.tm, disk, TreeKind::Device, root)?;
@@ -242,7 +242,7 @@ impl TreeMapping {
         ensures { LooksUp (StandForVolumes self.now) (D.state disk.old) (D.state disk.new) result (λ answer now. IsHighest device now answer) }
     {
         match self.volume_of(disk, device)? {
-            Some(volume) => last_block(&self.tm, disk, volume),
+            Some(there) => last_block(&self.tm, disk, there.volume),
             None => Ok(None),
         }
     }
@@ -260,7 +260,7 @@ impl TreeMapping {
     {
         let _ = slots.len();
         match self.volume_of(disk, device)? {
-            Some(volume) => walk_from(&self.tm, disk, volume, from, slots),
+            Some(there) => walk_from(&self.tm, disk, there.volume, from, slots),
             None => Ok(()),
         }
     }

@@ -18,7 +18,7 @@ ghost use Rattle.tp_tm.specs.Tm.{free_metadata};
 ghost use Rattle.tp_tm.specs.Holds.{Holds};
 ghost use Rattle.tp_btree.specs.Roots.{Passed};
 ghost use Rattle.tp_btree.specs.Inserts.{Ran};
-ghost use Rattle.tp_mapping.specs.Held.{HasVolume, HoldBeside, HoldTrees, HoldVolume, HoldsSlots, Slotted, TellsVolume, entry_of, in_use, slot_at};
+ghost use Rattle.tp_mapping.specs.Held.{HasVolume, HoldBeside, HoldTrees, HoldVolume, HoldsRoot, HoldsSlots, Slotted, TellsVolume, entry_of, in_use, slot_at};
 
 use tp_btree::{block_of, empty, insert, lookup, remove, replace, share};
 use tp_counts::StoreError;
@@ -33,6 +33,14 @@ pub(crate) struct Volume {
     pub(crate) root: Mb,
     pub(crate) mapped: u32,
     pub(crate) size: u32,
+}
+
+/// A volume that an entry of the device tree names, and whether a node on the path to that entry is named more than once: then another root
+/// leads to the volume too.
+#[derive(Clone, Copy)]
+pub(crate) struct There {
+    pub(crate) volume: Volume,
+    pub(crate) is_shared: bool,
 }
 
 /// More virtual blocks than this are in no volume: they have 24 bits.
@@ -71,26 +79,30 @@ pub(crate) fn volume_in(tm: &Tm, entry: Entry) -> Result<Volume, StoreError>
     })
 }
 
-/// What the device tree below a root tells of a device. `None` where there is no such device.
+/// What the device tree below a root, which may be that of a held copy, tells of a device. `None` where there is no such device.
 pub(crate) fn volume_at<D: Disk>(
     tm: &Tm,
     disk: &mut D,
     root: Mb,
     device: DevId,
-) -> Result<Option<Volume>, StoreError>
+) -> Result<Option<There>, StoreError>
     requires disk { sectors_of_image tm.now.geometry ≤ (D.state disk.old).size }
     requires inside { root < tm.now.geometry.metadata_blocks }
-    ensures looked { IsLookedUp (λ P. IsTrue (D.state disk.old).is_honest → (g : Geometry) (more : List ℕ) (now : Volumes) → (h : HoldTrees g tm.now (D.state disk.old) root more now)
-        → P now h.store) (D.state disk.old) (D.state disk.new) result (λ answer now s. TellsVolume device s root answer) }
-    ensures inside { IfOk result (λ answer. IfSome answer (λ volume. volume.root < tm.now.geometry.metadata_blocks)) }
-    ensures few { IfOk result (λ answer. IfSome answer (λ volume. volume.mapped ≤ 2 ^ 24)) }
-    ensures told { IfOk result (λ answer. IfSome answer (λ volume. IsToldSize tm.now.geometry volume.size)) }
+    ensures looked { IsLookedUp (λ P. IsTrue (D.state disk.old).is_honest → (g : Geometry) (refs : List ℕ) (s : Store) → HoldsRoot g tm.now (D.state disk.old) refs root s
+        → P refs s) (D.state disk.old) (D.state disk.new) result (λ answer refs s. TellsVolume device s root answer) }
+    ensures inside { IfOk result (λ answer. IfSome answer (λ there. there.volume.root < tm.now.geometry.metadata_blocks)) }
+    ensures few { IfOk result (λ answer. IfSome answer (λ there. there.volume.mapped ≤ 2 ^ 24)) }
+    ensures told { IfOk result (λ answer. IfSome answer (λ there. IsToldSize tm.now.geometry there.volume.size)) }
 {
     let key = device.number() as u64;
     let Some(found) = lookup(tm, disk, TreeKind::Device, root, key)? else {
         return Ok(None);
     };
-    Ok(Some(volume_in(tm, found.entry)?))
+    let volume = volume_in(tm, found.entry)?;
+    Ok(Some(There {
+        volume,
+        is_shared: found.is_shared,
+    }))
 }
 
 /// The volume of a device. `Damaged` where there is no such device.
@@ -111,7 +123,7 @@ pub(crate) fn known_at<D: Disk>(
     ensures state { D.state disk.new ≡ after_read (not (is_fault result)) (D.state disk.old) }
 {
     match volume_at(tm, disk, root, device)? {
-        Some(volume) => Ok(volume),
+        Some(there) => Ok(there.volume),
         None => Err(StoreError::Damaged),
     }
 }
@@ -173,7 +185,7 @@ pub(crate) fn with_size(volume: Volume, size: u32) -> Volume
 fn name_root(tm: &mut Tm, block: Mb) -> Result<(), StoreError>
     requires inside { block < tm.old.geometry.metadata_blocks }
     ensures named { OnOk result ((disk : DiskState) (g : Geometry) (root : ℕ) (more : List ℕ) (now : Volumes) (device mapped size : ℕ) → length more ≤ 8
-        → (h : HasVolume g tm.old disk root more now device (record { root = block; mapped = mapped; size = size })) → Passed h.trees.store tm.new disk [] (block ∷ (more ++ held_by g root))) }
+        → (h : HasVolume g tm.old disk root more now device (record { root = block; mapped = mapped; size = size })) → Passed h.trees.store tm.new disk [] (block ∷ (more ++ held_by g root tm.old.held_root))) }
     ensures damaged { result ≡ Err StoreError.Damaged → (disk : DiskState) (g : Geometry) (root : ℕ) (more : List ℕ) (now : Volumes) (device mapped size : ℕ) → length more ≤ 8
         → HasVolume g tm.old disk root more now device (record { root = block; mapped = mapped; size = size }) → ⊥ }
     ensures used { OnOk result ((disk : DiskState) (g : Geometry) (root : ℕ) (more : List ℕ) (now : Volumes) (device mapped size : ℕ)

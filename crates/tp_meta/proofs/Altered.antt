@@ -1,18 +1,18 @@
 -- What a change of the trees makes of metadata that stand.
-use Rattle.std.proofs.Common.{◌≡◌, ◌⊎◌, inl, inr, ℕ, zero, suc, ◌+◌, ◌<◌, Bool, true, false, None, Some, Option, List, [], ◌∷◌, length, take, get_or, set, refl, sym, ap, subst, ◌∙◌, arith}
-use Rattle.std.specs.Prelude.{IfSome, IsSome, IsTrue}
+use Rattle.std.proofs.Common.{◌≡◌, ◌⊎◌, inl, inr, ℕ, zero, suc, ◌+◌, ◌<◌, ◌≤◌, ◌==◌, Bool, true, false, None, Some, Option, List, [], ◌∷◌, ◌++◌, map, replicate, length, take, get_or, set, refl, sym, ap, subst, ◌∙◌, arith}
+use Rattle.std.specs.Prelude.{IfSome, IsSome, IsTrue, if◌then◌else◌}
 use Rattle.std.specs.Option.{option_map, option_map_or}
-use Rattle.std.proofs.lemmas.Bool.{cases_eq, cases_lt, false≢true}
+use Rattle.std.proofs.lemmas.Bool.{cases_eq, cases_lt, eq-eqb, false≢true, ne_eqb}
 use Rattle.std.proofs.lemmas.Option.{none-some}
-use Rattle.std.proofs.lemmas.List.{get_or_past, get_or-set_same, get_or-set_other, length-set}
+use Rattle.std.proofs.lemmas.List.{get_or-replicate, get_or_past, get_or-set_same, get_or-set_other, length-set}
 use Rattle.tp_model.specs.Geometry.{Geometry}
 use Rattle.tp_model.specs.Disk.{DiskState, seen}
 use Rattle.tp_model.proofs.DiskStopLaws.{AfterStop-seen}
 use Rattle.tp_layout.specs.declared.superblock.Superblock.{Superblock}
-use Rattle.tp_sharing.specs.Volumes.{BlockSlot, DeviceSlots, Volumes, device_of, place_in, place_or_none, resized, size_of, slot_of, with_device, with_slot, without_device, without_slot}
+use Rattle.tp_sharing.specs.Volumes.{BlockSlot, DeviceSlots, Volumes, as_copy, device_of, devices_in, place_in, place_or_none, resized, size_of, slot_of, with_device, with_slot, without_device, without_slot}
 use Rattle.tp_sharing.proofs.Changes.{device_changes, slot_changes}
 use Rattle.tp_sharing.proofs.Sized.{resized_devices}
-use Rattle.tp_sharing.proofs.Slots.{place_here, place_later}
+use Rattle.tp_sharing.proofs.Slots.{device_here, device_later, place_here, place_later}
 use Rattle.tp_stored.specs.Commit.{IsCommit}
 use Rattle.tp_stored.specs.Contents.{Contents, contents_of}
 use Rattle.tp_tm.specs.Tm.{Tm, used_metadata}
@@ -88,7 +88,37 @@ pub lost_is : (id block : ℕ) (volumes : Volumes) (o : Option Mapped) → told.
 lost_is id block volumes None none = sym none
 lost_is id block volumes (Some at) here = sym here.0
 
+-- ---- uses
+
+-- as many metadata blocks at most are in use where no root is held, and else n more
+pub few_more : (held n before after : ℕ) → (held ≡ 0 → after ≤ before) → after ≤ before + n → after ≤ before + (if held == 0 then 0 else n)
+few_more held n before after none most =
+    elim (cases_eq held 0) [
+      | inl e ↦
+          let few = none e in
+          let z : (if held == 0 then 0 else n) ≡ 0 = ap {B = ℕ} (λ b. if b then 0 else n) (eq-eqb held 0 e) in
+          omega (arith, few, z)
+      | inr differ ↦
+          let z : (if held == 0 then 0 else n) ≡ n = ap {B = ℕ} (λ b. if b then 0 else n) (ne_eqb held 0 differ) in
+          omega (arith, most, z)
+    ]
+
 -- ---- slots
+
+-- a device of the first of two lists is one of both
+device_in_front : (id : ℕ) (xs : List BlockSlot) (ds es : Volumes) → device_of id ds ≡ Some xs → device_of id (ds ++ es) ≡ Some xs
+device_in_front id xs [] es h = absurd (none-some xs h)
+device_in_front id xs (d ∷ ds) es h =
+    elim (cases_eq d.id id) [
+      | inl e ↦ device_here id d (ds ++ es) e ∙ (sym (device_here id d ds e) ∙ h)
+      | inr n ↦ device_later id d (ds ++ es) n ∙ device_in_front id xs ds es (sym (device_later id d ds n) ∙ h)
+    ]
+
+slot_in_front : (id block place : ℕ) (ds es : Volumes) → slot_of id block ds ≡ Some place → slot_of id block (ds ++ es) ≡ Some place
+slot_in_front id block place ds es h = go (device_of id ds) refl where
+  go : (o : Option (List BlockSlot)) → device_of id ds ≡ o → slot_of id block (ds ++ es) ≡ Some place
+  go None e = absurd (none-some place (sym (ap (place_or_none block) e) ∙ h))
+  go (Some xs) e = ap (place_or_none block) (device_in_front id xs ds es e) ∙ (sym (ap (place_or_none block) e) ∙ h)
 
 differ_by : (id block other at : ℕ) → ((other ≡ id) × (at ≡ block)) ⊎ (((other ≡ id) × (at ≡ block)) → ⊥)
 differ_by id block other at =
@@ -118,19 +148,20 @@ module _ (m : Meta) (disk : DiskState) (now kept : Contents) (st : StandsFor m d
       (subst (λ (c : Contents). IsChanging m.last.geometry c disk after) (sym st.kept_contents)
       (changing t m.last st.commit disk after st.left long st.kept_counts run))
 
-  -- the trees stand for other volumes, with these marks
-  pub altered_to : (new : Meta) (after : DiskState) (volumes : Volumes) (marks : List Bool) → StandForVolumes new.mapping after volumes kept.volumes
-      → IfSome new.devices (λ n. n ≡ length volumes)
+  -- the trees stand for other volumes, with these marks, and this root is held
+  pub altered_held : (new : Meta) (after : DiskState) (volumes : Volumes) (held : ℕ) (marks : List Bool) → StandForVolumes new.mapping after volumes kept.volumes
+      → new.mapping.tm.held_root ≡ held → IfSome new.devices (λ n. n ≡ devices_in volumes)
       → IsTrue after.is_honest → new.mapping.tm.geometry ≡ t.geometry
       → new.mapping.tm.metadata_kept ≡ t.metadata_kept → new.mapping.tm.data_kept ≡ t.data_kept → new.stale.value ≡ m.stale.value → LeavesKept t.metadata_kept disk after → new.last ≡ m.last
       → new.transaction_id ≡ m.transaction_id → new.needs_check ≡ m.needs_check → new.is_changed ≡ true
       → new.marks ≡ marks → length marks ≡ length m.marks → IsTracked volumes kept.volumes marks
       → length new.mapping.tm.metadata_now ≡ new.mapping.tm.geometry.metadata_blocks
-      → StandsFor new after (record now { volumes = volumes; meta_used = used_metadata new.mapping.tm }) kept
-  altered_to new after volumes marks mapping numbered honest geometry counts others stale run last transaction_id needs_check changed is as_many tracked sized = record {
+      → StandsFor new after (record now { volumes = volumes; held_root = held; meta_used = used_metadata new.mapping.tm }) kept
+  altered_held new after volumes held marks mapping copy numbered honest geometry counts others stale run last transaction_id needs_check changed is as_many tracked sized = record {
     sized = sized;
     honest = honest;
     mapping = mapping;
+    held_root = copy;
     numbered = numbered;
     transaction_id = transaction_id ∙ st.transaction_id;
     needs_check = needs_check ∙ st.needs_check;
@@ -152,17 +183,28 @@ module _ (m : Meta) (disk : DiskState) (now kept : Contents) (st : StandsFor m d
     same_counts = λ not_changed. absurd (false≢true (sym not_changed ∙ changed));
   }
 
+  -- the same where the held root stays
+  pub altered_to : (new : Meta) (after : DiskState) (volumes : Volumes) (marks : List Bool) → StandForVolumes new.mapping after volumes kept.volumes
+      → new.mapping.tm.held_root ≡ t.held_root → IfSome new.devices (λ n. n ≡ devices_in volumes)
+      → IsTrue after.is_honest → new.mapping.tm.geometry ≡ t.geometry
+      → new.mapping.tm.metadata_kept ≡ t.metadata_kept → new.mapping.tm.data_kept ≡ t.data_kept → new.stale.value ≡ m.stale.value → LeavesKept t.metadata_kept disk after → new.last ≡ m.last
+      → new.transaction_id ≡ m.transaction_id → new.needs_check ≡ m.needs_check → new.is_changed ≡ true
+      → new.marks ≡ marks → length marks ≡ length m.marks → IsTracked volumes kept.volumes marks
+      → length new.mapping.tm.metadata_now ≡ new.mapping.tm.geometry.metadata_blocks
+      → StandsFor new after (record now { volumes = volumes; meta_used = used_metadata new.mapping.tm }) kept
+  altered_to new after volumes marks mapping same_held = altered_held new after volumes now.held_root marks mapping (same_held ∙ st.held_root)
+
   -- the same where one slot at most lost its data block
   pub altered : (new : Meta) (after : DiskState) (volumes : Volumes) (was : Option ℕ) → StandForVolumes new.mapping after volumes kept.volumes
-      → IfSome new.devices (λ n. n ≡ length volumes)
+      → new.mapping.tm.held_root ≡ t.held_root → IfSome new.devices (λ n. n ≡ devices_in volumes)
       → IsTrue after.is_honest → new.mapping.tm.geometry ≡ t.geometry
       → new.mapping.tm.metadata_kept ≡ t.metadata_kept → new.mapping.tm.data_kept ≡ t.data_kept → new.stale.value ≡ m.stale.value → LeavesKept t.metadata_kept disk after → new.last ≡ m.last
       → new.transaction_id ≡ m.transaction_id → new.needs_check ≡ m.needs_check → new.is_changed ≡ true
       → new.marks ≡ marked was m.marks → IsTracked volumes kept.volumes (marked was m.marks)
       → length new.mapping.tm.metadata_now ≡ new.mapping.tm.geometry.metadata_blocks
       → StandsFor new after (record now { volumes = volumes; meta_used = used_metadata new.mapping.tm }) kept
-  altered new after volumes was mapping numbered honest geometry counts others stale run last transaction_id needs_check changed marks tracked sized =
-      altered_to new after volumes (marked was m.marks) mapping numbered honest geometry counts others stale run last transaction_id needs_check changed marks
+  altered new after volumes was mapping same_held numbered honest geometry counts others stale run last transaction_id needs_check changed marks tracked sized =
+      altered_to new after volumes (marked was m.marks) mapping same_held numbered honest geometry counts others stale run last transaction_id needs_check changed marks
       (length-marked was m.marks) tracked sized
 
   -- the marks after it
@@ -253,6 +295,25 @@ module _ (m : Meta) (disk : DiskState) (now kept : Contents) (st : StandsFor m d
         ]
         | inr hot ↦ inr (still_hot_all lost m.marks p hot)
       ]
+
+  -- the copies of all volumes stand behind them
+  pub tracked_copied : IsTracked (now.volumes ++ map as_copy now.volumes) kept.volumes m.marks
+  tracked_copied other at p h =
+      elim (st.tracked other at p h) [
+        | inl e ↦ inl (slot_in_front other at p now.volumes (map as_copy now.volumes) e)
+        | inr hot ↦ inr hot
+      ]
+
+  -- each data block is marked
+  pub tracked_all : (volumes : Volumes) → IsTracked volumes kept.volumes (replicate (length m.marks) true)
+  tracked_all volumes other at p h =
+      let inside : p < length m.marks = omega (arith, (st.mapping.within.volumes_kept.slots other at p h).1, st.marks_long) in
+      inr (get_or-replicate (length m.marks) p true false inside)
+
+  -- the marks after it
+  pub marks_all : (new : Meta) (after : DiskState) (contents : Contents) → StandsFor new after contents kept → new.marks ≡ replicate (length m.marks) true
+      → marks_of new ≡ replicate t.geometry.data_blocks true
+  marks_all new after contents stands marks = marks_are new after contents kept stands ∙ marks ∙ ap (λ n. replicate {A = Bool} n true) st.marks_long
 
   pub as_many_marks : (xs : List BlockSlot) → length (marked_all xs m.marks) ≡ length m.marks
   as_many_marks xs = length-marked_all xs m.marks

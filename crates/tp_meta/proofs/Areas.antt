@@ -153,7 +153,7 @@ named_fixed t last kept image was is same b low =
     let g = last.geometry in
     let fixed : b < fixed_part g = subst (λ (k : Geometry). b < fixed_part k) same low in
     let inside : b < g.metadata_blocks = omega (arith, fixed, was.sound.limits.metadata_least) in
-    omega (arith, ap (λ (l : List ℕ). get_or l b 0) is ∙ get_or-take g.metadata_blocks kept.counts b 0 inside, fixed_live g last.root kept was.sound b fixed)
+    omega (arith, ap (λ (l : List ℕ). get_or l b 0) is ∙ get_or-take g.metadata_blocks kept.counts b 0 inside, fixed_live g last.root last.held_root kept was.sound b fixed)
 
 -- nothing is changed that they name
 pub kept_area : (t : Tm) (area : SlotId) (before image : List Sector) → NameFixed t → SameKept t.metadata_kept before image → SameArea t.geometry area before image

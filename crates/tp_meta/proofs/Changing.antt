@@ -14,13 +14,13 @@ use Rattle.tp_tm.specs.Tm.{Tm}
 use Rattle.tp_tm.specs.Keeps.{LeavesKept}
 use Rattle.tp_meta.specs.Committing.{IsNextCommit, IsStillCommit, KeepsCounts}
 use Rattle.tp_meta.specs.Metadata.{IsChanging, IsCommitting}
-use Rattle.tp_meta.proofs.Commits.{data_kept, same_forest}
+use Rattle.tp_meta.proofs.Commits.{data_kept, same_lists}
 use Rattle.tp_meta.proofs.Kept.{still_leaves, still_nodes}
 
-pub committed_contents : (next : Superblock) (s : Store) → IsSound next.geometry next.root s → contents_of next s ≡ contents_of next (committed s)
+pub committed_contents : (next : Superblock) (s : Store) → IsSound next.geometry next.root next.held_root s → contents_of next s ≡ contents_of next (committed s)
 committed_contents next s sound =
-    ap (λ (v : Volumes). record { volumes = v; transaction_id = next.transaction_id; needs_check = next.needs_check; meta_used = use_of next.geometry s })
-    (sym ((same_forest next.geometry next.root s sound).lists next.geometry.metadata_blocks))
+    ap (λ (v : Volumes). record { volumes = v; transaction_id = next.transaction_id; needs_check = next.needs_check; meta_used = use_of next.geometry s; held_root = next.held_root })
+    (sym (same_lists next.geometry next.root next.held_root s sound next.geometry.metadata_blocks))
 
 module _ (t : Tm) (last : Superblock) (kept : Store) (old new : DiskState) (was : Leaves (λ image. IsCommit image last kept) old.cells) (long : length t.metadata_kept ≡ last.geometry.metadata_blocks)
     (is : KeepsCounts t last kept) (run : LeavesKept t.metadata_kept old new) where
@@ -35,7 +35,7 @@ module _ (t : Tm) (last : Superblock) (kept : Store) (old new : DiskState) (was 
     same_data = data_kept last.geometry t.metadata_kept (seen old.cells) (seen new.cells) long run.reads;
   }
 
-pub committing : (last next : Superblock) (kept s : Store) (old new : DiskState) → next.geometry ≡ last.geometry → IsSound next.geometry next.root s
+pub committing : (last next : Superblock) (kept s : Store) (old new : DiskState) → next.geometry ≡ last.geometry → IsSound next.geometry next.root next.held_root s
     → LeavesOnly old new (λ image. IsStillCommit last kept old.cells image ⊎ IsNextCommit next s old.cells image)
     → SameData last.geometry (seen old.cells) (seen new.cells) → IsCommitting last.geometry (contents_of next s) (contents_of last kept) old new
 committing last next kept s old new same sound run others = record { any_moment = weakens {Q = Left} each run; same_data = others }

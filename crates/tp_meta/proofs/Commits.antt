@@ -1,5 +1,5 @@
 -- What keeps the image of a commit.
-use Rattle.std.proofs.Common.{◌≡◌, ◌⊎◌, inr, ⊎_elim, ℕ, zero, suc, ◌+◌, ◌-◌, ◌*◌, ◌<◌, ◌≤◌, List, length, get_or, refl, sym, ap, subst, ◌∙◌, arith}
+use Rattle.std.proofs.Common.{◌≡◌, ◌⊎◌, inl, inr, ⊎_elim, ℕ, zero, suc, ◌+◌, ◌-◌, ◌*◌, ◌<◌, ◌≤◌, List, ◌++◌, length, get_or, refl, sym, ap, subst, ◌∙◌, arith}
 use Rattle.std.specs.Prelude.{Result, Ok, ◌%◌, ◌^◌}
 use Rattle.std.proofs.lemmas.Bool.{cases_lt}
 use Rattle.std.proofs.lemmas.List.{get_or-take, get_or_past}
@@ -22,10 +22,13 @@ use Rattle.tp_super.proofs.Choice.{SlotIs-same}
 use Rattle.tp_refs.specs.Store.{Node, Store, committed, count_of, no_node, node_at}
 use Rattle.tp_refs.specs.Balance.{SameBelow}
 use Rattle.tp_refs.proofs.Moves.{kept_changed}
+use Rattle.tp_refs.proofs.Steps.{occurrences-append}
 use Rattle.tp_trees.proofs.Trees.{tree_rank}
+use Rattle.tp_sharing.specs.Forest.{Forest, HeldForest, held_refs}
 use Rattle.tp_sharing.specs.Later.{SameForest}
+use Rattle.tp_sharing.proofs.Held.{held_stays}
 use Rattle.tp_sharing.proofs.Later.{forest_stays}
-use Rattle.tp_sharing.specs.Volumes.{AreSized, Volumes, volumes_below}
+use Rattle.tp_sharing.specs.Volumes.{AreSized, Volumes, copies_below, volumes_of}
 use Rattle.tp_stored.specs.Commit.{IsCommit, IsOfVersion, IsSound, NodesStand, counts_of_part, fixed_blocks, held_by, use_of}
 use Rattle.tp_stored.specs.Contents.{SameData}
 use Rattle.tp_stored.proofs.Ranges.{in_range}
@@ -37,24 +40,33 @@ use Rattle.tp_meta.specs.Opening.{HasCounts}
 
 -- ---- the blocks of sound trees
 
-pub bare : (g : Geometry) (root : ℕ) (s : Store) → IsSound g root s → (b : ℕ) → b < fixed_part g → (node_at s b).rank ≡ 0
-bare g root s sound b h = sound.forest.bare b (omega (arith, in_range b 0 (fixed_part g) (omega arith) (omega (arith, h))))
+pub bare : (g : Geometry) (root held : ℕ) (s : Store) → IsSound g root held s → (b : ℕ) → b < fixed_part g → (node_at s b).rank ≡ 0
+bare g root held s sound b h = sound.forest.bare b (omega (arith, in_range b 0 (fixed_part g) (omega arith) (omega (arith, h))))
 
-behind_fixed : (g : Geometry) (root : ℕ) (s : Store) → IsSound g root s → (b : ℕ) → 0 < (node_at s b).rank → fixed_part g ≤ b
-behind_fixed g root s sound b ranked = ⊎_elim (λ lt. absurd (omega (arith, ranked, bare g root s sound b lt))) (λ past. past) (cases_lt b (fixed_part g))
+behind_fixed : (g : Geometry) (root held : ℕ) (s : Store) → IsSound g root held s → (b : ℕ) → 0 < (node_at s b).rank → fixed_part g ≤ b
+behind_fixed g root held s sound b ranked = ⊎_elim (λ lt. absurd (omega (arith, ranked, bare g root held s sound b lt))) (λ past. past) (cases_lt b (fixed_part g))
 
 inside_nodes : (s : Store) (b : ℕ) → 0 < (node_at s b).rank → b < length s.nodes
 inside_nodes s b ranked =
     ⊎_elim (λ lt. lt) (λ past. absurd (omega (arith, ranked, ap (λ (n : Node). n.rank) (get_or_past s.nodes b no_node past)))) (cases_lt b (length s.nodes))
 
-pub root_inside : (g : Geometry) (root : ℕ) (s : Store) → IsSound g root s → IsTreeBlock g root
-root_inside g root s sound =
-    let devices = sound.forest.devices in
-    let ranked : 0 < (node_at s root).rank = omega (arith, tree_rank 5 ((node_at s root).rank - 5) s 0 _ root devices.tree) in
-    (behind_fixed g root s sound root ranked, omega (arith, inside_nodes s root ranked, sound.sized))
+tree_block : (g : Geometry) (root held : ℕ) (s : Store) → IsSound g root held s → (b : ℕ) → Forest s b (fixed_blocks g) (2 ^ 24) → IsTreeBlock g b
+tree_block g root held s sound b f =
+    let ranked : 0 < (node_at s b).rank = omega (arith, tree_rank 5 ((node_at s b).rank - 5) s 0 _ b f.devices.tree) in
+    (behind_fixed g root held s sound b ranked, omega (arith, inside_nodes s b ranked, sound.sized))
 
-pub fixed_live : (g : Geometry) (root : ℕ) (s : Store) → IsSound g root s → (b : ℕ) → b < fixed_part g → 0 < count_of s b
-fixed_live g root s sound b h = omega (arith, sound.balanced.true b, in_range b 0 (fixed_part g) (omega arith) (omega (arith, h)))
+pub root_inside : (g : Geometry) (root held : ℕ) (s : Store) → IsSound g root held s → IsTreeBlock g root
+root_inside g root held s sound = tree_block g root held s sound root sound.forest
+
+-- so is that of a held copy
+pub held_inside : (g : Geometry) (root held : ℕ) (s : Store) → IsSound g root held s → (held ≡ 0) ⊎ IsTreeBlock g held
+held_inside g root held s sound = go held sound.copy where
+  go : (n : ℕ) → HeldForest s n (fixed_blocks g) (2 ^ 24) → (n ≡ 0) ⊎ IsTreeBlock g n
+  go zero f = inl refl
+  go (suc n) f = inr (tree_block g root held s sound (suc n) f)
+
+pub fixed_live : (g : Geometry) (root held : ℕ) (s : Store) → IsSound g root held s → (b : ℕ) → b < fixed_part g → 0 < count_of s b
+fixed_live g root held s sound b h = omega (arith, sound.balanced.true b, occurrences-append b (held_refs held) (fixed_blocks g), in_range b 0 (fixed_part g) (omega arith) (omega (arith, h)))
 
 -- ---- a store whose commit was kept
 
@@ -62,20 +74,30 @@ same_below : (s : Store) (k b : ℕ) → SameBelow k s (committed s) b
 same_below s zero b = refl
 same_below s (suc k) b = (refl, λ c named. same_below s k c)
 
-pub same_forest : (g : Geometry) (root : ℕ) (s : Store) → IsSound g root s → SameForest s (committed s) root (fixed_blocks g) (2 ^ 24)
-same_forest g root s sound = forest_stays s (committed s) root (fixed_blocks g) (2 ^ 24) sound.forest refl (λ r k held. same_below s k r)
+pub same_forest : (g : Geometry) (root held : ℕ) (s : Store) → IsSound g root held s → SameForest s (committed s) root (fixed_blocks g) (2 ^ 24)
+same_forest g root held s sound = forest_stays s (committed s) root (fixed_blocks g) (2 ^ 24) sound.forest refl (λ r k held. same_below s k r)
 
-pub sound_committed : (g : Geometry) (root : ℕ) (s : Store) → IsSound g root s → IsSound g root (committed s)
-sound_committed g root s sound =
-    let f = same_forest g root s sound in
+same_copy : (g : Geometry) (root held : ℕ) (s : Store) → IsSound g root held s
+    → HeldForest (committed s) held (fixed_blocks g) (2 ^ 24) × ((m : ℕ) → copies_below m (committed s) held ≡ copies_below m s held)
+same_copy g root held s sound = held_stays s (committed s) held (fixed_blocks g) (2 ^ 24) sound.copy refl (λ r k named. same_below s k r)
+
+pub same_lists : (g : Geometry) (root held : ℕ) (s : Store) → IsSound g root held s → (m : ℕ) → volumes_of m (committed s) root held ≡ volumes_of m s root held
+same_lists g root held s sound m = λ i. (same_forest g root held s sound).lists m i ++ (same_copy g root held s sound).1 m i
+
+pub sound_committed : (g : Geometry) (root held : ℕ) (s : Store) → IsSound g root held s → IsSound g root held (committed s)
+sound_committed g root held s sound =
+    let f = same_forest g root held s sound in
+    let c = same_copy g root held s sound in
     record {
       limits = sound.limits;
       sized = sound.sized;
       counted = sound.counted;
-      balanced = kept_changed s (committed s) (held_by g root) refl refl refl sound.balanced;
+      balanced = kept_changed s (committed s) (held_by g root held) refl refl refl sound.balanced;
       forest = f.forest;
-      sizes = subst (λ (ds : Volumes). AreSized g ds) (sym (f.lists g.metadata_blocks)) sound.sizes;
+      copy = c.0;
+      sizes = subst (λ (ds : Volumes). AreSized g ds) (sym (same_lists g root held s sound g.metadata_blocks)) sound.sizes;
       few = omega (arith, ap length f.devices, sound.few);
+      few_held = omega (arith, ap length (c.1 g.metadata_blocks), sound.few_held);
     }
 
 -- ---- all that an image has of a commit, but the superblock
@@ -100,13 +122,13 @@ commit_same before image superblock s was chosen has = record {
   spare = was.spare;
 }
 
-pub next_commit : (image : List Sector) (next : Superblock) (s : Store) → IsSound next.geometry next.root s → IsOfVersion next.version (volumes_below next.geometry.metadata_blocks s next.root) → use_of next.geometry s + 128 ≤ next.geometry.metadata_blocks
+pub next_commit : (image : List Sector) (next : Superblock) (s : Store) → IsSound next.geometry next.root next.held_root s → IsOfVersion next.version (volumes_of next.geometry.metadata_blocks s next.root next.held_root) → use_of next.geometry s + 128 ≤ next.geometry.metadata_blocks
     → Chooses image (Ok next) → IsStored image next s → IsCommit image next (committed s)
 next_commit image next s sound of_version spare chosen has = record {
   chosen = chosen;
   whole = has.whole;
-  sound = sound_committed next.geometry next.root s sound;
-  of_version = subst (λ (ds : Volumes). IsOfVersion next.version ds) (sym ((same_forest next.geometry next.root s sound).lists next.geometry.metadata_blocks)) of_version;
+  sound = sound_committed next.geometry next.root next.held_root s sound;
+  of_version = subst (λ (ds : Volumes). IsOfVersion next.version ds) (sym (same_lists next.geometry next.root next.held_root s sound next.geometry.metadata_blocks)) of_version;
   kept = refl;
   counts = has.counts;
   nodes = has.nodes;
@@ -127,7 +149,7 @@ chooses_same before image choice long zeroth eighth was = record {
 }
 
 -- sectors of the fixed part are changed that lie apart from the superblock's area
-stored_outside : (from m : ℕ) (before image : List Sector) (superblock : Superblock) (s : Store) → IsSound superblock.geometry superblock.root s → SameOutside from m before image
+stored_outside : (from m : ℕ) (before image : List Sector) (superblock : Superblock) (s : Store) → IsSound superblock.geometry superblock.root superblock.held_root s → SameOutside from m before image
     → from + m ≤ 8 * fixed_part superblock.geometry
     → ((part : Part) (area : SlotId) → slot_number area ≡ superblock.sequence % 2
     → (counts_sector superblock.geometry part area + counts_sectors superblock.geometry part ≤ from) ⊎ (from + m ≤ counts_sector superblock.geometry part area))
@@ -137,11 +159,11 @@ stored_outside from m before image superblock s sound out low apart was = record
   counts = λ part area is. HoldsCounts-outside superblock.geometry part area (counts_of_part superblock.geometry part s.counts) out (apart part area is) (was.counts part area is);
   nodes = λ b live ranked.
       spelled_same superblock.geometry.metadata_blocks before image b (node_at s b)
-      (bytes_at-outside (8 * b) 8 out (inr (omega (arith, behind_fixed superblock.geometry superblock.root s sound b ranked, low)))) (was.nodes b live ranked);
+      (bytes_at-outside (8 * b) 8 out (inr (omega (arith, behind_fixed superblock.geometry superblock.root superblock.held_root s sound b ranked, low)))) (was.nodes b live ranked);
 }
 
 -- one slot is changed
-pub stored_under : (which : Superblock) (before image : List Sector) (superblock : Superblock) (s : Store) → IsSound superblock.geometry superblock.root s
+pub stored_under : (which : Superblock) (before image : List Sector) (superblock : Superblock) (s : Store) → IsSound superblock.geometry superblock.root superblock.held_root s
     → SameOutside (super_sector which) 1 before image → IsStored before superblock s → IsStored image superblock s
 stored_under which before image superblock s sound out was =
     stored_outside (super_sector which) 1 before image superblock s sound out (omega arith)
@@ -180,10 +202,10 @@ module _ (t : Tm) (before image : List Sector) (last : Superblock) (s : Store) (
       sym (ap (sector_at image) e) ∙ sector_same b (i - 8 * b) inside live (omega (arith, low, high)) ∙ ap (sector_at before) e)
 
   fixed_same : (b : ℕ) → b < fixed_part g → block_at image b ≡ block_at before b
-  fixed_same b h = block_same b (omega (arith, h, was.sound.limits.metadata_least)) (fixed_live g last.root s was.sound b h)
+  fixed_same b h = block_same b (omega (arith, h, was.sound.limits.metadata_least)) (fixed_live g last.root last.held_root s was.sound b h)
 
   slot_same : (b : ℕ) → b < 2 → sector_at image (8 * b + 0) ≡ sector_at before (8 * b + 0)
-  slot_same b h = sector_same b 0 (omega (arith, h, was.sound.limits.metadata_least)) (fixed_live g last.root s was.sound b (omega (arith, h))) (omega arith)
+  slot_same b h = sector_same b 0 (omega (arith, h, was.sound.limits.metadata_least)) (fixed_live g last.root last.held_root s was.sound b (omega (arith, h))) (omega arith)
 
   pub commit_kept : IsCommit image last s
   commit_kept =

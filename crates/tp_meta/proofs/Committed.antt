@@ -7,9 +7,11 @@ use Rattle.tp_model.specs.Sectors.{Sector}
 use Rattle.tp_model.specs.Disk.{DiskState, seen}
 use Rattle.tp_model.specs.DiskStops.{Leaves, LeavesOnly}
 use Rattle.tp_model.proofs.DiskStopLaws.{weakens}
+use Rattle.tp_layout.specs.Super.{version_number}
 use Rattle.tp_layout.specs.declared.superblock.Superblock.{Superblock}
+use Rattle.tp_layout.specs.declared.superblock.Version.TheVariants.{OneSize, OwnSizes}
 use Rattle.tp_refs.specs.Store.{Store, committed}
-use Rattle.tp_sharing.specs.Volumes.{slot_of, volumes_below}
+use Rattle.tp_sharing.specs.Volumes.{devices_in, slot_of, volumes_of}
 use Rattle.tp_stored.specs.Commit.{IsCommit, IsSound, held_by, use_of}
 use Rattle.tp_stored.specs.Contents.{Contents, HoldsContents, IsStill, SameData, contents_of}
 use Rattle.tp_tm.specs.Tm.{IsSized, Tm, free_metadata, kept_now, used_metadata}
@@ -38,6 +40,10 @@ none_marked n k marks e =
 sized_kept : (t : Tm) → IsSized t → IsSized (kept_now t)
 sized_kept t sized =
     record { metadata_now = sized.metadata_now; metadata_kept = sized.metadata_now; data_now = sized.data_now; data_kept = sized.data_now }
+
+-- the versions differ
+two_versions : OwnSizes ≡ OneSize → ⊥
+two_versions e = omega (arith, ap version_number e)
 
 -- in memory all is as after a commit
 pub record IsCommitted (old new : Meta) : Type 0 where
@@ -101,7 +107,7 @@ module _ (m : Meta) (disk : DiskState) (now kept : Contents) (st : StandsFor m d
     mapping : StandForVolumes m.mapping after now.volumes kept.volumes
     mapping = record {
       store = s;
-      holds = holds_seen t disk after [] (held_by t.geometry m.mapping.root) s sees st.mapping.holds;
+      holds = holds_seen t disk after [] (held_by t.geometry m.mapping.root t.held_root) s sees st.mapping.holds;
       sound = st.mapping.sound;
       listed = st.mapping.listed;
       within = st.mapping.within;
@@ -112,7 +118,8 @@ module _ (m : Meta) (disk : DiskState) (now kept : Contents) (st : StandsFor m d
     rests = record {
       honest = honest;
       mapping = subst (λ (x : TreeMapping). StandForVolumes x after now.volumes kept.volumes) (sym f.mapping) mapping;
-      numbered = subst (λ (o : Option ℕ). IfSome o (λ n. n ≡ length now.volumes)) (sym f.devices) st.numbered;
+      held_root = ap (λ (x : TreeMapping). x.tm.held_root) f.mapping ∙ st.held_root;
+      numbered = subst (λ (o : Option ℕ). IfSome o (λ n. n ≡ devices_in now.volumes)) (sym f.devices) st.numbered;
       transaction_id = f.transaction_id ∙ st.transaction_id;
       needs_check = f.needs_check ∙ st.needs_check;
       meta_used = st.meta_used ∙ ap (λ (x : TreeMapping). used_metadata x.tm) (sym f.mapping);
@@ -151,23 +158,23 @@ module _ (m : Meta) (disk : DiskState) (now kept : Contents) (st : StandsFor m d
   -- ---- where the next one is stored
 
   module _ (sized : IsSized t) where
-    holds : Holds t disk [] (held_by next.geometry next.root) s
-    holds = subst (λ (g : Geometry). Holds t disk [] (held_by g m.mapping.root) s) st.geometry st.mapping.holds
+    holds : Holds t disk [] (held_by next.geometry next.root next.held_root) s
+    holds = subst (λ (g : Geometry). Holds t disk [] (held_by g m.mapping.root t.held_root) s) st.geometry st.mapping.holds
 
-    sound : IsSound next.geometry next.root s
-    sound = subst (λ (g : Geometry). IsSound g m.mapping.root s) st.geometry st.mapping.sound
+    sound : IsSound next.geometry next.root next.held_root s
+    sound = subst (λ (g : Geometry). IsSound g m.mapping.root t.held_root s) st.geometry st.mapping.sound
 
     blocks : t.geometry.metadata_blocks ≡ next.geometry.metadata_blocks
     blocks = ap (λ (g : Geometry). g.metadata_blocks) st.geometry
 
     now_is : now ≡ contents_of next s
     now_is =
-        let volumes : now.volumes ≡ volumes_below next.geometry.metadata_blocks s next.root = st.mapping.listed
-        ∙ ap (λ n. volumes_below n s m.mapping.root) blocks in
+        let volumes : now.volumes ≡ volumes_of next.geometry.metadata_blocks s next.root next.held_root = st.mapping.listed
+        ∙ ap (λ n. volumes_of n s m.mapping.root t.held_root) blocks in
         let used : now.meta_used ≡ use_of next.geometry s =
         st.meta_used ∙ sym (used_now next.geometry.metadata_blocks t.geometry.metadata_blocks s t st.mapping.holds.stands.counts
         (sym blocks) sized.metadata_now) in
-        λ i. record { volumes = volumes i; transaction_id = sym st.transaction_id i; needs_check = sym st.needs_check i; meta_used = used i }
+        λ i. record { volumes = volumes i; transaction_id = sym st.transaction_id i; needs_check = sym st.needs_check i; meta_used = used i; held_root = sym st.held_root i }
 
     -- the store of nodes and the superblock that are to be stored are those of the metadata, and so are the stale blocks that are lent
     module _ (spare : now.meta_used + 128 ≤ t.geometry.metadata_blocks) (u : Tm) (lent : StaleBlocks) (n : Superblock) (own : u ≡ t)
@@ -184,6 +191,7 @@ module _ (m : Meta) (disk : DiskState) (now kept : Contents) (st : StandsFor m d
             holds = holds;
             sound = sound;
             of_version = tt;
+            unheld = λ e. absurd (two_versions e);
             current = st.current;
             spare = omega (arith, used, spare, blocks);
           } in
@@ -206,31 +214,31 @@ module _ (m : Meta) (disk : DiskState) (now kept : Contents) (st : StandsFor m d
 
       module _ (new : Meta) (f : IsCommitted m new) (honest : IsTrue after.is_honest)
           (stored : (last : Superblock) (x y : Store) → MayCommit u lent disk last n x y → Leaves (IsNextCommit n y disk.cells) after.cells)
-          (stand : (last : Superblock) (x y : Store) → MayCommit u lent disk last n x y → Holds new.mapping.tm after [] (held_by n.geometry n.root)
+          (stand : (last : Superblock) (x y : Store) → MayCommit u lent disk last n x y → Holds new.mapping.tm after [] (held_by n.geometry n.root n.held_root)
           (committed y))
           (areas : (last : Superblock) (x y : Store) → MayCommit u lent disk last n x y → AreCurrent new.mapping.tm new.stale.value (seen after.cells)) where
         left : Leaves (IsNextCommit next s disk.cells) after.cells
         left = subst (λ (b : Superblock). Leaves (IsNextCommit b s disk.cells) after.cells) named (stored m.last st.commit s may)
 
-        here : Holds new.mapping.tm after [] (held_by new.last.geometry new.last.root) (committed s)
+        here : Holds new.mapping.tm after [] (held_by new.last.geometry new.last.root new.last.held_root) (committed s)
         here =
-            subst (λ (b : Superblock). Holds new.mapping.tm after [] (held_by b.geometry b.root) (committed s)) (named ∙ sym f.last)
+            subst (λ (b : Superblock). Holds new.mapping.tm after [] (held_by b.geometry b.root b.held_root) (committed s)) (named ∙ sym f.last)
             (stand m.last st.commit s may)
 
         contents : contents_of new.last (committed s) ≡ now
         contents = ap (λ (b : Superblock). contents_of b (committed s)) f.last ∙ sym (committed_contents next s sound) ∙ sym now_is
 
-        numbered : IfSome new.devices (λ n. n ≡ length (volumes_below new.last.geometry.metadata_blocks (committed s) new.last.root))
+        numbered : IfSome new.devices (λ n. n ≡ devices_in (volumes_of new.last.geometry.metadata_blocks (committed s) new.last.root new.last.held_root))
         numbered =
-            subst (λ (o : Option ℕ). IfSome o (λ n. n ≡ length (volumes_below new.last.geometry.metadata_blocks (committed s) new.last.root))) (sym f.devices)
-            (subst (λ (c : Contents). IfSome m.devices (λ n. n ≡ length c.volumes)) (sym contents) st.numbered)
+            subst (λ (o : Option ℕ). IfSome o (λ n. n ≡ devices_in (volumes_of new.last.geometry.metadata_blocks (committed s) new.last.root new.last.held_root))) (sym f.devices)
+            (subst (λ (c : Contents). IfSome m.devices (λ n. n ≡ devices_in c.volumes)) (sym contents) st.numbered)
 
         stands : StandsFor new after (contents_of new.last (committed s)) (contents_of new.last (committed s))
         stands =
             stands_unchanged new after (committed s) honest
             (λ image stop. subst (λ (b : Superblock). IsCommit image b (committed s)) (sym f.last) (left image stop).0) here
             (ap (λ (v : Tm). v.geometry) f.tm ∙ st.geometry ∙ ap (λ (b : Superblock). b.geometry) (sym f.last))
-            (f.root ∙ ap (λ (b : Superblock). b.root) (sym f.last)) numbered
+            (f.root ∙ ap (λ (b : Superblock). b.root) (sym f.last)) (ap (λ (v : Tm). v.held_root) f.tm ∙ ap (λ (b : Superblock). b.held_root) (sym f.last)) numbered
             (subst (λ (v : Tm). IsSized v) (sym f.tm) (sized_kept t sized)) (subst (λ (v : Tm). kept_now v ≡ v) (sym f.tm) refl)
             (f.marks ∙ ap (λ k. replicate {A = Bool} k false)
             (st.marks_long ∙ ap (λ (g : Geometry). g.data_blocks) st.geometry ∙ ap (λ (b : Superblock). b.geometry.data_blocks) (sym f.last)))

@@ -1,5 +1,5 @@
 -- The image of a pool just formatted is that of a commit.
-use Rattle.std.proofs.Common.{◌≡◌, ⊎_elim, ℕ, ◌+◌, ◌-◌, ◌<◌, ◌≤◌, Bool, false, not, List, [], map, length, refl, sym, ◌∙◌, ap, subst, arith, Option, None, Some}
+use Rattle.std.proofs.Common.{◌≡◌, ⊎_elim, ℕ, ◌+◌, ◌-◌, ◌<◌, ◌≤◌, Bool, false, not, List, [], ◌++◌, map, length, refl, sym, ◌∙◌, ap, subst, arith, Option, None, Some}
 use Rattle.std.specs.Prelude.{count_by, nat_lt, ◌^◌}
 use Rattle.std.specs.List.{range_with_len}
 use Rattle.std.proofs.lemmas.Bool.{cases_lt}
@@ -69,15 +69,17 @@ module _ (g : Geometry) (within : IsWithinLimits g) where
   no_content : content 5 s root ≡ []
   no_content = let z : (node_at s root).rank - 5 ≡ 0 = omega (arith, ranked) in ap (λ k. pairs k s root) z ∙ no_entries g within root
 
-  sound : IsSound g root s
+  sound : IsSound g root 0 s
   sound = record {
     limits = within;
     sized = long g within;
     counted = counts_long g within;
     balanced = fresh_balanced g within;
     forest = (empty_forest s root (fixed_blocks g) (2 ^ 24) whole (no_entries g within root) once no_nodes inside).0;
-    sizes = subst (λ (es : List Entry). AreSized g (map (device_from g.metadata_blocks s) es)) (sym no_content) (none_sized g);
+    copy = tt;
+    sizes = subst (λ (es : List Entry). AreSized g (map (device_from g.metadata_blocks s) es ++ [])) (sym no_content) (none_sized g);
     few = omega (arith, ap (length {A = Entry}) no_content);
+    few_held = omega arith;
   }
 
   unused : (b : ℕ) → root + 1 ≤ b → nat_lt 0 (count_of s b) ≡ false
@@ -103,8 +105,8 @@ module _ (g : Geometry) (within : IsWithinLimits g) where
 
   pub first_contents : contents_of (fresh_super g) s ≡ fresh_contents g
   first_contents =
-      ap (λ (v : Volumes). record { volumes = v; transaction_id = 0; needs_check = false; meta_used = use_of g s }) (ap (map (device_from g.metadata_blocks s)) no_content)
-      ∙ ap (λ n. record { volumes = []; transaction_id = 0; needs_check = false; meta_used = n }) use_is
+      ap (λ (v : Volumes). record { volumes = v; transaction_id = 0; needs_check = false; meta_used = use_of g s; held_root = 0 }) (ap (λ (es : List Entry). map (device_from g.metadata_blocks s) es ++ []) no_content)
+      ∙ ap (λ n. record { volumes = []; transaction_id = 0; needs_check = false; meta_used = n; held_root = 0 }) use_is
 
   pub first_commit : (image : List Sector) → IsFreshOf g image → IsCommit image (fresh_super g) s
   first_commit image fresh = record {

@@ -107,7 +107,7 @@ module _ (g : Geometry) (within : IsWithinLimits g) where
   unfolding times_named
   never_named b = omega (arith, sum_le (names_from s [] b) (length s.counts) 0 (names_none b))
 
-  pub fresh_balanced : Balanced s [] (held_by g (fixed_part g))
+  pub fresh_balanced : Balanced s [] (held_by g (fixed_part g) 0)
   fresh_balanced = record {
     sized = omega (arith, long, counts_long);
     sized_kept = refl;
@@ -125,8 +125,8 @@ module _ (g : Geometry) (within : IsWithinLimits g) where
       (λ differ. absurd (omega (arith, ranked, ap (λ (n : Node). n.rank) (other_is b differ))))
       (cases_eq b (fixed_part g))
 
-  pub fresh_holds : (t : Tm) (disk : DiskState) → t ≡ fresh_store g → IsFreshOf g (seen disk.cells) → Holds t disk [] (held_by g (fixed_part g)) s
-  fresh_holds t disk e fresh = subst (λ (x : Tm). Holds x disk [] (held_by g (fixed_part g)) s) (sym e) (record {
+  pub fresh_holds : (t : Tm) (disk : DiskState) → t ≡ fresh_store g → IsFreshOf g (seen disk.cells) → Holds t disk [] (held_by g (fixed_part g) 0) s
+  fresh_holds t disk e fresh = subst (λ (x : Tm). Holds x disk [] (held_by g (fixed_part g) 0) s) (sym e) (record {
     stands = record { counts = refl; kept = refl; sized = long; nodes = λ b live closed ranked. spelled (seen disk.cells) fresh b ranked };
     balanced = fresh_balanced;
   })

@@ -14,12 +14,13 @@ use Rattle.tp_layout.specs.declared.counts.Part.TheVariants.{Data, Metadata}
 use Rattle.tp_layout.specs.declared.superblock.SlotId.{SlotId}
 use Rattle.tp_layout.specs.declared.superblock.SlotId.TheVariants.{Zero, One}
 use Rattle.tp_layout.specs.declared.superblock.Superblock.{Superblock}
+use Rattle.tp_layout.specs.declared.superblock.Version.TheVariants.{OneSize}
 use Rattle.tp_image.specs.Areas.{HoldsCounts, counts_sector, counts_sectors}
 use Rattle.tp_image.specs.Slots.{Chooses, next_sequence}
 use Rattle.tp_image.proofs.AreaLaws.{HoldsCounts-outside, counts_apart, counts_fixed}
 use Rattle.tp_super.specs.Store.{IsNext, IsStoring, super_sector}
 use Rattle.tp_refs.specs.Store.{Store, committed, node_at}
-use Rattle.tp_sharing.specs.Volumes.{volumes_below}
+use Rattle.tp_sharing.specs.Volumes.{volumes_of}
 use Rattle.tp_stored.specs.Commit.{IsCommit, IsOfVersion, IsSound, counts_of_part, held_by, use_of}
 use Rattle.tp_stored.specs.Contents.{SameData}
 use Rattle.tp_tm.specs.Tm.{IsSized, Tm, counts_kept, counts_now, kept_now, kept_of, now_of}
@@ -32,7 +33,7 @@ use Rattle.tp_meta.specs.declared.stale.AreaMarks.{AreaMarks}
 use Rattle.tp_meta.specs.declared.stale.StaleBlocks.{StaleBlocks}
 use Rattle.tp_meta.proofs.Areas.{Joined, left_out, named_fixed}
 use Rattle.tp_meta.proofs.Telling.{commit_holds}
-use Rattle.tp_meta.proofs.Commits.{IsStored, SameData-none, SameData-then, bare, commit_beside, commit_kept, commit_under, data_kept, data_outside, next_commit, root_inside, stored_under}
+use Rattle.tp_meta.proofs.Commits.{IsStored, SameData-none, SameData-then, bare, commit_beside, commit_kept, commit_under, data_kept, data_outside, held_inside, next_commit, root_inside, stored_under}
 
 abbrev LeavesCommit : Superblock → Store → List Cell → Type 0
 LeavesCommit last s cells = Leaves (λ image. IsCommit image last s) cells
@@ -142,7 +143,7 @@ part_now t s m Data long is g e = sym (ap (λ (l : List ℕ). drop g.metadata_bl
 -- what was written behind the superblocks
 pub stored_there : (t : Tm) (disk : DiskState) (next : Superblock) (s : Store) (area : SlotId) → t.geometry ≡ next.geometry → sectors_of_image next.geometry ≤ length (seen disk.cells)
     → length t.metadata_now ≡ t.geometry.metadata_blocks → slot_number area ≡ next.sequence % 2 → ((part : Part) → HoldsCounts (seen disk.cells) t.geometry part area (now_of t part))
-    → Holds t disk [] (held_by next.geometry next.root) s → IsStored (seen disk.cells) next s
+    → Holds t disk [] (held_by next.geometry next.root next.held_root) s → IsStored (seen disk.cells) next s
 stored_there t disk next s area geometry whole sized here has h = record {
   whole = whole;
   counts = λ part its is.
@@ -155,13 +156,15 @@ stored_there t disk next s area geometry whole sized here has h = record {
 }
 
 pub good_next : (next : Superblock) (slot : SlotId) (s : Store) (n : ℕ) → next.sequence ≡ next_sequence n → next.transaction_id < 2 ^ 64 → slot_number slot ≡ next.sequence % 2
-    → IsSound next.geometry next.root s → IsGoodSuper slot next
-good_next next slot s n follows small here sound = record {
+    → IsSound next.geometry next.root next.held_root s → (next.version ≡ OneSize → next.held_root ≡ 0) → IsGoodSuper slot next
+good_next next slot s n follows small here sound unheld = record {
   sequence = omega (arith, follows);
   transaction_id = small;
   slot_is = sym here;
   geometry = sound.limits;
-  root = root_inside next.geometry next.root s sound;
+  root = root_inside next.geometry next.root next.held_root s sound;
+  held = held_inside next.geometry next.root next.held_root s sound;
+  unheld = unheld;
 }
 
 settled_one : (disk : DiskState) (before : List Sector) → IsSettled disk.cells → AfterStop disk.cells before → before ≡ seen disk.cells
@@ -180,7 +183,7 @@ store_data g next d e within settled q =
     (omega (arith, within.metadata_least))
 
 -- the store of nodes was written and flushed, from a to d, and the superblock is stored, from d to e
-module _ (last next : Superblock) (kept s : Store) (a d e : DiskState) (sound : IsSound next.geometry next.root s) (of_version : IsOfVersion next.version (volumes_below next.geometry.metadata_blocks s next.root)) (spare : use_of next.geometry s + 128 ≤ next.geometry.metadata_blocks)
+module _ (last next : Superblock) (kept s : Store) (a d e : DiskState) (sound : IsSound next.geometry next.root next.held_root s) (of_version : IsOfVersion next.version (volumes_of next.geometry.metadata_blocks s next.root next.held_root)) (spare : use_of next.geometry s + 128 ≤ next.geometry.metadata_blocks)
     (settled : IsSettled d.cells) (run : IsRun last kept a d) (others : SameData next.geometry (seen a.cells) (seen d.cells)) (has : IsStored (seen d.cells) next s) where
   next_here : (image : List Sector) → IsFrom (super_sector next) 1 d.cells image → Chooses image (Ok next) → IsNextCommit next s a.cells image
   next_here image from chosen =
@@ -261,12 +264,12 @@ module _ (last next : Superblock) (kept s : Store) (t : Tm) (area : SlotId) (old
 
   there : IsStored (seen d.cells) next s
   there =
-      let none = subst (λ (g : Geometry). (b : ℕ) → b < fixed_part g → (node_at s b).rank ≡ 0) (sym same) (bare next.geometry next.root s may.sound) in
+      let none = subst (λ (g : Geometry). (b : ℕ) → b < fixed_part g → (node_at s b).rank ≡ 0) (sym same) (bare next.geometry next.root next.held_root s may.sound) in
       stored_there t d next s area same (subst (λ (g : Geometry). sectors_of_image g ≤ length (seen d.cells)) same whole) sized.metadata_now here has
-      (holds (held_by next.geometry next.root) s may.holds none)
+      (holds (held_by next.geometry next.root next.held_root) s may.holds none)
 
   good : IsGoodSuper area next
-  good = good_next next area s last.sequence may.follows small here may.sound
+  good = good_next next area s last.sequence may.follows small here may.sound may.unheld
 
   leaves : Leaves (λ image. Chooses image (Ok last)) d.cells
   leaves image stop = (now run image stop).2.chosen
@@ -283,7 +286,7 @@ module _ (last next : Superblock) (kept s : Store) (t : Tm) (area : SlotId) (old
       → Leaves (IsNextCommit next s old.cells) e.cells
   whole_leaves e outside stored = commit_leaves last next kept s old d e may.sound may.of_version may.spare settled run same_others there outside (stored good (may.same_geometry, may.follows) leaves)
 
-  pub whole_holds : (u : Tm) (e : DiskState) → u ≡ kept_now t → Leaves (IsNextCommit next s old.cells) e.cells → Holds u e [] (held_by next.geometry next.root) (committed s)
+  pub whole_holds : (u : Tm) (e : DiskState) → u ≡ kept_now t → Leaves (IsNextCommit next s old.cells) e.cells → Holds u e [] (held_by next.geometry next.root next.held_root) (committed s)
   whole_holds u e is left =
       commit_holds u e next (committed s) (left (seen e.cells) (AfterStop-seen e.cells)).0 (ap (λ (v : Tm). v.geometry) is ∙ same) (may.holds.stands.counts ∙ sym (ap counts_now is))
       (may.holds.stands.counts ∙ sym (ap counts_kept is))

@@ -1,8 +1,8 @@
 -- Marks that are cleared where they were set.
-use Rattle.std.proofs.Common.{◌≡◌, ℕ, zero, suc, ◌<◌, ◌≤◌, inl, inr, Bool, true, false, List, [], ◌∷◌, ◌++◌, length, get_or, set, replicate, refl, sym, ap, subst, ◌∙◌, arith}
+use Rattle.std.proofs.Common.{◌≡◌, ℕ, zero, suc, ◌+◌, ◌<◌, ◌≤◌, inl, inr, Bool, true, false, List, [], ◌∷◌, ◌++◌, length, get_or, set, replicate, refl, sym, ap, subst, ◌∙◌, arith}
 use Rattle.std.proofs.lemmas.Bool.{cases_eq, cases_lt, false≢true}
 use Rattle.std.proofs.lemmas.Bool.Decides.{nat_tests}
-use Rattle.std.proofs.lemmas.List.{get_or-set_same, get_or-set_other, get_or_past, length-set}
+use Rattle.std.proofs.lemmas.List.{length-append, get_or-set_same, get_or-set_other, get_or_past, length-set}
 use Rattle.tp_meta.specs.Marking.{AreAmong, AreFollowed, IsOneOf, cleared, listed_with}
 
 here_last : (p : ℕ) (ps : List ℕ) → IsOneOf p (ps ++ p ∷ [])
@@ -27,6 +27,18 @@ listed_yes p ps h = grind (arith, nat_tests)
 
 listed_no : (p : ℕ) (ps : List ℕ) → 4096 ≤ length ps → listed_with p ps ≡ ps
 listed_no p ps h = grind (arith, nat_tests)
+
+-- one place more is listed, or the list is full
+pub list_fills : (i p : ℕ) (ps : List ℕ) → i < 4096 → i ≤ length ps → i + 1 ≤ length (listed_with p ps)
+list_fills i p ps few h =
+    elim (cases_lt (length ps) 4096) [
+      | inl l ↦ omega (arith, h, ap length (listed_yes p ps l), length-append ps (p ∷ []))
+      | inr g ↦ omega (arith, few, ap length (listed_no p ps g), g)
+    ]
+
+-- where the list is full, marks may be set anywhere
+pub full_followed : (marks : List Bool) (ps : List ℕ) → 4096 ≤ length ps → AreFollowed marks ps
+full_followed marks ps full few = absurd (omega (arith, full, few))
 
 pub followed_more : (p : ℕ) (ps : List ℕ) (marks : List Bool) → AreFollowed marks ps → AreFollowed (set marks p true) (listed_with p ps)
 followed_more p ps marks follows few =

@@ -44,7 +44,7 @@ used_is_use m xs ys long = count_agree (λ b. nat_lt 0 (get_or xs b 0)) (λ b. n
 
 -- a commit stands in the memory that has its counts
 pub commit_holds : (t : Tm) (disk : DiskState) (last : Superblock) (s : Store) → IsCommit (seen disk.cells) last s → t.geometry ≡ last.geometry → s.counts ≡ counts_now t → s.kept ≡ counts_kept t
-    → Holds t disk [] (held_by last.geometry last.root) s
+    → Holds t disk [] (held_by last.geometry last.root last.held_root) s
 commit_holds t disk last s c geometry now kept = record {
   stands = record {
     counts = now;
@@ -67,7 +67,7 @@ module _ (image : List Sector) (last : Superblock) (s : Store) (c : IsCommit ima
 
   pub opened_holds : (t : Tm) (superblock : Superblock) (disk : DiskState) → seen disk.cells ≡ image → Chooses image (Ok superblock)
       → ((part : Part) → HasCounts image superblock part (now_of t part)) → t.geometry ≡ superblock.geometry → kept_now t ≡ t
-      → (superblock ≡ last) × Holds t disk [] (held_by last.geometry last.root) s
+      → (superblock ≡ last) × Holds t disk [] (held_by last.geometry last.root last.held_root) s
   opened_holds t superblock disk sees chosen has geometry alike =
       let same = same_superblock image last superblock c.chosen chosen in
       let now = both_parts t (subst (λ (x : Superblock). (part : Part) → HasCounts image x part (now_of t part)) same has) in (

@@ -4,9 +4,10 @@ use Rattle.tp_model.specs.Sectors.{Sector}
 use Rattle.tp_model.specs.Disk.{Cell, DiskState, seen}
 use Rattle.tp_model.specs.DiskStops.{AfterStop, Leaves}
 use Rattle.tp_layout.specs.declared.superblock.Superblock.{Superblock}
+use Rattle.tp_layout.specs.declared.superblock.Version.TheVariants.{OneSize}
 use Rattle.tp_image.specs.Slots.{next_sequence}
 use Rattle.tp_refs.specs.Store.{Store, committed}
-use Rattle.tp_sharing.specs.Volumes.{volumes_below}
+use Rattle.tp_sharing.specs.Volumes.{volumes_of}
 use Rattle.tp_stored.specs.Commit.{IsCommit, IsOfVersion, IsSound, held_by, use_of}
 use Rattle.tp_stored.specs.Contents.{SameData}
 use Rattle.tp_tm.specs.Tm.{Tm}
@@ -18,17 +19,18 @@ use Rattle.tp_meta.specs.declared.stale.StaleBlocks.{StaleBlocks}
 abbrev pub KeepsCounts : Tm → Superblock → Store → Type 0
 KeepsCounts t last kept = t.metadata_kept ≡ take last.geometry.metadata_blocks kept.counts
 
--- A stop leaves the commit of `last`, whose counts are those that the store of nodes keeps, and which each count block holds that is not stale. Below the root of the superblock `next`, which
--- follows, trees stand that keep their rules and leave room.
+-- A stop leaves the commit of `last`, whose counts are those that the store of nodes keeps, and which each count block holds that is not stale. Below the roots of the superblock `next`, which
+-- follows, trees stand that keep their rules and leave room; in an image of the first version no root is held.
 pub record MayCommit (t : Tm) (stale : StaleBlocks) (disk : DiskState) (last next : Superblock) (kept s : Store) : Type 0 where
   pub left : Leaves (λ image. IsCommit image last kept) disk.cells
   pub kept_is : KeepsCounts t last kept
   pub geometry : t.geometry ≡ last.geometry
   pub same_geometry : next.geometry ≡ last.geometry
   pub follows : next.sequence ≡ next_sequence last.sequence
-  pub holds : Holds t disk [] (held_by next.geometry next.root) s
-  pub sound : IsSound next.geometry next.root s
-  pub of_version : IsOfVersion next.version (volumes_below next.geometry.metadata_blocks s next.root)
+  pub holds : Holds t disk [] (held_by next.geometry next.root next.held_root) s
+  pub sound : IsSound next.geometry next.root next.held_root s
+  pub of_version : IsOfVersion next.version (volumes_of next.geometry.metadata_blocks s next.root next.held_root)
+  pub unheld : next.version ≡ OneSize → next.held_root ≡ 0
   pub current : AreCurrent t stale (seen disk.cells)
   pub spare : use_of next.geometry s + 128 ≤ next.geometry.metadata_blocks
 

@@ -22,6 +22,7 @@ fresh_store g = record {
   metadata_kept = fresh_counts g Metadata;
   data_now = fresh_counts g Data;
   data_kept = fresh_counts g Data;
+  held_root = 0;
 }
 
 -- the same as nodes by block: the empty leaf in the first tree block, and no other node

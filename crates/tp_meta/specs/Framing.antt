@@ -1,14 +1,14 @@
 -- Internal: metadata that stand are within the sizes, and stand in the metadata blocks alone (own).
-use Rattle.std.proofs.Common.{◌≡◌, ℕ, zero, suc, ◌+◌, ◌*◌, ◌<◌, ◌==◌, ◌&&◌, Bool, cond, drop, false, not, List, ◌≤◌, length, replicate, take, refl, sym, ap, subst, ◌∙◌, arith}
-use Rattle.std.specs.Prelude.{nat_lt, slice_index}
+use Rattle.std.proofs.Common.{◌≡◌, ℕ, zero, suc, None, ◌+◌, ◌-◌, ◌*◌, ◌<◌, ◌==◌, ◌&&◌, Bool, cond, drop, false, not, List, ◌≤◌, length, replicate, take, refl, sym, ap, subst, ◌∙◌, arith}
+use Rattle.std.specs.Prelude.{◌^◌, nat_lt, slice_index}
 use Rattle.std.specs.List.{count_by, range_with_len}
 use Rattle.std.proofs.lemmas.Bool.{lt-ltb, ne_eqb}
-use Rattle.std.proofs.lemmas.List.{length-take-le, take-append-drop, take_at}
+use Rattle.std.proofs.lemmas.List.{append-nil, length-take-le, take-append-drop, take_at}
 use Rattle.tp_model.specs.Geometry.{Geometry}
 use Rattle.tp_model.specs.Disk.{DiskState, seen}
 use Rattle.tp_model.specs.Pool.{PlainPool}
 use Rattle.tp_image.specs.Stands.{HasTrees}
-use Rattle.tp_stored.specs.Commit.{use_of}
+use Rattle.tp_stored.specs.Commit.{IsSound, fixed_blocks, use_of}
 use Rattle.tp_stored.proofs.Trees.{has_trees}
 use Rattle.tp_model.specs.DiskStops.{Leaves}
 use Rattle.tp_model.proofs.Counting.{count_agree, count_more, count_opposite}
@@ -18,7 +18,8 @@ use Rattle.tp_image.proofs.AreaLaws.{counts_fixed}
 use Rattle.tp_counts.specs.Counts.{free_in, is_free, is_used, used_in}
 use Rattle.tp_image.specs.Bound.{metadata_bound}
 use Rattle.tp_sharing.specs.Sizes.{mapped_counts}
-use Rattle.tp_sharing.specs.Volumes.{Volumes}
+use Rattle.tp_sharing.specs.Volumes.{Volumes, copy_id, device_of, volumes_below, volumes_of}
+use Rattle.tp_sharing.proofs.Copies.{copies_are_listed}
 use Rattle.tp_stored.specs.Contents.{Contents, HasContents, HoldsContents, SameMetadata}
 use Rattle.tp_stored.specs.Laws.{AreBounded}
 use Rattle.tp_stored.proofs.Bounded.{sound_are_bounded}
@@ -83,6 +84,16 @@ used_by_commit m disk now kept st =
     ∙ sym (used_alike n (take n counts) (drop n counts) (omega (arith, long)))
     ∙ (λ i. used_in (sym st.geometry i).metadata_blocks (sym st.kept_counts i))
 
+-- where no root is held, no id from 2 ^ 24 on has slots
+no_copies : (m : Meta) (disk : DiskState) (now kept : Contents) → StandsFor m disk now kept → now.held_root ≡ 0 → (id : ℕ) → 2 ^ 24 ≤ id → device_of id now.volumes ≡ None
+no_copies m disk now kept st none id high =
+    let n = m.mapping.tm.geometry.metadata_blocks in
+    let s = st.mapping.store in
+    let e : copy_id (id - 2 ^ 24) ≡ id = omega (arith, high) in
+    ap (device_of id) (st.mapping.listed ∙ ap (volumes_of n s m.mapping.root) (st.held_root ∙ none))
+    ∙ subst (λ i. device_of i (volumes_of n s m.mapping.root 0) ≡ None) e
+    (copies_are_listed.none n s m.mapping.root (fixed_blocks m.mapping.tm.geometry) (2 ^ 24) (id - 2 ^ 24) st.mapping.sound.forest)
+
 pub stands_within : (m : Meta) (disk : DiskState) (now kept : Contents) → StandsFor m disk now kept
     → AreWithin m.mapping.tm.geometry (free_metadata m.mapping.tm) (marks_of m) now kept
 stands_within m disk now kept st =
@@ -92,6 +103,7 @@ stands_within m disk now kept st =
       volumes_now = st.mapping.within.volumes_now;
       volumes_kept = st.mapping.within.volumes_kept;
       tracked = subst (λ (l : List Bool). IsTracked now.volumes kept.volumes l) (sym (marks_are m disk now kept st)) st.tracked;
+      copies = no_copies m disk now kept st;
       room = omega (arith, st.meta_used, room_kept n t.metadata_now, more_free n t.metadata_now t.metadata_kept);
       no_less_room = omega (arith, st.meta_used, used_by_commit m disk now kept st, room_covers n t.metadata_now t.metadata_kept);
     }
@@ -112,7 +124,8 @@ pub stands_trees : (m : Meta) (disk : DiskState) (now kept : Contents) (p : Plai
 stands_trees m disk now kept p st has =
     let t = m.mapping.tm in
     let s = st.mapping.store in
-    has_trees t.geometry (seen disk.cells) m.mapping.root s st.mapping.sound (λ b live ranked. st.mapping.holds.stands.nodes b live refl ranked) now st.mapping.listed (used_by_trees m disk now kept st) (seen disk.cells) p has
+    has_trees t.geometry (seen disk.cells) m.mapping.root t.held_root s st.mapping.sound (λ b live ranked. st.mapping.holds.stands.nodes b live refl ranked) now st.mapping.listed (used_by_trees m disk now kept st) (sym st.held_root)
+    (seen disk.cells) p has
 
 pub frame_stands : (m : Meta) (old new : DiskState) (now kept : Contents) → KeepsMetadata m.mapping.tm.geometry old new → StandsFor m old now kept
     → StandsFor m new now kept
@@ -121,6 +134,7 @@ frame_stands m old new now kept keeps st = record {
   mapping =
       trees.frame_stands m.mapping old new now.volumes kept.volumes
       (record { same_length = keeps.seen_same.same_length; same = λ i low high. keeps.seen_same.same i high }) st.mapping;
+  held_root = st.held_root;
   numbered = st.numbered;
   transaction_id = st.transaction_id;
   needs_check = st.needs_check;
@@ -154,11 +168,15 @@ pub stands_one : (m : Meta) (disk : DiskState) (now kept next last : Contents) �
 stands_one m disk now kept next last st then =
     trees_stand_for_one m.mapping disk now.volumes kept.volumes next.volumes last.volumes st.mapping then.mapping
 
--- the metadata blocks in use are within the bound
+-- where no root is held, the metadata blocks in use are within the bound
 pub stands_bounded : (m : Meta) (disk : DiskState) (now kept : Contents) → StandsFor m disk now kept → AreBounded m.mapping.tm.geometry now
-stands_bounded m disk now kept st =
+stands_bounded m disk now kept st none =
     let g = m.mapping.tm.geometry in
     let s = st.mapping.store in
-    let bound : use_of g s ≤ metadata_bound g (mapped_counts now.volumes) =
-    subst (λ (v : Volumes). use_of g s ≤ metadata_bound g (mapped_counts v)) (sym st.mapping.listed) (sound_are_bounded g m.mapping.root s st.mapping.sound) in
+    let root = m.mapping.root in
+    let unheld : m.mapping.tm.held_root ≡ 0 = st.held_root ∙ none in
+    let low = sound_are_bounded g root s (subst (λ h. IsSound g root h s) unheld st.mapping.sound) in
+    let same : now.volumes ≡ volumes_below g.metadata_blocks s root =
+    st.mapping.listed ∙ (ap (volumes_of g.metadata_blocks s root) unheld ∙ append-nil (volumes_below g.metadata_blocks s root)) in
+    let bound : use_of g s ≤ metadata_bound g (mapped_counts now.volumes) = subst (λ (v : Volumes). use_of g s ≤ metadata_bound g (mapped_counts v)) (sym same) low in
     omega (arith, used_by_trees m disk now kept st, bound)

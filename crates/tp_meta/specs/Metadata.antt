@@ -1,5 +1,5 @@
 -- Internal: what the metadata of a pool tell, and what their calls leave (own).
-use Rattle.std.specs.Prelude.{◌≡◌, ◌⊎◌, ℕ, zero, suc, ◌+◌, ◌<◌, ◌≤◌, ◌↔◌, Bool, IsTrue, true, false, if◌then◌else◌, List, [], ◌∷◌, ◌++◌, replicate, set, Option, None, Some, Err, IfOk, OnOk, Result, is_err, slice_index_or}
+use Rattle.std.specs.Prelude.{◌≡◌, ◌⊎◌, ℕ, zero, suc, ◌+◌, ◌^◌, ◌<◌, ◌≤◌, ◌↔◌, Bool, IsTrue, true, false, if◌then◌else◌, List, [], ◌∷◌, ◌++◌, replicate, set, Option, None, Some, Err, IfOk, OnOk, Result, is_err, slice_index_or}
 use Rattle.tp_model.specs.Geometry.{Geometry, IsWithinLimits}
 use Rattle.tp_model.specs.Sectors.{Sector}
 use Rattle.tp_model.specs.Disk.{Cell, DiskState, FaultHasCause, IsSameDisk, IsSettled, seen}
@@ -8,7 +8,7 @@ use Rattle.tp_counts.specs.LookUps.{IsLookedUp}
 use Rattle.tp_counts.specs.declared.error.StoreError.{StoreError}
 use Rattle.tp_counts.specs.declared.error.StoreError.TheVariants.{Damaged}
 use Rattle.tp_counts.specs.StoreErrors.{is_fault}
-use Rattle.tp_sharing.specs.Volumes.{BlockSlot, OtherSlot, Volumes, slot_of}
+use Rattle.tp_sharing.specs.Volumes.{BlockSlot, OtherSlot, Volumes, device_of, slot_of}
 use Rattle.tp_stored.specs.Contents.{Contents, HoldsContents, IsStill, SameData, SameMetadata}
 use Rattle.tp_mapping.specs.Mapping.{IsWithin}
 use Rattle.tp_mapping.specs.declared.mapped.Mapped.{Mapped}
@@ -72,6 +72,8 @@ pub record AreWithin (g : Geometry) (free : ℕ) (marks : List Bool) (now kept :
   pub volumes_now : IsWithin g now.volumes
   pub volumes_kept : IsWithin g kept.volumes
   pub tracked : IsTracked now.volumes kept.volumes marks
+  -- where no root is held, there are no copies
+  pub copies : now.held_root ≡ 0 → (id : ℕ) → 2 ^ 24 ≤ id → device_of id now.volumes ≡ None
   pub room : free + now.meta_used ≤ g.metadata_blocks
   pub no_less_room : g.metadata_blocks ≤ free + now.meta_used + kept.meta_used
 

@@ -7,6 +7,7 @@ use Rattle.tp_layout.specs.declared.superblock.Version.TheVariants.{OwnSizes}
 use Rattle.tp_layout.specs.declared.superblock.Superblock.{Superblock}
 use Rattle.tp_image.specs.Slots.{next_sequence}
 use Rattle.tp_refs.specs.Store.{Store}
+use Rattle.tp_sharing.specs.Volumes.{devices_in}
 use Rattle.tp_stored.specs.Commit.{IsCommit}
 use Rattle.tp_stored.specs.Contents.{Contents, contents_of}
 use Rattle.tp_tm.specs.Tm.{free_metadata, kept_now, used_metadata}
@@ -45,6 +46,7 @@ next_of m = record {
   transaction_id = m.transaction_id;
   geometry = m.last.geometry;
   root = m.mapping.root;
+  held_root = m.mapping.tm.held_root;
 }
 
 -- On this disk, which is honest, the trees stand for these contents now, and a stop leaves the commit of these others, whose counts the
@@ -52,7 +54,8 @@ next_of m = record {
 pub record StandsFor (m : Meta) (disk : DiskState) (now kept : Contents) : Type 0 where
   pub honest : IsTrue disk.is_honest
   pub mapping : StandForVolumes m.mapping disk now.volumes kept.volumes
-  pub numbered : IfSome m.devices (λ n. n ≡ length now.volumes)
+  pub held_root : m.mapping.tm.held_root ≡ now.held_root
+  pub numbered : IfSome m.devices (λ n. n ≡ devices_in now.volumes)
   pub transaction_id : m.transaction_id ≡ now.transaction_id
   pub needs_check : m.needs_check ≡ now.needs_check
   pub sized : length m.mapping.tm.metadata_now ≡ m.mapping.tm.geometry.metadata_blocks
@@ -71,4 +74,4 @@ pub record StandsFor (m : Meta) (disk : DiskState) (now kept : Contents) : Type 
 
 -- the contents of a pool just formatted: no volumes, and of the metadata blocks the fixed part and the root
 abbrev pub fresh_contents : Geometry → Contents
-fresh_contents g = record { volumes = []; transaction_id = 0; needs_check = false; meta_used = fixed_part g + 1 }
+fresh_contents g = record { volumes = []; transaction_id = 0; needs_check = false; meta_used = fixed_part g + 1; held_root = 0 }

@@ -43,7 +43,7 @@ pub fn commit_store<D: Disk>(
     ensures stored { OnOk result ((last : Superblock) (kept s : Store) → MayCommit tm.old stale.old (D.state disk.old) last next kept s
         → Leaves (IsNextCommit next s (D.state disk.old).cells) (D.state disk.new).cells) }
     ensures holds { OnOk result ((last : Superblock) (kept s : Store) → MayCommit tm.old stale.old (D.state disk.old) last next kept s
-        → Holds tm.new (D.state disk.new) [] (held_by next.geometry next.root) (committed s)) }
+        → Holds tm.new (D.state disk.new) [] (held_by next.geometry next.root next.held_root) (committed s)) }
     ensures current { OnOk result ((last : Superblock) (kept s : Store) → MayCommit tm.old stale.old (D.state disk.old) last next kept s
         → AreCurrent tm.new stale.new (seen (D.state disk.new).cells)) }
     ensures same_data { SameData tm.old.geometry (seen (D.state disk.old).cells) (seen (D.state disk.new).cells) }

@@ -1,9 +1,9 @@
 //! How many devices a pool has, where that is known.
 
-ghost use Rattle.std.specs.Prelude.{◌≡◌, ◌+◌, ◌≤◌, ℕ, IfOk, IfSome, IsTrue, is_err, length, not};
+ghost use Rattle.std.specs.Prelude.{◌≡◌, ◌+◌, ◌≤◌, ℕ, IfOk, IfSome, IsTrue, is_err, not};
 ghost use Rattle.tp_model.specs.Geometry.{sectors_of_image};
 ghost use Rattle.tp_model.specs.Disk.{after_read};
-ghost use Rattle.tp_sharing.specs.Volumes.{Volumes};
+ghost use Rattle.tp_sharing.specs.Volumes.{Volumes, devices_in};
 ghost use Rattle.tp_mapping.specs.Trees.{StandForVolumes};
 
 use tp_counts::StoreError;
@@ -17,7 +17,7 @@ pub(crate) fn count_devices<D: Disk>(
 ) -> Result<Option<u32>, Fault>
     requires disk { sectors_of_image mapping.now.tm.geometry ≤ (D.state disk.old).size }
     ensures counted { IfOk result (λ devices. IsTrue (D.state disk.old).is_honest → (now kept : Volumes) → StandForVolumes mapping.now (D.state disk.old) now kept
-        → IfSome devices (λ n. n ≡ length now)) }
+        → IfSome devices (λ n. n ≡ devices_in now)) }
     ensures state { D.state disk.new ≡ after_read (not (is_err result)) (D.state disk.old) }
 {
     match mapping.devices(disk) {

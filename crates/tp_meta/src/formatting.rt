@@ -40,7 +40,7 @@ pub fn format<D: Disk>(alloc: Global, disk: &mut D, geometry: Geometry) -> Resul
     ensures fresh { IfOk result (λ tm. IsFreshOf geometry (seen (D.state disk.new).cells)) }
     ensures settled { IfOk result (λ tm. IsSettled (D.state disk.new).cells) }
     // The root is held, and each block of the fixed part.
-    ensures holds { IfOk result (λ tm. Holds tm (D.state disk.new) [] (held_by geometry (fixed_part geometry)) (fresh_nodes geometry)) }
+    ensures holds { IfOk result (λ tm. Holds tm (D.state disk.new) [] (held_by geometry (fixed_part geometry) 0) (fresh_nodes geometry)) }
     // It is the image of a commit, to go on from.
     ensures commit { IfOk result (λ tm. IsCommit (seen (D.state disk.new).cells) (fresh_super geometry) (fresh_nodes geometry)) }
     ensures small { result ≡ Err Refusal.BadGeometry → (D.state disk.old).size < sectors_of_image geometry }
@@ -89,7 +89,8 @@ fn empty_store(alloc: Global, geometry: Geometry) -> Result<Tm, AllocError>
 {
     let metadata = fresh_metadata(alloc, geometry)?;
     let others = Counts::new(alloc, geometry, Part::Data)?;
-    Ok(Tm::new(geometry, metadata, others))
+    let none = Mb::new(0);
+    Ok(Tm::new(geometry, metadata, others, none))
 }
 
 /// The slot of the disk's superblock, and slot 0 where the slots give none.
@@ -200,6 +201,7 @@ pub(crate) fn first_superblock(geometry: Geometry) -> Superblock
         transaction_id: 0,
         geometry,
         root: Mb::new(geometry.fixed_part()),
+        held_root: Mb::new(0),
     }
 }
 

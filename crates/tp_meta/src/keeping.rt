@@ -17,6 +17,7 @@ impl Meta {
         ensures sized { IsSized self.now.mapping.tm }
     {
         let _ = self.mapping.store().geometry();
+        let held_root = self.mapping.store().held_root();
         Superblock {
             version: Version::OwnSizes,
             needs_check: self.needs_check,
@@ -24,6 +25,7 @@ impl Meta {
             transaction_id: self.transaction_id,
             geometry: self.last.geometry,
             root: self.mapping.root(),
+            held_root,
         }
     }
 

@@ -23,7 +23,7 @@ pub fn changes_leave_the_last_commit()
 
 /// What a stop leaves while a store of nodes is committed, in words of contents.
 pub fn commits_leave_contents()
-    ensures { (last next : Superblock) (kept s : Store) (old new : DiskState) → next.geometry ≡ last.geometry → IsSound next.geometry next.root s
+    ensures { (last next : Superblock) (kept s : Store) (old new : DiskState) → next.geometry ≡ last.geometry → IsSound next.geometry next.root next.held_root s
         → LeavesOnly old new (λ image. IsStillCommit last kept old.cells image ⊎ IsNextCommit next s old.cells image)
         → SameData last.geometry (seen old.cells) (seen new.cells) → IsCommitting last.geometry (contents_of next s) (contents_of last kept) old new }
 {}

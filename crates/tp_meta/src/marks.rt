@@ -16,7 +16,7 @@ const MOST_LISTED: usize = 4096;
 #[derive(Drop)]
 pub(crate) struct Marks {
     marks: Vec<bool>,
-    // The places where marks were set since they were all cleared, the first 4096.
+    // The places where marks were set since they were all cleared, the first 4096. It is full too where all marks were set at once.
     places: Vec<u32>,
 }
 
@@ -57,6 +57,17 @@ fn list(places: &mut Vec<u32>, place: u32)
     }
 }
 
+/// Lists places until the list is full.
+fn fill(places: &mut Vec<u32>)
+    requires { 4096 ≤ vec_capacity places.old }
+    ensures full { 4096 ≤ length places.new.items }
+    ensures capacity { 4096 ≤ vec_capacity places.new }
+{
+    for i in 0..MOST_LISTED {
+        list(places, 0);
+    }
+}
+
 /// Clears the marks at these places.
 fn clear_at(marks: &mut Vec<bool>, places: &[u32])
     ensures { marks.new.items ≡ cleared marks.old.items places.now }
@@ -71,6 +82,13 @@ fn clear_all(marks: &mut Vec<bool>)
     ensures { marks.new.items ≡ replicate (length marks.old.items) false }
 {
     marks.fill(false);
+}
+
+/// Sets all marks.
+fn set_all(marks: &mut Vec<bool>)
+    ensures { marks.new.items ≡ replicate (length marks.old.items) true }
+{
+    marks.fill(true);
 }
 
 /// Clears the marks, all of which were set at these places where fewer than 4096 are listed.
@@ -117,6 +135,14 @@ impl Marks {
         let place = place.number();
         list(&mut self.places, place);
         put_at(&mut self.marks, place, true);
+    }
+
+    /// Marks each data block. The list of places is full then, so that all marks are cleared at once.
+    pub(crate) fn put_all(&mut self)
+        ensures { self.new ≡ replicate (length self.old) true }
+    {
+        set_all(&mut self.marks);
+        fill(&mut self.places);
     }
 
     /// No data block is marked any more.

@@ -1,19 +1,20 @@
 //! The contract of a pool's metadata.
 
-ghost use Rattle.std.specs.Prelude.{◌≡◌, ◌⊎◌, ◌+◌, ◌*◌, ◌<◌, ◌≤◌, ◌^◌, ◌||◌, ◌==◌, ℕ, List, Bool, [], IfErr, IfOk, IfSome, IsSome, IsTrue, MatchOption, None, OnOk, Ok, Some, is_some, length, not, true};
+ghost use Rattle.std.specs.Prelude.{◌≡◌, ◌⊎◌, ◌+◌, ◌*◌, ◌<◌, ◌≤◌, ◌^◌, ◌||◌, ◌==◌, ◌++◌, ℕ, List, Bool, [], IfErr, IfOk, IfSome, IsSome, IsTrue, MatchOption, None, OnOk, Ok, Some, is_some, if◌then◌else◌, length, map, not, replicate, slice_index_or, true};
 ghost use Rattle.std.specs.Option.{option_map};
 ghost use Rattle.tp_model.specs.Geometry.{Geometry, sectors_of_image};
 ghost use Rattle.tp_model.specs.Told.{IsToldSize, told_blocks};
 ghost use Rattle.tp_model.specs.Disk.{DiskState, seen};
 ghost use Rattle.tp_model.specs.DiskStops.{Leaves};
-ghost use Rattle.tp_sharing.specs.Volumes.{device_of, mapped_of, resized, size_of, slot_of, used, with_device, with_slot, without_device, without_slot};
-ghost use Rattle.tp_model.specs.Pool.{PlainPool};
+ghost use Rattle.tp_sharing.specs.Volumes.{as_copy, device_of, devices_in, mapped_of, resized, size_of, slot_of, used, with_device, with_slot, without_device, without_slot};
+ghost use Rattle.tp_model.specs.Pool.{PlainPool, copy_id};
 ghost use Rattle.tp_image.specs.Stands.{HasTrees};
 ghost use Rattle.tp_stored.specs.Contents.{Contents, HasContents, HoldsContents};
 ghost use Rattle.tp_stored.specs.Laws.{AreBounded};
-ghost use Rattle.tp_mapping.specs.Mapping.{IsHighest, IsLeastFree, NoneIsFree, free_places, size_for, size_or_none, slots_of};
+ghost use Rattle.tp_mapping.specs.Mapping.{IsHighest, IsLeastFree, NoneIsFree, free_places, size_for, size_or_none, slots_of, without_copies};
 ghost use Rattle.tp_mapping.specs.Next.{IsNext};
 ghost use Rattle.tp_mapping.specs.Runs.{without_run};
+ghost use Rattle.tp_mapping.specs.Telling.{AreCopied};
 ghost use Rattle.tp_meta.specs.Metadata.{AreInside, AreTold, AreWithin, IsAltered, IsCommitted, IsTold, KeepsMetadata, LooksUp, StandsWith, marked, marked_all, marked_run};
 
 use tp_counts::StoreError;
@@ -63,6 +64,10 @@ pub trait Metadata {
     fn needs_check(&self) -> bool
         ensures { (disk : DiskState) (now kept : Contents) → stands self.now disk now kept → result ≡ now.needs_check };
 
+    /// The root of a held copy of all volumes; 0 where none is held. The copy of a device stands behind all devices, under its id and 2^24.
+    fn held_root(&self) -> u32
+        ensures { (disk : DiskState) (now kept : Contents) → stands self.now disk now kept → result ≡ now.held_root };
+
     /// How many metadata blocks the pool names.
     fn used_metadata(&self) -> u32
         ensures { (disk : DiskState) (now kept : Contents) → stands self.now disk now kept → result ≡ now.meta_used };
@@ -107,6 +112,23 @@ pub trait Metadata {
             × AreTold device first now.volumes (marks self.now) (length homes.old) homes.new) }
         ensures inside { OnOk result (AreInside (geometry self.now).data_blocks (length homes.old) homes.new) };
 
+    /// Looks up the virtual blocks of a device of the held copy from `first` on, one for each place, 17 at most. It tells whether there
+    /// is such a device in it; where there is none, or no copy, no block has a data block. After an `Err` some places may have been told.
+    fn held_run<D: Disk>(
+        &self,
+        disk: &mut D,
+        device: DevId,
+        first: Vb,
+        places: &mut [Option<Pb>],
+    ) -> Result<bool, StoreError>
+        requires disk { sectors_of_image (geometry self.now) ≤ (D.state disk.old).size }
+        requires few { length places.old ≤ 17 }
+        requires run { first + length places.old ≤ 2 ^ 24 }
+        ensures length { length places.new ≡ length places.old }
+        ensures looked { LooksUp (stands self.now) (D.state disk.old) (D.state disk.new) result (λ is_there now. (is_there ≡ is_some (device_of (copy_id device) now.volumes))
+            × AreCopied device first now.volumes (length places.old) places.new) }
+        ensures inside { OnOk result ((i : ℕ) → i < length places.old → IfSome (slice_index_or places.new i None) (λ place. place < (geometry self.now).data_blocks)) };
+
     /// How many virtual blocks of a device have a data block. `None` where there is no such device.
     fn mapped<D: Disk>(&self, disk: &mut D, device: DevId) -> Result<Option<u32>, StoreError>
         requires disk { sectors_of_image (geometry self.now) ≤ (D.state disk.old).size }
@@ -126,7 +148,7 @@ pub trait Metadata {
     /// How many devices there are.
     fn devices<D: Disk>(&self, disk: &mut D) -> Result<u32, StoreError>
         requires disk { sectors_of_image (geometry self.now) ≤ (D.state disk.old).size }
-        ensures { LooksUp (stands self.now) (D.state disk.old) (D.state disk.new) result (λ answer now. answer ≡ length now.volumes) };
+        ensures { LooksUp (stands self.now) (D.state disk.old) (D.state disk.new) result (λ answer now. answer ≡ devices_in now.volumes) };
 
     /// The least id of a device that is `from` or more, if there is one.
     fn next_id<D: Disk>(&self, disk: &mut D, from: DevId) -> Result<Option<DevId>, StoreError>
@@ -156,7 +178,7 @@ pub trait Metadata {
             → next.meta_used ≤ now.meta_used + 16 };
 
     /// Takes the data block of a virtual block, which is marked. Where it has none, or there is no such device, nothing changes. It takes
-    /// 16 metadata blocks at most, and at most 8 more are named then.
+    /// 16 metadata blocks at most, and at most 8 more are named then, where no root is held.
     fn unmap<D: Disk>(&mut self, disk: &mut D, device: DevId, block: Vb) -> Result<(), StoreError>
         requires disk { sectors_of_image (geometry self.old) ≤ (D.state disk.old).size }
         requires room { 16 ≤ room self.old }
@@ -167,7 +189,7 @@ pub trait Metadata {
         ensures none { OnOk result ((now kept : Contents) → stands self.old (D.state disk.old) now kept → slot_of device block now.volumes ≡ None
             → (self.new ≡ self.old) × (D.state disk.new ≡ D.state disk.old)) }
         ensures used { OnOk result ((now kept next last : Contents) → stands self.old (D.state disk.old) now kept → stands self.new (D.state disk.new) next last
-            → next.meta_used ≤ now.meta_used + 8) };
+            → now.held_root ≡ 0 → next.meta_used ≤ now.meta_used + 8) };
 
     /// Takes the data blocks of `count` virtual blocks of a device from `first` on, 17 at most, where they have one, and marks them. Where
     /// none has one, or there is no such device, nothing changes. It takes 7 metadata blocks for each at most, and 7 more, and at most as
@@ -197,13 +219,13 @@ pub trait Metadata {
         requires disk { sectors_of_image (geometry self.old) ≤ (D.state disk.old).size }
         requires room { 64 ≤ room self.old }
         ensures altered { IsAltered geometry stands room 64 self.old self.new (D.state disk.old) (D.state disk.new) result
-            (λ P. (now kept : Contents) → stands self.old (D.state disk.old) now kept → device_of device now.volumes ≡ None → length now.volumes < 65536 → P now kept)
+            (λ P. (now kept : Contents) → stands self.old (D.state disk.old) now kept → device_of device now.volumes ≡ None → devices_in now.volumes < 65536 → P now kept)
             (λ done now kept. StandsWith stands marks self.new (D.state disk.new) now kept (with_device (record { id = device; size = 0; slots = [] }) now.volumes) (marks self.old)) }
         ensures used { (now kept next last : Contents) → stands self.old (D.state disk.old) now kept → stands self.new (D.state disk.new) next last
             → next.meta_used ≤ now.meta_used + 8 };
 
     /// Adds a device with the size and the slots that another one has now, of an id that no device has, to fewer than 65536. It takes 64 metadata blocks
-    /// at most, and at most 3 more are named then, whatever the other one has.
+    /// at most, and at most 3 more are named then, whatever the other one has, where no root is held.
     fn snapshot<D: Disk>(
         &mut self,
         disk: &mut D,
@@ -213,14 +235,14 @@ pub trait Metadata {
         requires disk { sectors_of_image (geometry self.old) ≤ (D.state disk.old).size }
         requires room { 64 ≤ room self.old }
         ensures altered { IsAltered geometry stands room 64 self.old self.new (D.state disk.old) (D.state disk.new) result
-            (λ P. (now kept : Contents) → stands self.old (D.state disk.old) now kept → device_of device now.volumes ≡ None → length now.volumes < 65536
+            (λ P. (now kept : Contents) → stands self.old (D.state disk.old) now kept → device_of device now.volumes ≡ None → devices_in now.volumes < 65536
             → IsSome (device_of origin now.volumes) → P now kept)
             (λ done now kept. StandsWith stands marks self.new (D.state disk.new) now kept (with_device (record { id = device; size = size_or_none now.volumes origin; slots = slots_of origin now.volumes }) now.volumes) (marks self.old)) }
         ensures used { OnOk result ((now kept next last : Contents) → stands self.old (D.state disk.old) now kept → stands self.new (D.state disk.new) next last
-            → device_of device now.volumes ≡ None → length now.volumes < 65536 → IsSome (device_of origin now.volumes) → next.meta_used ≤ now.meta_used + 3) };
+            → device_of device now.volumes ≡ None → devices_in now.volumes < 65536 → IsSome (device_of origin now.volumes) → now.held_root ≡ 0 → next.meta_used ≤ now.meta_used + 3) };
 
     /// Gives a device that exists so many virtual blocks, no fewer than it has. Those behind its old end have no data block. It takes 64
-    /// metadata blocks at most, and at most 1 more is named then.
+    /// metadata blocks at most, and at most 1 more is named then, where no root is held.
     fn grow<D: Disk>(&mut self, disk: &mut D, device: DevId, blocks: u32) -> Result<(), StoreError>
         requires disk { sectors_of_image (geometry self.old) ≤ (D.state disk.old).size }
         requires room { 64 ≤ room self.old }
@@ -231,16 +253,35 @@ pub trait Metadata {
             (λ done now kept. StandsWith stands marks self.new (D.state disk.new) now kept (resized device (size_for (geometry self.old) blocks) now.volumes) (marks self.old)) }
         ensures used { OnOk result ((now kept next last : Contents) → stands self.old (D.state disk.old) now kept → stands self.new (D.state disk.new) next last
             → IsSome (device_of device now.volumes) → IsToldSize (geometry self.old) (size_for (geometry self.old) blocks)
-            → ((size : ℕ) → size_of device now.volumes ≡ Some size → told_blocks (geometry self.old) size ≤ blocks) → next.meta_used ≤ now.meta_used + 1) };
+            → ((size : ℕ) → size_of device now.volumes ≡ Some size → told_blocks (geometry self.old) size ≤ blocks) → now.held_root ≡ 0 → next.meta_used ≤ now.meta_used + 1) };
 
-    /// Removes a device that exists, with its slots, and marks their data blocks. It takes 16 metadata blocks at most, and no more are named then.
+    /// Removes a device that exists, with its slots, and marks their data blocks. It takes 16 metadata blocks at most. No more are named then
+    /// where no root is held, and else at most 16 more.
     fn delete<D: Disk>(&mut self, disk: &mut D, device: DevId) -> Result<(), StoreError>
         requires disk { sectors_of_image (geometry self.old) ≤ (D.state disk.old).size }
         requires room { 16 ≤ room self.old }
         ensures { IsAltered geometry stands room 16 self.old self.new (D.state disk.old) (D.state disk.new) result
             (λ P. (now kept : Contents) → stands self.old (D.state disk.old) now kept → IsSome (device_of device now.volumes) → P now kept)
-            (λ done now kept. ((meta_used : ℕ) × (meta_used ≤ now.meta_used) × stands self.new (D.state disk.new) (record now { volumes = without_device device now.volumes; meta_used = meta_used }) kept)
+            (λ done now kept. ((meta_used : ℕ) × (meta_used ≤ now.meta_used + (if now.held_root == 0 then 0 else 16)) × stands self.new (D.state disk.new) (record now { volumes = without_device device now.volumes; meta_used = meta_used }) kept)
             × (marks self.new ≡ marked_all (slots_of device now.volumes) (marks self.old))) };
+
+    /// Holds a copy of all volumes as they are now, where none is held: their trees are shared. It takes no metadata block, and no more are
+    /// named then.
+    fn reserve(&mut self) -> Result<(), StoreError>
+        ensures altered { (disk : DiskState) → IsAltered geometry stands room 1 self.old self.new disk disk result
+            (λ P. (now kept : Contents) → stands self.old disk now kept → now.held_root ≡ 0 → P now kept)
+            (λ done now kept. ((root : ℕ) × (0 < root) × stands self.new disk (record now { volumes = now.volumes ++ map as_copy now.volumes; held_root = root }) kept)
+            × (marks self.new ≡ marks self.old) × (room self.old ≤ room self.new)) };
+
+    /// Gives the held copy up, where one is held: what nothing else names is free. Each data block is marked. It takes no metadata block, and
+    /// no more are named then.
+    fn release<D: Disk>(&mut self, disk: &mut D) -> Result<(), StoreError>
+        requires disk { sectors_of_image (geometry self.old) ≤ (D.state disk.old).size }
+        ensures altered { IsAltered geometry stands room 0 self.old self.new (D.state disk.old) (D.state disk.new) result
+            (λ P. (now kept : Contents) → stands self.old (D.state disk.old) now kept → 0 < now.held_root → P now kept)
+            (λ done now kept. ((meta_used : ℕ) × (meta_used ≤ now.meta_used)
+            × stands self.new (D.state disk.new) (record now { volumes = without_copies now.volumes; held_root = 0; meta_used = meta_used }) kept)
+            × (marks self.new ≡ replicate (geometry self.old).data_blocks true)) };
 
     /// From now on this is the pool's transaction id. Where it was that before, nothing has changed.
     fn set_transaction_id(&mut self, id: u64)

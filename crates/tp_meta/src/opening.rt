@@ -38,12 +38,13 @@ pub struct Opened {
 pub fn open_store<D: Disk>(alloc: Global, disk: &mut D) -> Result<Opened, Refusal>
     ensures told { result ≢ Err Refusal.Fault → result ≢ Err Refusal.Memory → IsTrue (D.state disk.old).is_honest → IsToldOf (seen (D.state disk.old).cells) result }
     ensures holds { IfOk result (λ opened. IsTrue (D.state disk.old).is_honest → (last : Superblock) (s : Store) → IsCommit (seen (D.state disk.old).cells) last s
-        → (opened.superblock ≡ last) × Holds opened.tm (D.state disk.new) [] (held_by last.geometry last.root) s) }
+        → (opened.superblock ≡ last) × Holds opened.tm (D.state disk.new) [] (held_by last.geometry last.root last.held_root) s) }
     // The image of a commit is opened, where the disk and the memory allow it.
     ensures refused { IfErr result (λ refusal. refusal ≢ Refusal.Fault → refusal ≢ Refusal.Memory → IsTrue (D.state disk.old).is_honest
         → (last : Superblock) (s : Store) → IsCommit (seen (D.state disk.old).cells) last s → ⊥) }
     // On a disk that is not honest too.
     ensures alike { IfOk result (λ opened. (opened.tm.geometry ≡ opened.superblock.geometry) × (kept_now opened.tm ≡ opened.tm)) }
+    ensures held { IfOk result (λ opened. opened.tm.held_root ≡ opened.superblock.held_root) }
     ensures spare { IfOk result (λ opened. used_metadata opened.tm + 128 ≤ opened.superblock.geometry.metadata_blocks) }
     ensures whole { IfOk result (λ opened. sectors_of_image opened.superblock.geometry ≤ (D.state disk.old).size) }
     ensures only { IfErr result (λ refusal. (refusal ≡ Refusal.Fault) ⊎ (refusal ≡ Refusal.Memory) ⊎ (refusal ≡ Refusal.BadVersion) ⊎ (refusal ≡ Refusal.Damaged) ⊎ (refusal ≡ Refusal.NotAPool)) }
@@ -66,6 +67,7 @@ fn stored_counts<D: Disk>(
 ) -> Result<Tm, Refusal>
     ensures found { IfOk result (λ tm. IsTrue (D.state disk.old).is_honest → (part : Part) → HasCounts (seen (D.state disk.old).cells) superblock.now part (now_of tm part)) }
     ensures alike { IfOk result (λ tm. (tm.geometry ≡ superblock.now.geometry) × (kept_now tm ≡ tm)) }
+    ensures held { IfOk result (λ tm. tm.held_root ≡ superblock.now.held_root) }
     ensures whole { IfOk result (λ tm. sectors_of_image superblock.now.geometry ≤ (D.state disk.old).size) }
     ensures damaged { result ≡ Err Refusal.Damaged → IsTrue (D.state disk.old).is_honest
         → IsShort (seen (D.state disk.old).cells) superblock.now ⊎ LacksCounts (seen (D.state disk.old).cells) superblock.now }
@@ -80,5 +82,5 @@ fn stored_counts<D: Disk>(
     let area = superblock.slot();
     let metadata = Counts::read(alloc, disk, geometry, Part::Metadata, area)?;
     let others = Counts::read(alloc, disk, geometry, Part::Data, area)?;
-    Ok(Tm::new(geometry, metadata, others))
+    Ok(Tm::new(geometry, metadata, others, superblock.held_root))
 }

@@ -36,6 +36,10 @@ impl Metadata for Meta {
         self.needs_check
     }
 
+    fn held_root(&self) -> u32 {
+        self.mapping.store().held_root().number()
+    }
+
     fn used_metadata(&self) -> u32 {
         let _ = self.mapping.store().geometry().metadata_blocks();
         self.mapping.store().used_metadata() as u32
@@ -82,6 +86,16 @@ impl Metadata for Meta {
         let is_there = self.mapping.look_up_run(disk, device, first, places)?;
         homes_in(&self.marks, places, homes);
         Ok(is_there)
+    }
+
+    fn held_run<D: Disk>(
+        &self,
+        disk: &mut D,
+        device: DevId,
+        first: Vb,
+        places: &mut [Option<Pb>],
+    ) -> Result<bool, StoreError> {
+        self.mapping.held_run(disk, device, first, places)
     }
 
     fn mapped<D: Disk>(&self, disk: &mut D, device: DevId) -> Result<Option<u32>, StoreError> {
@@ -156,6 +170,7 @@ impl Metadata for Meta {
     }
 
     fn create<D: Disk>(&mut self, disk: &mut D, device: DevId) -> Result<(), StoreError> {
+        let _ = device.number();
         self.mapping.create(disk, device)?;
         let _ = self.mapping.store().geometry();
         self.devices = one_more(self.devices);
@@ -169,6 +184,7 @@ impl Metadata for Meta {
         origin: DevId,
         device: DevId,
     ) -> Result<(), StoreError> {
+        let _ = device.number();
         self.mapping.snapshot(disk, origin, device)?;
         let _ = self.mapping.store().geometry();
         self.devices = one_more(self.devices);
@@ -189,10 +205,26 @@ impl Metadata for Meta {
     }
 
     fn delete<D: Disk>(&mut self, disk: &mut D, device: DevId) -> Result<(), StoreError> {
+        let _ = device.number();
         mark_device(&self.mapping, disk, device, &mut self.marks)?;
         self.mapping.delete(disk, device)?;
         let _ = self.mapping.store().geometry();
         self.devices = one_fewer(self.devices);
+        self.is_changed = true;
+        Ok(())
+    }
+
+    fn reserve(&mut self) -> Result<(), StoreError> {
+        self.mapping.reserve()?;
+        let _ = self.mapping.store().geometry();
+        self.is_changed = true;
+        Ok(())
+    }
+
+    fn release<D: Disk>(&mut self, disk: &mut D) -> Result<(), StoreError> {
+        self.mapping.release(disk)?;
+        let _ = self.mapping.store().geometry();
+        self.marks.put_all();
         self.is_changed = true;
         Ok(())
     }

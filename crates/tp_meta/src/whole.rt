@@ -148,7 +148,7 @@ impl Meta {
     /// The metadata of a commit that is the last one. Its devices were not counted yet.
     fn unchanged(tm: Tm, last: &Superblock, room: Room) -> Meta
         ensures stands { (disk : DiskState) (s : Store) → IsTrue disk.is_honest → Leaves (λ image. IsCommit image last.now s) disk.cells
-            → Holds tm disk [] (held_by last.now.geometry last.now.root) s → tm.geometry ≡ last.now.geometry → kept_now tm ≡ tm → room.marks ≡ replicate last.now.geometry.data_blocks false
+            → Holds tm disk [] (held_by last.now.geometry last.now.root last.now.held_root) s → tm.geometry ≡ last.now.geometry → tm.held_root ≡ last.now.held_root → kept_now tm ≡ tm → room.marks ≡ replicate last.now.geometry.data_blocks false
             → ((area : SlotId) (part : Part) → marks_in (in_area room.stale.value area) part ≡ replicate 1024 true)
             → StandsFor result disk (contents_of last.now s) (contents_of last.now s) }
         ensures tm { result.mapping.tm ≡ tm }

@@ -1,14 +1,13 @@
 -- That what the tests of a call come to may be answered in the mode of the pool.
 use Rattle.std.proofs.Common.{inl, inr, ℕ, Bool, true, false, not, Option, List, [], ◌∷◌, length, refl}
 use Rattle.std.specs.Prelude.{IsTrue, MatchOption, nat_le, nat_lt, ◌&&◌, ◌||◌, ◌==◌}
-use Rattle.std.specs.FinMap.{len}
 use Rattle.tp_model.specs.declared.mode.Mode.{Mode}
 use Rattle.tp_model.specs.declared.mode.Mode.TheVariants as mode
 use Rattle.tp_model.specs.declared.refusal.Refusal.{Refusal}
-use Rattle.tp_model.specs.declared.refusal.Refusal.TheVariants.{BadSize, Busy, Exists, Failed, NoDataSpace, NoMetadataSpace, NoSuchDevice, ReadOnly, StaleTransactionId, TooManyDevices}
+use Rattle.tp_model.specs.declared.refusal.Refusal.TheVariants.{BadSize, Busy, Exists, Failed, NoDataSpace, NoMetadataSpace, NoSuchDevice, ReadOnly, StaleTransactionId, TooManyDevices, HeldRootExists, NoHeldRoot}
 use Rattle.tp_model.specs.Sectors.{Sector}
-use Rattle.tp_model.specs.Pool.{PlainPool, hold_count}
-use Rattle.tp_model.specs.Calls.{Call, Read, Write, Trim, WriteZeroes, Flush, CreateThin, CreateSnap, Delete, SetTransactionId, Grow, Hold, LetGo, Status, ThinStatus, NextId, VolumeBlocks, Close, IsOneOf, exists, first_failed, volume_blocks, has_data_room, has_metadata_room, is_failed, is_read_only, may_accept, refusal_of, refusals}
+use Rattle.tp_model.specs.Pool.{PlainPool, device_count, hold_count}
+use Rattle.tp_model.specs.Calls.{Call, Read, Write, Trim, WriteZeroes, Flush, CreateThin, CreateSnap, Delete, SetTransactionId, Grow, Hold, LetGo, Status, ThinStatus, NextId, VolumeBlocks, Close, HeldRead, ReserveMetadataSnap, ReleaseMetadataSnap, IsOneOf, exists, has_copy, first_failed, volume_blocks, has_data_room, has_metadata_room, is_failed, is_read_only, may_accept, refusal_of, refusals}
 
 abbrev pub Told : Mode → Call → Option Refusal → Type 0
 Told m call o = MatchOption o (IsTrue (may_accept m call)) (λ reason. IsOneOf reason (refusals m call))
@@ -104,12 +103,38 @@ snap_told mode.Writable true false false false id origin = refl
 snap_told mode.ReadOnly from there many short id origin = inl refl
 snap_told mode.Failed from there many short id origin = inl refl
 
-delete_told : (m : Mode) (there held : Bool) (id : ℕ) → Told m (Delete id) (first_failed ((is_failed m, Failed) ∷ (is_read_only m, ReadOnly) ∷ (not there, NoSuchDevice) ∷ (held, Busy) ∷ []))
-delete_told mode.Writable false held id = inl refl
-delete_told mode.Writable true true id = inr (inl refl)
-delete_told mode.Writable true false id = refl
-delete_told mode.ReadOnly there held id = inl refl
-delete_told mode.Failed there held id = inl refl
+delete_told : (m : Mode) (there held short : Bool) (id : ℕ)
+    → Told m (Delete id) (first_failed ((is_failed m, Failed) ∷ (is_read_only m, ReadOnly) ∷ (not there, NoSuchDevice) ∷ (held, Busy) ∷ (short, NoMetadataSpace) ∷ []))
+delete_told mode.Writable false held short id = inl refl
+delete_told mode.Writable true true short id = inr (inl refl)
+delete_told mode.Writable true false true id = inr (inr (inl refl))
+delete_told mode.Writable true false false id = refl
+delete_told mode.ReadOnly there held short id = inl refl
+delete_told mode.Failed there held short id = inl refl
+
+held_told : (m : Mode) (none there : Bool) (id sector count : ℕ)
+    → Told m (HeldRead id sector count) (first_failed ((is_failed m, Failed) ∷ (none, NoHeldRoot) ∷ (not there, NoSuchDevice) ∷ []))
+held_told mode.Writable true there id sector count = inl refl
+held_told mode.Writable false true id sector count = refl
+held_told mode.Writable false false id sector count = inr (inl refl)
+held_told mode.ReadOnly true there id sector count = inl refl
+held_told mode.ReadOnly false true id sector count = refl
+held_told mode.ReadOnly false false id sector count = inr (inl refl)
+held_told mode.Failed none there id sector count = inl refl
+
+reserve_told : (m : Mode) (some short : Bool)
+    → Told m ReserveMetadataSnap (first_failed ((is_failed m, Failed) ∷ (is_read_only m, ReadOnly) ∷ (some, HeldRootExists) ∷ (short, NoMetadataSpace) ∷ []))
+reserve_told mode.Writable true short = inl refl
+reserve_told mode.Writable false true = inr (inl refl)
+reserve_told mode.Writable false false = refl
+reserve_told mode.ReadOnly some short = inl refl
+reserve_told mode.Failed some short = inl refl
+
+release_told : (m : Mode) (none : Bool) → Told m ReleaseMetadataSnap (first_failed ((is_failed m, Failed) ∷ (is_read_only m, ReadOnly) ∷ (none, NoHeldRoot) ∷ []))
+release_told mode.Writable true = inl refl
+release_told mode.Writable false = refl
+release_told mode.ReadOnly none = inl refl
+release_told mode.Failed none = inl refl
 
 transaction_told : (m : Mode) (stale : Bool) (current next : ℕ)
     → Told m (SetTransactionId current next) (first_failed ((is_failed m, Failed) ∷ (is_read_only m, ReadOnly) ∷ (stale, StaleTransactionId) ∷ []))
@@ -150,9 +175,9 @@ tests_told p (Trim id sector count fua) = trim_told p.mode (exists p id) (nat_lt
 tests_told p (WriteZeroes id sector count no_hole fua) =
     zeroes_told p.mode (exists p id) (nat_lt 0 count) (has_metadata_room p 512) (has_data_room p (WriteZeroes id sector count no_hole fua) id) id sector count no_hole fua
 tests_told p Flush = flush_told p.mode
-tests_told p (CreateThin id) = create_told p.mode (exists p id) (nat_le 65536 (len p.volumes)) (not (has_metadata_room p 512)) id
-tests_told p (CreateSnap id origin) = snap_told p.mode (exists p origin) (exists p id) (nat_le 65536 (len p.volumes)) (not (has_metadata_room p 512)) id origin
-tests_told p (Delete id) = delete_told p.mode (exists p id) (nat_lt 0 (hold_count p.holds id)) id
+tests_told p (CreateThin id) = create_told p.mode (exists p id) (nat_le 65536 (device_count p)) (not (has_metadata_room p 512)) id
+tests_told p (CreateSnap id origin) = snap_told p.mode (exists p origin) (exists p id) (nat_le 65536 (device_count p)) (not (has_metadata_room p 512)) id origin
+tests_told p (Delete id) = delete_told p.mode (exists p id) (nat_lt 0 (hold_count p.holds id)) (not (p.held_root == 0) && not (has_metadata_room p 256)) id
 tests_told p (SetTransactionId current next) = transaction_told p.mode (not (current == p.transaction_id)) current next
 tests_told p (Grow id blocks) =
     grow_told p.mode (exists p id) (nat_lt 0 (hold_count p.holds id)) (nat_lt blocks (volume_blocks p id) || nat_lt 16777216 blocks) (not (has_metadata_room p 512)) id blocks
@@ -163,3 +188,6 @@ tests_told p (ThinStatus id) = status_told p.mode (exists p id) id
 tests_told p (NextId from) = next_told p.mode from
 tests_told p (VolumeBlocks id) = size_told p.mode (exists p id) id
 tests_told p Close = close_told p.mode
+tests_told p (HeldRead id sector count) = held_told p.mode (p.held_root == 0) (has_copy p id) id sector count
+tests_told p ReserveMetadataSnap = reserve_told p.mode (not (p.held_root == 0)) (not (has_metadata_room p 512))
+tests_told p ReleaseMetadataSnap = release_told p.mode (p.held_root == 0)

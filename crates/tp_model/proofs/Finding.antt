@@ -7,7 +7,7 @@ use Rattle.tp_model.specs.declared.refusal.Refusal.{Refusal}
 use Rattle.tp_model.specs.declared.refusal.Refusal.TheVariants.{Failed, NoDataSpace, NoMetadataSpace, NoSuchDevice, ReadOnly}
 use Rattle.tp_model.specs.Refusals.{refusal_number}
 use Rattle.tp_model.specs.Pool.{PlainPool, hold_count}
-use Rattle.tp_model.specs.Calls.{Answer, Done, Gave, Line, Found, Sized, Refused, Call, Read, Write, Trim, WriteZeroes, Flush, CreateThin, CreateSnap, Delete, SetTransactionId, Grow, Hold, LetGo, Status, ThinStatus, NextId, VolumeBlocks, Close, Step, Takes, exists, first_failed, has_data_room, has_metadata_room, is_failed, is_read_only, refusal_of, reply, volume_asked}
+use Rattle.tp_model.specs.Calls.{Answer, Done, Gave, Line, Found, Sized, Refused, Call, Read, Write, Trim, WriteZeroes, Flush, CreateThin, CreateSnap, Delete, SetTransactionId, Grow, Hold, LetGo, Status, ThinStatus, NextId, VolumeBlocks, Close, HeldRead, ReserveMetadataSnap, ReleaseMetadataSnap, Step, Takes, exists, first_failed, has_data_room, has_metadata_room, is_failed, is_read_only, refusal_of, reply, volume_asked}
 use Rattle.tp_model.specs.Clauses.{Called, View, ViewLaws}
 
 -- the number of what stands there; 0 where nothing does
@@ -64,6 +64,9 @@ module _ (p : PlainPool) (id : ℕ) (is : is_failed p.mode ≡ false → exists 
   tests_pass (NextId i) same = absurd (none-some id same)
   tests_pass (VolumeBlocks i) same = absurd (none-some id same)
   tests_pass Close same = absurd (none-some id same)
+  tests_pass (HeldRead i sector count) same = absurd (none-some id same)
+  tests_pass ReserveMetadataSnap same = absurd (none-some id same)
+  tests_pass ReleaseMetadataSnap same = absurd (none-some id same)
 
 -- ---- the answer
 
@@ -85,6 +88,9 @@ reply_number p (ThinStatus i) id same = absurd (none-some id same)
 reply_number p (NextId i) id same = absurd (none-some id same)
 reply_number p (VolumeBlocks i) id same = absurd (none-some id same)
 reply_number p Close id same = absurd (none-some id same)
+reply_number p (HeldRead i sector count) id same = absurd (none-some id same)
+reply_number p ReserveMetadataSnap id same = absurd (none-some id same)
+reply_number p ReleaseMetadataSnap id same = absurd (none-some id same)
 
 refused_by : (p : PlainPool) (call : Call) (id : ℕ) (q : PlainPool) → volume_asked call ≡ Some id → (o : Option Refusal) → refusal_of p call ≡ o → Step p call (Refused NoSuchDevice) q → number (refusal_of p call) ≡ 15
 refused_by p call id q asked None is h =

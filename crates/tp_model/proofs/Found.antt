@@ -48,6 +48,7 @@ MayReopen-nothing S P h =
       mode = h.mode i;
       holds = h.holds i;
       meta_used = h.meta_used i;
+      held_root = h.held_root i;
     }
 
 -- ---- the laws

@@ -1,22 +1,22 @@
 -- A volume that is held keeps its size over each call.
 use Rattle.std.proofs.Common.{◌≡◌, ◌≢◌, ℕ, ◌<◌, Bool, true, false, cond, List, [], ◌∷◌, length, map, Option, Some, None, inl, inr, refl, sym, ap, subst, ◌∙◌, arith}
-use Rattle.std.specs.Prelude.{not, nat_le, nat_lt, ◌||◌}
+use Rattle.std.specs.Prelude.{not, nat_le, nat_lt, ◌-◌, ◌^◌, ◌||◌}
 use Rattle.std.specs.Bool.{MatchBool}
 use Rattle.std.specs.Option.{is_some, option_map, option_map_or}
 use Rattle.std.specs.Ordering.{nat_cmp}
-use Rattle.std.specs.FinMap.{FinMap, get, insert, len, remove}
+use Rattle.std.specs.FinMap.{FinMap, contains_key, get, insert, remove, retain_keys}
 use Rattle.std.specs.List.{enumerate_from}
-use Rattle.std.proofs.lemmas.Bool.{cases_eq, cases_lt, lt-ltb, ne_eqb, true≢false}
+use Rattle.std.proofs.lemmas.Bool.{and_parts, cases_eq, cases_lt, lt-ltb, ne_eqb, true≢false}
 use Rattle.std.proofs.lemmas.List.{length-map}
 use Rattle.std.proofs.lemmas.List.FromFn.{length-enumerate_from}
 use Rattle.std.proofs.lemmas.Option.{none-some, MatchOption-at_none, MatchOption-at_some}
 use Rattle.tp_model.specs.declared.mode.Mode.TheVariants as mode
 use Rattle.tp_model.specs.declared.refusal.Refusal.{Refusal}
 use Rattle.tp_model.specs.declared.refusal.Refusal.TheVariants.{BadSize, Busy, Exists, Failed, NoMetadataSpace, NoSuchDevice, ReadOnly, TooManyDevices}
-use Rattle.tp_model.specs.Pool.{FindsHeld, PlainPool, Volume, hold_count, volume_sectors, volume_size}
-use Rattle.tp_model.specs.Calls.{Answer, Call, Read, Write, Trim, WriteZeroes, Flush, CreateThin, CreateSnap, Delete, SetTransactionId, Grow, Hold, LetGo, Status, ThinStatus, NextId, VolumeBlocks, Close, Edits, Makes, Step, Takes, after_refusal, exists, first_failed, grown, has_metadata_room, is_failed, is_read_only, is_writing, new_volume, refusal_of, sector_after, volume_blocks, volume_of}
+use Rattle.tp_model.specs.Pool.{FindsHeld, PlainPool, Volume, device_count, hold_count, is_now, volume_sectors, volume_size}
+use Rattle.tp_model.specs.Calls.{Answer, Call, Read, Write, Trim, WriteZeroes, Flush, CreateThin, CreateSnap, Delete, SetTransactionId, Grow, Hold, LetGo, Status, ThinStatus, NextId, VolumeBlocks, Close, HeldRead, ReserveMetadataSnap, ReleaseMetadataSnap, Reserves, Edits, Makes, Step, Takes, after_refusal, exists, first_failed, grown, has_metadata_room, is_failed, is_read_only, is_writing, new_volume, refusal_of, sector_after, volume_blocks, volume_of}
 use Rattle.tp_model.proofs.Holds.{fourth_passes, not_held}
-use Rattle.tp_model.proofs.Maps.{get_remove}
+use Rattle.tp_model.proofs.Maps.{get_remove, get_retain}
 use Rattle.tp_model.proofs.Steps.{other_of_insert}
 
 abbrev SameSizes : PlainPool → PlainPool → Type 0
@@ -37,7 +37,7 @@ size_there None there = absurd (true≢false (sym there))
 edited : (p : PlainPool) (call : Call) (id : ℕ) (q : PlainPool) → Edits p call id q → FindsHeld p → SameSizes p q
 edited p call id q e found i held = elim (cases_eq i id) [
   | inl same ↦
-      let there : exists p id ≡ true = found id (subst (λ j. 0 < hold_count p.holds j) same held) in
+      let there : contains_key p.volumes id ≡ true = (and_parts (is_now id) (contains_key p.volumes id) (found id (subst (λ j. 0 < hold_count p.holds j) same held))).1 in
       let long : length (map (λ s. sector_after p.geometry call s.0 s.1) (enumerate_from 0 (volume_sectors p id))) ≡ length (volume_sectors p id) =
       length-map (enumerate_from 0 (volume_sectors p id)) (λ s. sector_after p.geometry call s.0 s.1) ∙ length-enumerate_from 0 (volume_sectors p id) in
       ap (volume_size q) same
@@ -57,6 +57,17 @@ removed p q id volumes free i held =
     ap (size_in i) volumes
     ∙ ap (option_map (λ (v : Volume). length v.sectors)) (get_remove p.volumes id i ∙ ap (λ b. cond b None (get p.volumes i)) (ne_eqb i id (free i held)))
 
+-- held copies stand beside the volumes, and change none
+reserved : (p q : PlainPool) → Reserves p q → FindsHeld p → SameSizes p q
+reserved p q r found i held =
+    let here : is_now i ≡ true = (and_parts (is_now i) (contains_key p.volumes i) (found i held)).0 in
+    ap (option_map (λ (v : Volume). length v.sectors)) (r.volumes i ∙ ap (λ b. get p.volumes (cond b i (i - 2 ^ 24))) here)
+
+let_go_copies : (p q : PlainPool) → q.volumes ≡ retain_keys p.volumes is_now → FindsHeld p → SameSizes p q
+let_go_copies p q volumes found i held =
+    let here : is_now i ≡ true = (and_parts (is_now i) (contains_key p.volumes i) (found i held)).0 in
+    ap (size_in i) volumes ∙ ap (option_map (λ (v : Volume). length v.sectors)) (get_retain p.volumes is_now i ∙ ap (λ b. cond b (get p.volumes i) None) here)
+
 -- ---- what the tests say
 
 none_holds : (p : PlainPool) (id : ℕ) → hold_count p.holds id ≡ 0 → IsFree p id
@@ -74,12 +85,12 @@ third_passes false false false x y z tests h = refl
 new_thin : (p : PlainPool) (id : ℕ) → refusal_of p (CreateThin id) ≡ None → exists p id ≡ false
 new_thin p id none =
     third_passes (is_failed p.mode) (is_read_only p.mode) (exists p id) Failed ReadOnly Exists
-    ((nat_le 65536 (len p.volumes), TooManyDevices) ∷ (not (has_metadata_room p 512), NoMetadataSpace) ∷ []) none
+    ((nat_le 65536 (device_count p), TooManyDevices) ∷ (not (has_metadata_room p 512), NoMetadataSpace) ∷ []) none
 
 new_snap : (p : PlainPool) (id origin : ℕ) → refusal_of p (CreateSnap id origin) ≡ None → exists p id ≡ false
 new_snap p id origin none =
     fourth_passes (is_failed p.mode) (is_read_only p.mode) (not (exists p origin)) (exists p id) Failed ReadOnly NoSuchDevice Exists
-    ((nat_le 65536 (len p.volumes), TooManyDevices) ∷ (not (has_metadata_room p 512), NoMetadataSpace) ∷ []) none
+    ((nat_le 65536 (device_count p), TooManyDevices) ∷ (not (has_metadata_room p 512), NoMetadataSpace) ∷ []) none
 
 not_busy : (p : PlainPool) (id blocks : ℕ) → refusal_of p (Grow id blocks) ≡ None → hold_count p.holds id ≡ 0
 not_busy p id blocks none =
@@ -111,6 +122,9 @@ Makes-keeps_sizes p (ThinStatus id) q none h found = same_volumes p q (ap (λ r.
 Makes-keeps_sizes p (NextId id) q none h found = same_volumes p q (ap (λ r. r.volumes) h)
 Makes-keeps_sizes p (VolumeBlocks id) q none h found = same_volumes p q (ap (λ r. r.volumes) h)
 Makes-keeps_sizes p Close q none h found = same_volumes p q (ap (λ r. r.volumes) h)
+Makes-keeps_sizes p (HeldRead id at n) q none h found = same_volumes p q (ap (λ r. r.volumes) h)
+Makes-keeps_sizes p ReserveMetadataSnap q none h found = reserved p q h found
+Makes-keeps_sizes p ReleaseMetadataSnap q none h found = let_go_copies p q (ap (λ r. r.volumes) h) found
 
 -- ---- and one that is refused, or in which the disk fails
 

@@ -1,18 +1,18 @@
 -- Who holds a volume finds it after each call.
 use Rattle.std.proofs.Common.{◌≡◌, ◌≢◌, ℕ, ◌-◌, ◌+◌, ◌<◌, ◌≤◌, ◌==◌, Bool, true, false, cond, List, [], ◌∷◌, Option, Some, None, ◌⊎◌, inl, inr, refl, sym, ap, subst, ◌∙◌, arith}
-use Rattle.std.specs.Prelude.{not, nat_le, nat_lt}
+use Rattle.std.specs.Prelude.{◌^◌, ◌&&◌, not, nat_le, nat_lt}
 use Rattle.std.specs.Bool.{MatchBool}
 use Rattle.std.specs.Option.{is_some, unwrap_or}
 use Rattle.std.specs.Ordering.{nat_cmp}
-use Rattle.std.specs.FinMap.{FinMap, get, insert, remove}
-use Rattle.std.proofs.lemmas.Bool.{cases_eq, cases_lt, eq-eqb, lt-ltb, ne_eqb, true≢false}
+use Rattle.std.specs.FinMap.{FinMap, contains_key, get, insert, remove, retain_keys}
+use Rattle.std.proofs.lemmas.Bool.{and_from, and_parts, cases_eq, cases_lt, eq-eqb, lt-ltb, ne_eqb, true≢false}
 use Rattle.std.proofs.lemmas.Option.{none-some, MatchOption-at_none, MatchOption-at_some}
 use Rattle.tp_model.specs.declared.mode.Mode.TheVariants as mode
 use Rattle.tp_model.specs.declared.refusal.Refusal.{Refusal}
 use Rattle.tp_model.specs.declared.refusal.Refusal.TheVariants.{Busy, Failed, NoMetadataSpace, NoSuchDevice, ReadOnly}
-use Rattle.tp_model.specs.Pool.{FindsHeld, PlainPool, Volume, hold_count}
-use Rattle.tp_model.specs.Calls.{Answer, Call, Read, Write, Trim, WriteZeroes, Flush, CreateThin, CreateSnap, Delete, SetTransactionId, Grow, Hold, LetGo, Status, ThinStatus, NextId, VolumeBlocks, Close, Edits, Makes, Step, Takes, after_refusal, exists, first_failed, is_failed, is_read_only, grown, is_writing, new_volume, refusal_of, released, volume_of}
-use Rattle.tp_model.proofs.Maps.{get_insert, get_remove}
+use Rattle.tp_model.specs.Pool.{FindsHeld, PlainPool, Volume, hold_count, is_now}
+use Rattle.tp_model.specs.Calls.{Answer, Call, Read, Write, Trim, WriteZeroes, Flush, CreateThin, CreateSnap, Delete, SetTransactionId, Grow, Hold, LetGo, Status, ThinStatus, NextId, VolumeBlocks, Close, HeldRead, ReserveMetadataSnap, ReleaseMetadataSnap, Reserves, has_metadata_room, Edits, Makes, Step, Takes, after_refusal, exists, first_failed, is_failed, is_read_only, grown, is_writing, new_volume, refusal_of, released, volume_of}
+use Rattle.tp_model.proofs.Maps.{get_insert, get_remove, get_retain}
 use Rattle.tp_model.proofs.Steps.{other_of_insert}
 
 -- ---- counts of holds
@@ -45,26 +45,44 @@ count_released holds id i = by_test (nat_le (hold_count holds id) 1) refl (cases
 
 -- ---- volumes
 
-there : (p : PlainPool) (q : PlainPool) (id : ℕ) (v : Volume) → get q.volumes id ≡ Some v → exists q id ≡ true
-there p q id v is = ap is_some is
+-- a device that was found is there where the map has it still
+still : (p q : PlainPool) (id : ℕ) → exists p id ≡ true → (contains_key p.volumes id ≡ true → contains_key q.volumes id ≡ true) → exists q id ≡ true
+still p q id was there =
+    let both = and_parts (is_now id) (contains_key p.volumes id) was in
+    and_from (is_now id) (contains_key q.volumes id) both.0 (there both.1)
 
 same_volumes : (p q : PlainPool) → q.volumes ≡ p.volumes → q.holds ≡ p.holds → FindsHeld p → FindsHeld q
 same_volumes p q volumes holds found id some =
-    ap (λ (m : FinMap nat_cmp Volume). is_some (get m id)) volumes ∙ found id (subst (λ (h : FinMap nat_cmp ℕ). 0 < hold_count h id) holds some)
+    still p q id (found id (subst (λ (h : FinMap nat_cmp ℕ). 0 < hold_count h id) holds some)) (λ t. ap (λ (m : FinMap nat_cmp Volume). is_some (get m id)) volumes ∙ t)
 
 edited : (p : PlainPool) (call : Call) (id : ℕ) (q : PlainPool) → Edits p call id q → FindsHeld p → FindsHeld q
-edited p call id q e found i some = elim (cases_eq i id) [
-  | inl same ↦ ap (exists q) same ∙ there p q id _ e.volume
-  | inr apart ↦ ap is_some (e.others i apart) ∙ found i (subst (λ (h : FinMap nat_cmp ℕ). 0 < hold_count h i) (ap (λ r. r.holds) e.rest) some)
-]
+edited p call id q e found i some =
+    still p q i (found i (subst (λ (h : FinMap nat_cmp ℕ). 0 < hold_count h i) (ap (λ r. r.holds) e.rest) some))
+    (λ t. elim (cases_eq i id) [
+      | inl same ↦ ap (λ j. is_some (get q.volumes j)) same ∙ ap is_some e.volume
+      | inr apart ↦ ap is_some (e.others i apart) ∙ t
+    ])
 
 added : (p q : PlainPool) (id : ℕ) (v : Volume) → q.volumes ≡ insert p.volumes id v → q.holds ≡ p.holds → FindsHeld p → FindsHeld q
-added p q id v volumes holds found i some = elim (cases_eq i id) [
-  | inl same ↦ ap (λ (m : FinMap nat_cmp Volume). is_some (get m i)) volumes ∙ ap is_some (get_insert p.volumes id v i ∙ ap (λ b. cond b (Some v) (get p.volumes i)) (eq-eqb i id same))
-  | inr apart ↦
-      ap (λ (m : FinMap nat_cmp Volume). is_some (get m i)) volumes
-      ∙ (ap is_some (other_of_insert p.volumes id v i apart) ∙ found i (subst (λ (h : FinMap nat_cmp ℕ). 0 < hold_count h i) holds some))
-]
+added p q id v volumes holds found i some =
+    still p q i (found i (subst (λ (h : FinMap nat_cmp ℕ). 0 < hold_count h i) holds some))
+    (λ t. elim (cases_eq i id) [
+      | inl same ↦ ap (λ (m : FinMap nat_cmp Volume). is_some (get m i)) volumes ∙ ap is_some (get_insert p.volumes id v i ∙ ap (λ b. cond b (Some v) (get p.volumes i)) (eq-eqb i id same))
+      | inr apart ↦ ap (λ (m : FinMap nat_cmp Volume). is_some (get m i)) volumes ∙ (ap is_some (other_of_insert p.volumes id v i apart) ∙ t)
+    ])
+
+-- a held copy changes nothing of what is there
+reserved : (p q : PlainPool) → Reserves p q → FindsHeld p → FindsHeld q
+reserved p q r found i some =
+    let was = found i (subst (λ (h : FinMap nat_cmp ℕ). 0 < hold_count h i) (ap (λ x. x.holds) r.rest) some) in
+    let here : is_now i ≡ true = (and_parts (is_now i) (contains_key p.volumes i) was).0 in
+    still p q i was (λ t. ap is_some (r.volumes i ∙ ap (λ b. get p.volumes (cond b i (i - 2 ^ 24))) here) ∙ t)
+
+let_go_copies : (p q : PlainPool) → q.volumes ≡ retain_keys p.volumes is_now → q.holds ≡ p.holds → FindsHeld p → FindsHeld q
+let_go_copies p q volumes holds found i some =
+    let was = found i (subst (λ (h : FinMap nat_cmp ℕ). 0 < hold_count h i) holds some) in
+    let here : is_now i ≡ true = (and_parts (is_now i) (contains_key p.volumes i) was).0 in
+    still p q i was (λ t. ap (λ (m : FinMap nat_cmp Volume). is_some (get m i)) volumes ∙ (ap is_some (get_retain p.volumes is_now i ∙ ap (λ b. cond b (get p.volumes i) None) here) ∙ t))
 
 -- ---- what the tests say
 
@@ -82,7 +100,7 @@ second_passes false false x y h = absurd (none-some y (sym h))
 
 pub not_held : (p : PlainPool) (id : ℕ) → refusal_of p (Delete id) ≡ None → hold_count p.holds id ≡ 0
 not_held p id none =
-    let free = fourth_passes (is_failed p.mode) (is_read_only p.mode) (not (exists p id)) (nat_lt 0 (hold_count p.holds id)) Failed ReadOnly NoSuchDevice Busy [] none in
+    let free = fourth_passes (is_failed p.mode) (is_read_only p.mode) (not (exists p id)) (nat_lt 0 (hold_count p.holds id)) Failed ReadOnly NoSuchDevice Busy ((not (p.held_root == 0) && not (has_metadata_room p 256), NoMetadataSpace) ∷ []) none in
     elim (cases_lt 0 (hold_count p.holds id)) [
       | inl lt ↦ absurd (true≢false (sym (lt-ltb 0 (hold_count p.holds id) lt) ∙ free))
       | inr le ↦ omega (arith, le)
@@ -93,22 +111,21 @@ deleted p q id free volumes holds found i some =
     let held : 0 < hold_count p.holds i = subst (λ (h : FinMap nat_cmp ℕ). 0 < hold_count h i) holds some in
     elim (cases_eq i id) [
       | inl same ↦ absurd (omega (arith, held, free, ap (hold_count p.holds) same))
-      | inr apart ↦
-          ap (λ (m : FinMap nat_cmp Volume). is_some (get m i)) volumes
-          ∙ (ap is_some (get_remove p.volumes id i ∙ ap (λ b. cond b None (get p.volumes i)) (ne_eqb i id apart)) ∙ found i held)
+      | inr apart ↦ still p q i (found i held) (λ t. ap (λ (m : FinMap nat_cmp Volume). is_some (get m i)) volumes
+          ∙ (ap is_some (get_remove p.volumes id i ∙ ap (λ b. cond b None (get p.volumes i)) (ne_eqb i id apart)) ∙ t))
     ]
 
 held : (p q : PlainPool) (id : ℕ) → exists p id ≡ true → q.volumes ≡ p.volumes → q.holds ≡ insert p.holds id (hold_count p.holds id + 1) → FindsHeld p → FindsHeld q
 held p q id is volumes holds found i some =
-    ap (λ (m : FinMap nat_cmp Volume). is_some (get m i)) volumes
-    ∙ elim (cases_eq i id) [
+    still p q i (elim (cases_eq i id) [
       | inl same ↦ ap (exists p) same ∙ is
       | inr apart ↦ found i (subst (λ n. 0 < n) (ap (λ h. hold_count h i) holds ∙ count_insert p.holds id (hold_count p.holds id + 1) i apart) some)
-    ]
+    ])
+    (λ t. ap (λ (m : FinMap nat_cmp Volume). is_some (get m i)) volumes ∙ t)
 
 let_go : (p q : PlainPool) (id : ℕ) → q.volumes ≡ p.volumes → q.holds ≡ released p.holds id → FindsHeld p → FindsHeld q
 let_go p q id volumes holds found i some =
-    ap (λ (m : FinMap nat_cmp Volume). is_some (get m i)) volumes ∙ found i (omega (arith, some, ap (λ h. hold_count h i) holds, count_released p.holds id i))
+    still p q i (found i (omega (arith, some, ap (λ h. hold_count h i) holds, count_released p.holds id i))) (λ t. ap (λ (m : FinMap nat_cmp Volume). is_some (get m i)) volumes ∙ t)
 
 pub Makes-FindsHeld : (p : PlainPool) (call : Call) (q : PlainPool) → refusal_of p call ≡ None → Makes p call q → FindsHeld p → FindsHeld q
 Makes-FindsHeld p (Write id at xs fua) q none h = edited p (Write id at xs fua) id q h
@@ -129,6 +146,9 @@ Makes-FindsHeld p (ThinStatus id) q none h = same_volumes p q (ap (λ r. r.volum
 Makes-FindsHeld p (NextId id) q none h = same_volumes p q (ap (λ r. r.volumes) h) (ap (λ r. r.holds) h)
 Makes-FindsHeld p (VolumeBlocks id) q none h = same_volumes p q (ap (λ r. r.volumes) h) (ap (λ r. r.holds) h)
 Makes-FindsHeld p Close q none h = same_volumes p q (ap (λ r. r.volumes) h) (ap (λ r. r.holds) h)
+Makes-FindsHeld p (HeldRead id at n) q none h = same_volumes p q (ap (λ r. r.volumes) h) (ap (λ r. r.holds) h)
+Makes-FindsHeld p ReserveMetadataSnap q none h = reserved p q h
+Makes-FindsHeld p ReleaseMetadataSnap q none h = let_go_copies p q (ap (λ r. r.volumes) h) (ap (λ r. r.holds) h)
 
 -- ---- whatever is answered
 

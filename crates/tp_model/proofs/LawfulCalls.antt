@@ -3,7 +3,7 @@ use Rattle.std.proofs.Common.{◌≡◌, ℕ, zero, suc, ◌+◌, ◌*◌, ◌/�
 use Rattle.std.specs.Prelude.{slice_get}
 use Rattle.std.specs.Option.{IsSome, option_map, option_map_or}
 use Rattle.std.specs.Ordering.{nat_cmp}
-use Rattle.std.specs.FinMap.{FinMap, get, empty, insert, remove}
+use Rattle.std.specs.FinMap.{FinMap, get, empty, insert, remove, retain_keys}
 use Rattle.std.proofs.lemmas.Bool.{false≢true, cases_eq, cases_lt, eq-eqb, ne_eqb}
 use Rattle.std.proofs.lemmas.Nat.{div-mul-add}
 use Rattle.std.proofs.Math.Nat.{div-mul-le_self, lt-div-mul-add, mul-le-mul_right}
@@ -12,9 +12,9 @@ use Rattle.tp_model.specs.declared.refusal.Refusal.{Refusal}
 use Rattle.tp_model.specs.declared.refusal.Refusal.TheVariants.{NoMetadataSpace}
 use Rattle.tp_model.specs.Geometry.{Geometry}
 use Rattle.tp_model.specs.Sectors.{Sector, zero_sector}
-use Rattle.tp_model.specs.Pool.{Volume, PlainPool, volume_sector, volume_sectors, volume_slots, slot_at, IsExclusive, IsLawful, IsShaped, IsShapedVolume}
-use Rattle.tp_model.specs.Calls.{Call, Read, Write, Trim, WriteZeroes, Flush, CreateThin, CreateSnap, Delete, SetTransactionId, Grow, Hold, LetGo, Status, ThinStatus, NextId, VolumeBlocks, Close, Answer, SlotEffect, Keeps, Loses, Owns, sector_after, SlotAfter, effect_at, Edits, Makes, Step, refusal_of, after_refusal, grown, new_volume, volume_blocks, volume_of}
-use Rattle.tp_model.proofs.Maps.{get_insert, get_empty, get_remove}
+use Rattle.tp_model.specs.Pool.{Volume, PlainPool, is_now, volume_sector, volume_sectors, volume_slots, slot_at, IsExclusive, IsLawful, IsShaped, IsShapedVolume}
+use Rattle.tp_model.specs.Calls.{Call, Read, Write, Trim, WriteZeroes, Flush, CreateThin, CreateSnap, Delete, SetTransactionId, Grow, Hold, LetGo, Status, ThinStatus, NextId, VolumeBlocks, Close, HeldRead, ReserveMetadataSnap, ReleaseMetadataSnap, held_of, Reserves, Answer, SlotEffect, Keeps, Loses, Owns, sector_after, SlotAfter, effect_at, Edits, Makes, Step, refusal_of, after_refusal, grown, new_volume, volume_blocks, volume_of}
+use Rattle.tp_model.proofs.Maps.{get_insert, get_empty, get_remove, get_retain}
 use Rattle.tp_model.proofs.Growing.{blocks_are, in_front, no_less, old_or_zero, shaped_at}
 use Rattle.tp_model.proofs.Editing.{Fits, effect_fits, volume_sector-edited, volume_sector-other, slot_at-other}
 
@@ -100,6 +100,22 @@ put_in p q id v e n i b here =
     place_by_id (inr s) at =
         let other = at i ∙ ap (λ t. cond t (Some v) (get p.volumes i)) (ne_eqb i id s) in
         inr (inr (record { j = i; slot = slot_in_map q.volumes i b _ other; sectors = λ k _. sector_in_map q.volumes i k _ other }))
+
+-- a volume of a pool with a held copy is one that was there
+reserved_place : (p q : PlainPool) → Reserves p q → (n i b : ℕ) → Place p q n i b
+reserved_place p q r n i b = inr (inr (record { j = held_of i; slot = slot_in_map q.volumes i b _ (r.volumes i); sectors = λ k _. sector_in_map q.volumes i k _ (r.volumes i) }))
+
+-- a copy that was given up is no volume any more, and the others are as they were
+released_place : (p q : PlainPool) → q.volumes ≡ retain_keys p.volumes is_now → (n i b : ℕ) (t : Bool) → is_now i ≡ t → Place p q n i b
+released_place p q e n i b true is =
+    let at : get q.volumes i ≡ get p.volumes i = ap (λ (m : FinMap nat_cmp Volume). get m i) e ∙ (get_retain p.volumes is_now i ∙ ap (λ t. cond t (get p.volumes i) None) is) in
+    inr (inr (record { j = i; slot = slot_in_map q.volumes i b _ at; sectors = λ k _. sector_in_map q.volumes i k _ at }))
+released_place p q e n i b false is =
+    let at : get q.volumes i ≡ None = ap (λ (m : FinMap nat_cmp Volume). get m i) e ∙ (get_retain p.volumes is_now i ∙ ap (λ t. cond t (get p.volumes i) None) is) in
+    inr (inl (record {
+      unmapped = slot_in_map q.volumes i b _ at ∙ get_empty b;
+      zeros = λ k s _ h. absurd (none-some s (sym (sector_in_map q.volumes i k _ at) ∙ h));
+    }))
 
 fresh_place : (p q : PlainPool) (g : Geometry) (id n b : ℕ) → get q.volumes id ≡ Some (new_volume g) → Place p q n id b
 fresh_place p q g id n b e = inr (inl (record {
@@ -251,6 +267,10 @@ Makes-IsLawful p (ThinStatus id) q some shaped none law h = same_lawful p q h la
 Makes-IsLawful p (NextId id) q some shaped none law h = same_lawful p q h law
 Makes-IsLawful p (VolumeBlocks id) q some shaped none law h = same_lawful p q h law
 Makes-IsLawful p Close q some shaped none law h = same_lawful p q h law
+Makes-IsLawful p (HeldRead id at n) q some shaped none law h = same_lawful p q h law
+Makes-IsLawful p ReserveMetadataSnap q some shaped none law h = lawful_by_places p q (ap (λ r. r.geometry) h.rest) law (λ i b. reserved_place p q h p.geometry.block_sectors i b)
+Makes-IsLawful p ReleaseMetadataSnap q some shaped none law h =
+    lawful_by_places p q (ap (λ r. r.geometry) h) law (λ i b. released_place p q (ap (λ r. r.volumes) h) p.geometry.block_sectors i b (is_now i) refl)
 
 pub refusal_volumes : (r : Refusal) (p : PlainPool) → ((after_refusal r p).volumes ≡ p.volumes) × ((after_refusal r p).geometry ≡ p.geometry)
 refusal_volumes NoMetadataSpace p = (refl, refl)

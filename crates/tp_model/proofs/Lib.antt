@@ -10,6 +10,7 @@ pub mod LawfulCalls
 pub mod Shape
 pub mod Found
 pub mod Renaming
+pub mod CopiesKept
 pub mod Counting
 pub mod Removing
 pub mod Slices

@@ -1,18 +1,20 @@
 -- Each call can be made: on every pool there is one that an accepted call makes of it.
-use Rattle.std.proofs.Common.{◌≡◌, ℕ, zero, suc, ◌+◌, ◌*◌, ◌<◌, ◌≤◌, ◌==◌, Bool, true, false, cond, List, [], ◌∷◌, map, Option, Some, None, ◌⊎◌, inl, inr, refl, sym, ap, subst, ◌∙◌, length, arith}
+use Rattle.std.proofs.Common.{◌≡◌, ℕ, zero, suc, ◌+◌, ◌-◌, ◌*◌, ◌^◌, ◌<◌, ◌≤◌, ◌==◌, Bool, true, false, cond, List, [], ◌∷◌, map, Option, Some, None, ◌⊎◌, inl, inr, refl, sym, ap, subst, ◌∙◌, length, arith}
 use Rattle.std.specs.Prelude.{nat_lt}
 use Rattle.std.specs.Option.{IsSome, option_map_or}
 use Rattle.std.specs.List.{list_all, enumerate_from}
 use Rattle.std.specs.Ordering.{nat_cmp}
-use Rattle.std.specs.FinMap.{FinMap, get, insert, remove, empty}
+use Rattle.std.specs.FinMap.{FinMap, get, get-entries, entries, find, insert, remove, retain_keys, empty}
+use Rattle.std.specs.Ordering.{eq_by_cmp}
+use Rattle.std.specs.Cmp.{unsigned_tied}
 use Rattle.std.proofs.Math.Nat.{le-mul_of_pos_right}
-use Rattle.std.proofs.lemmas.Bool.{and_from, cases_eq, cases_lt, eq-eqb, ne_eqb, ltb-true, lt-ltb}
+use Rattle.std.proofs.lemmas.Bool.{and_from, cases_eq, cases_lt, eq-eqb, ne_eqb, ltb-true, le-ltb, lt-ltb}
 use Rattle.std.proofs.lemmas.Option.{none-some, same_Some}
 use Rattle.tp_model.specs.declared.refusal.Refusal.{Refusal}
 use Rattle.tp_model.specs.Geometry.{Geometry}
-use Rattle.tp_model.specs.Pool.{Volume, PlainPool, volume_sectors, volume_slots, slot_at, all_slots}
-use Rattle.tp_model.specs.Calls.{Call, Read, Write, Trim, WriteZeroes, Flush, CreateThin, CreateSnap, Delete, SetTransactionId, Grow, Hold, LetGo, Status, ThinStatus, NextId, VolumeBlocks, Close, Answer, Done, Refused, SlotEffect, Keeps, Loses, Owns, SlotAfter, sector_after, slot_effect, effect_at, Edits, Makes, Step, reply, refusal_of, after_refusal, grown, new_volume, volume_of, holds_after}
-use Rattle.tp_model.proofs.Maps.{get_insert, get_remove}
+use Rattle.tp_model.specs.Pool.{Volume, PlainPool, copy_id, is_now, volume_sectors, volume_slots, slot_at, all_slots}
+use Rattle.tp_model.specs.Calls.{Call, Read, Write, Trim, WriteZeroes, Flush, CreateThin, CreateSnap, Delete, SetTransactionId, Grow, Hold, LetGo, Status, ThinStatus, NextId, VolumeBlocks, Close, HeldRead, ReserveMetadataSnap, ReleaseMetadataSnap, held_of, Answer, Done, Refused, SlotEffect, Keeps, Loses, Owns, SlotAfter, sector_after, slot_effect, effect_at, Edits, Makes, Step, reply, refusal_of, after_refusal, grown, new_volume, volume_of, holds_after}
+use Rattle.tp_model.proofs.Maps.{get_insert, get_remove, get_retain}
 use Rattle.tp_model.proofs.Sharing.{all_slots_pass}
 use Rattle.tp_model.proofs.Steps.{step_accepted, step_refused, not_touched_past, not_covered_past, other_of_insert}
 use Rattle.tp_model.proofs.Shape.{end_of}
@@ -119,6 +121,9 @@ module _ (g : Geometry) (some : 0 < g.block_sectors) where
   kept_past_end (NextId id) block slot h = refl
   kept_past_end (VolumeBlocks id) block slot h = refl
   kept_past_end Close block slot h = refl
+  kept_past_end (HeldRead id sector count) block slot h = refl
+  kept_past_end ReserveMetadataSnap block slot h = refl
+  kept_past_end ReleaseMetadataSnap block slot h = refl
 
 -- ---- the pool that a request makes
 
@@ -189,6 +194,45 @@ module _ (p : PlainPool) (call : Call) (id : ℕ) (some : 0 < p.geometry.block_s
   pub Edits-possible : (q : PlainPool) × Edits p call id q
   Edits-possible = (edited_pool p call id, edited)
 
+-- ---- the pool with a held copy
+
+-- the volumes of these ids, and behind them the copies
+abbrev copies_of : List (ℕ × Volume) → FinMap nat_cmp Volume → FinMap nat_cmp Volume
+copies_of [] m = m
+copies_of (e ∷ es) m = insert (copies_of es m) (copy_id e.0) e.1
+
+same_test : (id k : ℕ) → 2 ^ 24 ≤ id → (id == copy_id k) ≡ (id - 2 ^ 24 == k)
+same_test id k l = elim (cases_eq id (copy_id k)) [
+  | inl e ↦ eq-eqb id (copy_id k) e ∙ sym (eq-eqb (id - 2 ^ 24) k (omega (arith, e)))
+  | inr n ↦ ne_eqb id (copy_id k) n ∙ sym (ne_eqb (id - 2 ^ 24) k (λ e. n (omega (arith, e, l))))
+]
+
+-- an id of a device finds what was there, and one of a copy the volume that is held
+copies_low : (es : List (ℕ × Volume)) (m : FinMap nat_cmp Volume) (id : ℕ) → id < 2 ^ 24 → get (copies_of es m) id ≡ get m id
+copies_low [] m id l = refl
+copies_low (e ∷ es) m id l = other_of_insert (copies_of es m) (copy_id e.0) e.1 id (λ q. absurd (omega (arith, q, l))) ∙ copies_low es m id l
+
+copies_high : (es : List (ℕ × Volume)) (m : FinMap nat_cmp Volume) (id : ℕ) → 2 ^ 24 ≤ id → get m id ≡ None → get (copies_of es m) id ≡ find nat_cmp (id - 2 ^ 24) es
+copies_high [] m id l none = none
+copies_high (e ∷ es) m id l none =
+    get_insert (copies_of es m) (copy_id e.0) e.1 id
+    ∙ (ap (λ t. cond t (Some e.1) (get (copies_of es m) id)) (same_test id e.0 l ∙ sym (unsigned_tied (id - 2 ^ 24) e.0))
+    ∙ ap (λ o. cond (eq_by_cmp nat_cmp (id - 2 ^ 24) e.0) (Some e.1) o) (copies_high es m id l none))
+
+abbrev reserved_pool : PlainPool → PlainPool
+reserved_pool p = record p { volumes = copies_of (entries p.volumes) (retain_keys p.volumes is_now); held_root = 1 }
+
+get_copies : (m : FinMap nat_cmp Volume) (id : ℕ) → get (copies_of (entries m) (retain_keys m is_now)) id ≡ get m (held_of id)
+get_copies m id = elim (cases_lt id (2 ^ 24)) [
+  | inl l ↦
+      copies_low (entries m) (retain_keys m is_now) id l
+      ∙ (get_retain m is_now id ∙ (ap (λ t. cond t (get m id) None) (lt-ltb id (2 ^ 24) l) ∙ sym (ap (λ t. get m (cond t id (id - 2 ^ 24))) (lt-ltb id (2 ^ 24) l))))
+  | inr g ↦
+      let off : is_now id ≡ false = le-ltb id (2 ^ 24) (omega (arith, g)) in
+      copies_high (entries m) (retain_keys m is_now) id (omega (arith, g)) (get_retain m is_now id ∙ ap (λ t. cond t (get m id) None) off)
+      ∙ (sym (get-entries m (id - 2 ^ 24)) ∙ sym (ap (λ t. get m (cond t id (id - 2 ^ 24))) off))
+]
+
 -- what a call makes of a pool where it is accepted can be made, on every pool
 pub Makes-possible : (p : PlainPool) (call : Call) → 0 < p.geometry.block_sectors → (q : PlainPool) × Makes p call q
 Makes-possible p (Write id at xs fua) some = Edits-possible p (Write id at xs fua) id some
@@ -209,6 +253,9 @@ Makes-possible p (ThinStatus id) some = (p, refl)
 Makes-possible p (NextId id) some = (p, refl)
 Makes-possible p (VolumeBlocks id) some = (p, refl)
 Makes-possible p Close some = (p, refl)
+Makes-possible p (HeldRead id at n) some = (p, refl)
+Makes-possible p ReserveMetadataSnap some = (reserved_pool p, record { rest = refl; held = omega arith; volumes = λ id. get_copies p.volumes id })
+Makes-possible p ReleaseMetadataSnap some = (record p { volumes = retain_keys p.volumes is_now; held_root = 0 }, refl)
 
 step_by : (p : PlainPool) (call : Call) → 0 < p.geometry.block_sectors → (o : Option Refusal) → refusal_of p call ≡ o → (answer : Answer) × (q : PlainPool) × Step p call answer q
 step_by p call some None is = let m = Makes-possible p call some in (reply p call, m.0, step_accepted p call m.0 is m.1)

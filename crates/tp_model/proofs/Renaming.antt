@@ -1,10 +1,11 @@
 -- What a call makes is determined up to the names of labels, and up to the metadata blocks that it takes.
 use Rattle.std.proofs.Common.{◌≡◌, ℕ, length, Option, None, ◌⊎◌, inl, inr, refl, sym, ap, subst, ◌∙◌}
 use Rattle.std.specs.Option.{IsSome, option_map}
-use Rattle.std.specs.FinMap.{insert, remove}
+use Rattle.std.specs.FinMap.{insert, remove, retain_keys}
 use Rattle.std.proofs.lemmas.Bool.{cases_eq, false≢true}
-use Rattle.tp_model.specs.Pool.{PlainPool, volume_size, volume_sector, slot_at, IsExclusive, IsRenamed}
-use Rattle.tp_model.specs.Calls.{Call, Read, Write, Trim, WriteZeroes, Flush, CreateThin, CreateSnap, Delete, SetTransactionId, Grow, Hold, LetGo, Status, ThinStatus, NextId, VolumeBlocks, Close, SlotEffect, Keeps, Loses, Owns, SlotAfter, effect_at, Edits, Makes, grown, new_volume, volume_of}
+use Rattle.tp_model.specs.Pool.{PlainPool, is_now, volume_size, volume_sector, slot_at, IsExclusive, IsRenamed}
+use Rattle.tp_model.specs.Calls.{Call, Read, Write, Trim, WriteZeroes, Flush, CreateThin, CreateSnap, Delete, SetTransactionId, Grow, Hold, LetGo, Status, ThinStatus, NextId, VolumeBlocks, Close, HeldRead, ReserveMetadataSnap, ReleaseMetadataSnap, Reserves, SlotEffect, Keeps, Loses, Owns, SlotAfter, effect_at, Edits, Makes, grown, new_volume, volume_of}
+use Rattle.tp_model.proofs.Maps.{same_nat_map}
 use Rattle.tp_model.proofs.Editing.{volume_sector-edited, volume_sector-other, slot_at-other}
 
 -- a place of two pools that were made of one: exclusive in both, unmapped in both, or as it was in both
@@ -76,6 +77,7 @@ module _ (p : PlainPool) (call : Call) (id : ℕ) (q r : PlainPool) (e : Edits p
     mode = ap (λ x. x.mode) f.rest ∙ sym (ap (λ x. x.mode) e.rest);
     holds = ap (λ x. x.holds) f.rest ∙ sym (ap (λ x. x.holds) e.rest);
     meta_used = sym m;
+    held_root = ap (λ x. x.held_root) f.rest ∙ sym (ap (λ x. x.held_root) e.rest);
   }
 
 pub IsRenamed-itself : (p : PlainPool) → IsRenamed p p
@@ -92,28 +94,38 @@ IsRenamed-itself p = record {
   mode = refl;
   holds = refl;
   meta_used = refl;
+  held_root = refl;
 }
 
 same : (q r : PlainPool) → q ≡ r → IsRenamed q r
 same q r e = subst (λ x. IsRenamed q x) e (IsRenamed-itself q)
 
+-- one volume at each id, and one root
+reserves_one : (p q r : PlainPool) → Reserves p q → Reserves p r → q.held_root ≡ r.held_root → q ≡ r
+reserves_one p q r e f h =
+    let volumes : q.volumes ≡ r.volumes = same_nat_map q.volumes r.volumes (λ id. e.volumes id ∙ sym (f.volumes id)) in
+    e.rest ∙ ((λ i. record p { volumes = volumes i; held_root = h i }) ∙ sym f.rest)
+
 -- but for the metadata blocks that it takes, a call makes one pool, whatever data blocks it takes
-pub Makes-IsRenamed : (p : PlainPool) (call : Call) (q r : PlainPool) → Makes p call q → Makes p call r → q.meta_used ≡ r.meta_used → IsRenamed q r
-Makes-IsRenamed p (Write id sector xs fua) q r e f m = Edits-IsRenamed p (Write id sector xs fua) id q r e f m
-Makes-IsRenamed p (Trim id sector count fua) q r e f m = Edits-IsRenamed p (Trim id sector count fua) id q r e f m
-Makes-IsRenamed p (WriteZeroes id sector count no_hole fua) q r e f m = Edits-IsRenamed p (WriteZeroes id sector count no_hole fua) id q r e f m
-Makes-IsRenamed p (CreateThin id) q r e f m = same q r (e ∙ ap (λ (n : ℕ). record p { volumes = insert p.volumes id (new_volume p.geometry); meta_used = n }) m ∙ sym f)
-Makes-IsRenamed p (CreateSnap id origin) q r e f m = same q r (e ∙ ap (λ (n : ℕ). record p { volumes = insert p.volumes id (volume_of p origin); meta_used = n }) m ∙ sym f)
-Makes-IsRenamed p (Delete id) q r e f m = same q r (e ∙ ap (λ (n : ℕ). record p { volumes = remove p.volumes id; meta_used = n }) m ∙ sym f)
-Makes-IsRenamed p (SetTransactionId current next) q r e f m = same q r (e ∙ sym f)
-Makes-IsRenamed p (Grow id blocks) q r e f m =
+pub Makes-IsRenamed : (p : PlainPool) (call : Call) (q r : PlainPool) → Makes p call q → Makes p call r → q.meta_used ≡ r.meta_used → q.held_root ≡ r.held_root → IsRenamed q r
+Makes-IsRenamed p (Write id sector xs fua) q r e f m h = Edits-IsRenamed p (Write id sector xs fua) id q r e f m
+Makes-IsRenamed p (Trim id sector count fua) q r e f m h = Edits-IsRenamed p (Trim id sector count fua) id q r e f m
+Makes-IsRenamed p (WriteZeroes id sector count no_hole fua) q r e f m h = Edits-IsRenamed p (WriteZeroes id sector count no_hole fua) id q r e f m
+Makes-IsRenamed p (CreateThin id) q r e f m h = same q r (e ∙ ap (λ (n : ℕ). record p { volumes = insert p.volumes id (new_volume p.geometry); meta_used = n }) m ∙ sym f)
+Makes-IsRenamed p (CreateSnap id origin) q r e f m h = same q r (e ∙ ap (λ (n : ℕ). record p { volumes = insert p.volumes id (volume_of p origin); meta_used = n }) m ∙ sym f)
+Makes-IsRenamed p (Delete id) q r e f m h = same q r (e ∙ ap (λ (n : ℕ). record p { volumes = remove p.volumes id; meta_used = n }) m ∙ sym f)
+Makes-IsRenamed p (SetTransactionId current next) q r e f m h = same q r (e ∙ sym f)
+Makes-IsRenamed p (Grow id blocks) q r e f m h =
     same q r (e.is ∙ ap (λ (n : ℕ). record p { volumes = insert p.volumes id (grown p.geometry blocks (volume_of p id)); meta_used = n }) m ∙ sym f.is)
-Makes-IsRenamed p (Read id sector count) q r e f m = same q r (e ∙ sym f)
-Makes-IsRenamed p Flush q r e f m = same q r (e ∙ sym f)
-Makes-IsRenamed p (Hold id) q r e f m = same q r (e ∙ sym f)
-Makes-IsRenamed p (LetGo id) q r e f m = same q r (e ∙ sym f)
-Makes-IsRenamed p Status q r e f m = same q r (e ∙ sym f)
-Makes-IsRenamed p (ThinStatus id) q r e f m = same q r (e ∙ sym f)
-Makes-IsRenamed p (NextId id) q r e f m = same q r (e ∙ sym f)
-Makes-IsRenamed p (VolumeBlocks id) q r e f m = same q r (e ∙ sym f)
-Makes-IsRenamed p Close q r e f m = same q r (e ∙ sym f)
+Makes-IsRenamed p (Read id sector count) q r e f m h = same q r (e ∙ sym f)
+Makes-IsRenamed p Flush q r e f m h = same q r (e ∙ sym f)
+Makes-IsRenamed p (Hold id) q r e f m h = same q r (e ∙ sym f)
+Makes-IsRenamed p (LetGo id) q r e f m h = same q r (e ∙ sym f)
+Makes-IsRenamed p Status q r e f m h = same q r (e ∙ sym f)
+Makes-IsRenamed p (ThinStatus id) q r e f m h = same q r (e ∙ sym f)
+Makes-IsRenamed p (NextId id) q r e f m h = same q r (e ∙ sym f)
+Makes-IsRenamed p (VolumeBlocks id) q r e f m h = same q r (e ∙ sym f)
+Makes-IsRenamed p Close q r e f m h = same q r (e ∙ sym f)
+Makes-IsRenamed p (HeldRead id sector count) q r e f m h = same q r (e ∙ sym f)
+Makes-IsRenamed p ReserveMetadataSnap q r e f m h = same q r (reserves_one p q r e f h)
+Makes-IsRenamed p ReleaseMetadataSnap q r e f m h = same q r (e ∙ ap (λ (n : ℕ). record p { volumes = retain_keys p.volumes is_now; held_root = 0; meta_used = n }) m ∙ sym f)

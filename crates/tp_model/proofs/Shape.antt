@@ -5,7 +5,7 @@ use Rattle.std.specs.Prelude.{nat_lt, slice_get, slice_index_or}
 use Rattle.std.specs.Option.{is_some, option_map, option_map_or}
 use Rattle.std.specs.List.{enumerate_from}
 use Rattle.std.specs.Ordering.{nat_cmp}
-use Rattle.std.specs.FinMap.{FinMap, get, empty, insert, remove}
+use Rattle.std.specs.FinMap.{FinMap, contains_key, get, empty, insert, remove, retain_keys}
 use Rattle.std.proofs.Math.Nat.{mul-le-mul_right}
 use Rattle.std.proofs.lemmas.Bool.{false≢true, cases_eq, cases_lt, and_parts, ltb-true}
 use Rattle.std.proofs.lemmas.List.FromFn.{length-enumerate_from}
@@ -13,11 +13,11 @@ use Rattle.std.proofs.lemmas.Option.{none-some, same_Some, slice_get-map, MatchO
 use Rattle.tp_model.specs.declared.refusal.Refusal.{Refusal}
 use Rattle.tp_model.specs.Geometry.{Geometry}
 use Rattle.tp_model.specs.Sectors.{Sector, zero_sector}
-use Rattle.tp_model.specs.Pool.{Volume, PlainPool, volume_sectors, volume_slots, volume_sector, slot_at, IsShapedVolume, IsShaped, IsSound}
+use Rattle.tp_model.specs.Pool.{Volume, PlainPool, is_now, volume_sectors, volume_slots, volume_sector, slot_at, IsShapedVolume, IsShaped, IsSound}
 use Rattle.tp_model.specs.declared.mode.Mode.TheVariants as mode
 use Rattle.tp_model.specs.declared.refusal.Refusal.TheVariants.{Failed, NoSuchDevice, ReadOnly, NoMetadataSpace, NoDataSpace}
-use Rattle.tp_model.specs.Calls.{is_writing, Takes, exists, is_failed, is_read_only, has_metadata_room, IsRange, first_failed, refusal_of_request, Call, Read, Write, Trim, WriteZeroes, Flush, CreateThin, CreateSnap, Delete, SetTransactionId, Grow, Hold, LetGo, Status, ThinStatus, NextId, VolumeBlocks, Close, Answer, SlotEffect, Keeps, Loses, Owns, touches, sector_after, slot_effect, SlotAfter, effect_at, Edits, Makes, Step, refusal_of, grown, new_volume, volume_of, IsAllowed}
-use Rattle.tp_model.proofs.Maps.{get_insert, get_empty, get_remove}
+use Rattle.tp_model.specs.Calls.{is_writing, Takes, exists, is_failed, is_read_only, has_metadata_room, IsRange, first_failed, refusal_of_request, Call, Read, Write, Trim, WriteZeroes, Flush, CreateThin, CreateSnap, Delete, SetTransactionId, Grow, Hold, LetGo, Status, ThinStatus, NextId, VolumeBlocks, Close, HeldRead, ReserveMetadataSnap, ReleaseMetadataSnap, held_of, Reserves, Answer, SlotEffect, Keeps, Loses, Owns, touches, sector_after, slot_effect, SlotAfter, effect_at, Edits, Makes, Step, refusal_of, grown, new_volume, volume_of, IsAllowed}
+use Rattle.tp_model.proofs.Maps.{get_insert, get_empty, get_remove, get_retain}
 use Rattle.tp_model.proofs.Editing.{slice_get-enumerate_from, option_map-map}
 use Rattle.tp_model.specs.PoolStops.{GivenBy, Event, Given, MayReopen}
 use Rattle.tp_model.proofs.LawfulCalls.{refusal_volumes, Step-IsLawful}
@@ -80,6 +80,9 @@ owned_before_end g (ThinStatus id) block slot e = cc
 owned_before_end g (NextId id) block slot e = cc
 owned_before_end g (VolumeBlocks id) block slot e = cc
 owned_before_end g Close block slot e = cc
+owned_before_end g (HeldRead id sector count) block slot e = cc
+owned_before_end g ReserveMetadataSnap block slot e = cc
+owned_before_end g ReleaseMetadataSnap block slot e = cc
 
 whole_block : (n block blocks size : ℕ) → size ≡ blocks * n → block * n < size → (b : (block < blocks) ⊎ (blocks ≤ block)) → (block + 1) * n ≤ size
 whole_block n block blocks size e lt (inl l) =
@@ -116,6 +119,9 @@ bytes_after p (ThinStatus id) k old a o = o
 bytes_after p (NextId id) k old a o = o
 bytes_after p (VolumeBlocks id) k old a o = o
 bytes_after p Close k old a o = o
+bytes_after p (HeldRead id sector count) k old a o = o
+bytes_after p ReserveMetadataSnap k old a o = o
+bytes_after p ReleaseMetadataSnap k old a o = o
 
 -- ---- the volume that is edited
 
@@ -182,10 +188,27 @@ removed_shaped p q id g e shaped i v f =
     by_id true h = absurd (none-some v h)
     by_id false h = shaped i v h
 
+reserved_shaped : (p q : PlainPool) → Reserves p q → IsShaped p → IsShaped q
+reserved_shaped p q r shaped i v f =
+    subst (λ (x : Geometry). IsShapedVolume x.block_sectors v) (sym (ap (λ x. x.geometry) r.rest)) (shaped (held_of i) v (sym (r.volumes i) ∙ f))
+
+released_shaped : (p q : PlainPool) → q.geometry ≡ p.geometry → q.volumes ≡ retain_keys p.volumes is_now → IsShaped p → IsShaped q
+released_shaped p q g e shaped i v f =
+    let at : cond (is_now i) (get p.volumes i) None ≡ Some v = sym (ap (λ (m : FinMap nat_cmp Volume). get m i) e ∙ get_retain p.volumes is_now i) ∙ f in
+    subst (λ (x : Geometry). IsShapedVolume x.block_sectors v) (sym g) (by_test (is_now i) at)
+  where
+    by_test : (t : Bool) → cond t (get p.volumes i) None ≡ Some v → IsShapedVolume p.geometry.block_sectors v
+    by_test true h = shaped i v h
+    by_test false h = absurd (none-some v h)
+
 second_passes : {A : Type 0} (t u : Bool) (x y : A) (tests : List (Bool × A)) → first_failed ((t, x) ∷ (u, y) ∷ tests) ≡ None → u ≡ false
 second_passes true u x y tests h = absurd (none-some x (sym h))
 second_passes false true x y tests h = absurd (none-some y (sym h))
 second_passes false false x y tests h = refl
+
+second_of : (a b : Bool) → not (a && b) ≡ false → not b ≡ false
+second_of true b h = h
+second_of false b h = absurd (false≢true (sym h))
 
 size_of_some : (o : Option Volume) → not (is_some o) ≡ false → option_map (λ (v : Volume). length v.sectors) o ≡ Some (length (option_map_or (λ (v : Volume). v.sectors) o []))
 size_of_some None h = absurd (false≢true (sym h))
@@ -196,7 +219,7 @@ fits_in : (p : PlainPool) (id at n least : ℕ) (has_room : Bool) → refusal_of
 fits_in p id at n least has_room none range =
     let there : not (exists p id) ≡ false = second_passes (is_failed p.mode) (not (exists p id)) Failed NoSuchDevice
     ((is_read_only p.mode, ReadOnly) ∷ (nat_lt 0 n && not (has_metadata_room p least), NoMetadataSpace) ∷ (not has_room, NoDataSpace) ∷ []) none in
-    range.inside (length (volume_sectors p id)) (size_of_some (get p.volumes id) there)
+    range.inside (length (volume_sectors p id)) (size_of_some (get p.volumes id) (second_of (is_now id) (contains_key p.volumes id) there))
 
 -- an accepted call that is allowed leaves the volumes in shape
 pub Makes-IsShaped : (p : PlainPool) (call : Call) (q : PlainPool) → refusal_of p call ≡ None → IsAllowed p call → IsShaped p → Makes p call q → IsShaped q
@@ -218,6 +241,9 @@ Makes-IsShaped p (ThinStatus id) q none a shaped h = same_shaped p q (ap (λ r. 
 Makes-IsShaped p (NextId id) q none a shaped h = same_shaped p q (ap (λ r. r.geometry) h) (ap (λ r. r.volumes) h) shaped
 Makes-IsShaped p (VolumeBlocks id) q none a shaped h = same_shaped p q (ap (λ r. r.geometry) h) (ap (λ r. r.volumes) h) shaped
 Makes-IsShaped p Close q none a shaped h = same_shaped p q (ap (λ r. r.geometry) h) (ap (λ r. r.volumes) h) shaped
+Makes-IsShaped p (HeldRead id at n) q none a shaped h = same_shaped p q (ap (λ r. r.geometry) h) (ap (λ r. r.volumes) h) shaped
+Makes-IsShaped p ReserveMetadataSnap q none a shaped h = reserved_shaped p q h shaped
+Makes-IsShaped p ReleaseMetadataSnap q none a shaped h = released_shaped p q (ap (λ r. r.geometry) h) (ap (λ r. r.volumes) h) shaped
 
 step_by : (p : PlainPool) (call : Call) (answer : Answer) (q : PlainPool) → IsAllowed p call → IsShaped p → (o : Option Refusal) → refusal_of p call ≡ o → Step p call answer q → IsShaped q
 step_by p call answer q a shaped None is h = Makes-IsShaped p call q is a shaped (MatchOption-at_none _ _ is h).1
@@ -250,6 +276,9 @@ step_geometry p (ThinStatus id) q h = ap (λ r. r.geometry) h
 step_geometry p (NextId id) q h = ap (λ r. r.geometry) h
 step_geometry p (VolumeBlocks id) q h = ap (λ r. r.geometry) h
 step_geometry p Close q h = ap (λ r. r.geometry) h
+step_geometry p (HeldRead id at n) q h = ap (λ r. r.geometry) h
+step_geometry p ReserveMetadataSnap q h = ap (λ r. r.geometry) h.rest
+step_geometry p ReleaseMetadataSnap q h = ap (λ r. r.geometry) h
 
 geometry_by : (p : PlainPool) (call : Call) (answer : Answer) (q : PlainPool) → (o : Option Refusal) → refusal_of p call ≡ o → Step p call answer q → q.geometry ≡ p.geometry
 geometry_by p call answer q None is h = step_geometry p call q (MatchOption-at_none _ _ is h).1
@@ -314,6 +343,9 @@ length-Given p (ThinStatus i) id k x a g = absurd g
 length-Given p (NextId i) id k x a g = absurd g
 length-Given p (VolumeBlocks i) id k x a g = absurd g
 length-Given p Close id k x a g = absurd g
+length-Given p (HeldRead i sector count) id k x a g = absurd g
+length-Given p ReserveMetadataSnap id k x a g = absurd g
+length-Given p ReleaseMetadataSnap id k x a g = absurd g
 
 -- what a stop may leave of a sound pool, by a call that is allowed, is sound
 pub found_by_call-IsSound : (S P : PlainPool) (e : Event) → IsSound S → IsAllowed e.before e.call → MayReopen S (GivenBy e) P → IsSound P

@@ -1,19 +1,19 @@
 -- Trusted reading: the calls of a pool: the tests of each in their order, and what an accepted one does. Messages and what they do are
 -- the kernel's (thin-provisioning.rst), what requests do to sectors is NBD's (proto.md, "Commands"), the tests and
 -- their order, the thresholds for metadata and what a failing disk does are own.
-use Rattle.std.specs.Prelude.{◌≡◌, ◌≢◌, ℕ, ◌+◌, ◌-◌, ◌*◌, ◌/◌, ◌<◌, ◌≤◌, Bool, true, false, not, ◌&&◌, ◌||◌, ◌==◌, if◌then◌else◌, IsTrue, List, [], ◌∷◌, ◌++◌, map, length, take, drop, replicate, slice_get, slice_index_or, Option, None, Some, is_some, nat_lt, nat_le, MatchOption, ◌⊎◌}
+use Rattle.std.specs.Prelude.{◌≡◌, ◌≢◌, ℕ, ◌+◌, ◌-◌, ◌*◌, ◌/◌, ◌^◌, ◌<◌, ◌≤◌, Bool, true, false, not, ◌&&◌, ◌||◌, ◌==◌, if◌then◌else◌, IsTrue, List, [], ◌∷◌, ◌++◌, map, length, take, drop, replicate, slice_get, slice_index_or, Option, None, Some, is_some, nat_lt, nat_le, MatchOption, ◌⊎◌}
 use Rattle.std.specs.Bool.{MatchBool}
 use Rattle.std.specs.Option.{option_map_or}
 use Rattle.std.specs.List.{count_by, range_with_len, enumerate_from}
 use Rattle.std.specs.Ordering.{nat_cmp}
-use Rattle.std.specs.FinMap.{FinMap, empty, entries, get, insert, remove, len, contains_key}
+use Rattle.std.specs.FinMap.{FinMap, empty, entries, get, insert, remove, retain_keys, contains_key}
 use Rattle.tp_model.specs.declared.mode.Mode.{Mode}
 use Rattle.tp_model.specs.declared.mode.Mode.TheVariants as mode
 use Rattle.tp_model.specs.declared.refusal.Refusal.{Refusal}
-use Rattle.tp_model.specs.declared.refusal.Refusal.TheVariants.{Exists, NoSuchDevice, Busy, StaleTransactionId, NoMetadataSpace, TooManyDevices, ReadOnly, Failed, NoDataSpace, BadSize, Fault, Damaged}
+use Rattle.tp_model.specs.declared.refusal.Refusal.TheVariants.{Exists, NoSuchDevice, Busy, StaleTransactionId, NoMetadataSpace, TooManyDevices, ReadOnly, Failed, NoDataSpace, HeldRootExists, NoHeldRoot, BadSize, Fault, Damaged}
 use Rattle.tp_model.specs.Geometry.{Geometry}
 use Rattle.tp_model.specs.Sectors.{Sector, zero_sector}
-use Rattle.tp_model.specs.Pool.{Volume, PlainPool, hold_count, hold_total, volume_sectors, volume_slots, volume_size, slot_at, used, IsExclusive, is_exclusive}
+use Rattle.tp_model.specs.Pool.{Volume, PlainPool, copy_id, device_count, is_now, hold_count, hold_total, volume_sectors, volume_slots, volume_size, slot_at, used, IsExclusive, is_exclusive}
 use Rattle.tp_model.specs.Status.{pool_line, volume_line}
 
 pub data Call : Type 0 where
@@ -34,6 +34,9 @@ pub data Call : Type 0 where
   NextId : (from : ℕ) → Call
   VolumeBlocks : (id : ℕ) → Call
   Close : Call
+  HeldRead : (id sector count : ℕ) → Call
+  ReserveMetadataSnap : Call
+  ReleaseMetadataSnap : Call
 
 pub data Answer : Type 0 where
   Done : Answer
@@ -135,6 +138,9 @@ IsAllowed p (Read id sector count) = IsRange p id sector count
 IsAllowed p (Write id sector sectors fua) = IsRange p id sector (length sectors) × ((k : ℕ) (s : Sector) → slice_get sectors k ≡ Some s → length s ≡ 512)
 IsAllowed p (Trim id sector count fua) = IsRange p id sector count
 IsAllowed p (WriteZeroes id sector count no_hole fua) = IsRange p id sector count
+IsAllowed p (CreateThin id) = IsTrue (is_now id)
+IsAllowed p (CreateSnap id origin) = IsTrue (is_now id)
+IsAllowed p (HeldRead id sector count) = IsRange p (copy_id id) sector count
 IsAllowed p (Hold id) = hold_total p.holds < 64
 IsAllowed p (LetGo id) = 0 < hold_count p.holds id
 IsAllowed p call = Unit {0}
@@ -142,7 +148,11 @@ IsAllowed p call = Unit {0}
 -- ---- the tests (own)
 
 abbrev pub exists : PlainPool → ℕ → Bool
-exists p id = contains_key p.volumes id
+exists p id = is_now id && contains_key p.volumes id
+
+-- a copy of a volume of this id is held
+abbrev pub has_copy : PlainPool → ℕ → Bool
+has_copy p id = contains_key p.volumes (copy_id id)
 
 abbrev pub is_failed : Mode → Bool
 is_failed mode.Writable = false
@@ -178,20 +188,21 @@ refusal_of p (CreateThin id) = first_failed (
     (is_failed p.mode, Failed)
     ∷ (is_read_only p.mode, ReadOnly)
     ∷ (exists p id, Exists)
-    ∷ (nat_le 65536 (len p.volumes), TooManyDevices)
+    ∷ (nat_le 65536 (device_count p), TooManyDevices)
     ∷ (not (has_metadata_room p 512), NoMetadataSpace) ∷ [])
 refusal_of p (CreateSnap id origin) = first_failed (
     (is_failed p.mode, Failed)
     ∷ (is_read_only p.mode, ReadOnly)
     ∷ (not (exists p origin), NoSuchDevice)
     ∷ (exists p id, Exists)
-    ∷ (nat_le 65536 (len p.volumes), TooManyDevices)
+    ∷ (nat_le 65536 (device_count p), TooManyDevices)
     ∷ (not (has_metadata_room p 512), NoMetadataSpace) ∷ [])
 refusal_of p (Delete id) = first_failed (
     (is_failed p.mode, Failed)
     ∷ (is_read_only p.mode, ReadOnly)
     ∷ (not (exists p id), NoSuchDevice)
-    ∷ (nat_lt 0 (hold_count p.holds id), Busy) ∷ [])
+    ∷ (nat_lt 0 (hold_count p.holds id), Busy)
+    ∷ (not (p.held_root == 0) && not (has_metadata_room p 256), NoMetadataSpace) ∷ [])
 refusal_of p (SetTransactionId current next) = first_failed (
     (is_failed p.mode, Failed)
     ∷ (is_read_only p.mode, ReadOnly)
@@ -210,6 +221,19 @@ refusal_of p (ThinStatus id) = first_failed ((not (is_failed p.mode) && not (exi
 refusal_of p (NextId from) = first_failed ((is_failed p.mode, Failed) ∷ [])
 refusal_of p (VolumeBlocks id) = first_failed ((is_failed p.mode, Failed) ∷ (not (exists p id), NoSuchDevice) ∷ [])
 refusal_of p Close = first_failed ((is_failed p.mode, Failed) ∷ [])
+refusal_of p (HeldRead id sector count) = first_failed (
+    (is_failed p.mode, Failed)
+    ∷ (p.held_root == 0, NoHeldRoot)
+    ∷ (not (has_copy p id), NoSuchDevice) ∷ [])
+refusal_of p ReserveMetadataSnap = first_failed (
+    (is_failed p.mode, Failed)
+    ∷ (is_read_only p.mode, ReadOnly)
+    ∷ (not (p.held_root == 0), HeldRootExists)
+    ∷ (not (has_metadata_room p 512), NoMetadataSpace) ∷ [])
+refusal_of p ReleaseMetadataSnap = first_failed (
+    (is_failed p.mode, Failed)
+    ∷ (is_read_only p.mode, ReadOnly)
+    ∷ (p.held_root == 0, NoHeldRoot) ∷ [])
 
 -- want of metadata room makes the pool read-only, to be checked; no other refusal changes it
 abbrev pub after_refusal : Refusal → PlainPool → PlainPool
@@ -218,10 +242,10 @@ after_refusal reason p = p
 
 -- ---- an accepted call (kernel: create_thin, create_snap, delete, set_transaction_id)
 
--- the first id in a list of volumes that is this one or more
+-- the first id of a device in a list of volumes that is this one or more
 abbrev pub first_from : ℕ → List (ℕ × Volume) → Option ℕ
 first_from from [] = None
-first_from from (e ∷ es) = if nat_le from e.0 then Some e.0 else first_from from es
+first_from from (e ∷ es) = if nat_le from e.0 && is_now e.0 then Some e.0 else first_from from es
 
 abbrev pub reply : PlainPool → Call → Answer
 reply p (Read id sector count) = Gave (take count (drop sector (volume_sectors p id)))
@@ -229,6 +253,7 @@ reply p Status = Line (pool_line p)
 reply p (ThinStatus id) = Line (volume_line p id)
 reply p (NextId from) = Found (first_from from (entries p.volumes))
 reply p (VolumeBlocks id) = Sized (volume_blocks p id)
+reply p (HeldRead id sector count) = Gave (take count (drop sector (volume_sectors p (copy_id id))))
 reply p call = Done
 
 abbrev pub volume_of : PlainPool → ℕ → Volume
@@ -255,6 +280,16 @@ pub record Edits (p : PlainPool) (call : Call) (id : ℕ) (q : PlainPool) : Type
   -- where no slot changes, no node does
   pub untouched : ((block : ℕ) → slot_at q id block ≡ slot_at p id block) → q.meta_used ≡ p.meta_used
 
+-- of an id of the pool with a held copy, the id of the volume that is held
+abbrev pub held_of : ℕ → ℕ
+held_of id = if is_now id then id else id - 2 ^ 24
+
+-- The whole mapping is held as it is. That takes no metadata block; which number its root has is the pool's choice.
+pub record Reserves (p q : PlainPool) : Type 0 where
+  pub rest : q ≡ record p { volumes = q.volumes; held_root = q.held_root }
+  pub held : 0 < q.held_root
+  pub volumes : (id : ℕ) → get q.volumes id ≡ get p.volumes (held_of id)
+
 abbrev pub released : FinMap nat_cmp ℕ → ℕ → FinMap nat_cmp ℕ
 released holds id = let n = hold_count holds id in if nat_le n 1 then remove holds id else insert holds id (n - 1)
 
@@ -275,6 +310,8 @@ Makes p (Delete id) q = q ≡ record p { volumes = remove p.volumes id; meta_use
 Makes p (SetTransactionId current next) q = q ≡ record p { transaction_id = next }
 Makes p (Grow id blocks) q = Grows p id blocks q
 Makes p (Hold id) q = q ≡ record p { holds = holds_after p.holds (Hold id) Done }
+Makes p ReserveMetadataSnap q = Reserves p q
+Makes p ReleaseMetadataSnap q = q ≡ record p { volumes = retain_keys p.volumes is_now; held_root = 0; meta_used = q.meta_used }
 Makes p (LetGo id) q = q ≡ record p { holds = holds_after p.holds (LetGo id) Done }
 Makes p call q = q ≡ p
 
@@ -296,6 +333,7 @@ is_writing Status = false
 is_writing (ThinStatus id) = false
 is_writing (NextId from) = false
 is_writing (VolumeBlocks id) = false
+is_writing (HeldRead id sector count) = false
 is_writing call = true
 
 -- From s a call is given this answer and leaves `after`. made: the state that the call makes, or, where the disk
@@ -330,6 +368,7 @@ looks_up (Hold id) = true
 looks_up (ThinStatus id) = true
 looks_up (NextId from) = true
 looks_up (VolumeBlocks id) = true
+looks_up (HeldRead id sector count) = true
 looks_up call = false
 
 -- a request that changes sectors, and a message
@@ -345,6 +384,8 @@ is_message (CreateSnap id origin) = true
 is_message (Delete id) = true
 is_message (SetTransactionId current next) = true
 is_message (Grow id blocks) = true
+is_message ReserveMetadataSnap = true
+is_message ReleaseMetadataSnap = true
 is_message call = false
 
 -- answered from what is in memory alone, in each mode
@@ -379,7 +420,7 @@ refusals_in_writable (WriteZeroes id sector count no_hole fua) = NoSuchDevice �
 refusals_in_writable Flush = Fault ∷ Damaged ∷ []
 refusals_in_writable (CreateThin id) = Exists ∷ TooManyDevices ∷ NoMetadataSpace ∷ Fault ∷ Damaged ∷ []
 refusals_in_writable (CreateSnap id origin) = NoSuchDevice ∷ Exists ∷ TooManyDevices ∷ NoMetadataSpace ∷ Fault ∷ Damaged ∷ []
-refusals_in_writable (Delete id) = NoSuchDevice ∷ Busy ∷ Fault ∷ Damaged ∷ []
+refusals_in_writable (Delete id) = NoSuchDevice ∷ Busy ∷ NoMetadataSpace ∷ Fault ∷ Damaged ∷ []
 refusals_in_writable (SetTransactionId current next) = StaleTransactionId ∷ Fault ∷ Damaged ∷ []
 refusals_in_writable (Grow id blocks) = NoSuchDevice ∷ Busy ∷ BadSize ∷ NoMetadataSpace ∷ Fault ∷ Damaged ∷ []
 refusals_in_writable (Hold id) = NoSuchDevice ∷ Fault ∷ Damaged ∷ []
@@ -389,6 +430,9 @@ refusals_in_writable (ThinStatus id) = NoSuchDevice ∷ Fault ∷ Damaged ∷ []
 refusals_in_writable (NextId from) = Fault ∷ Damaged ∷ []
 refusals_in_writable (VolumeBlocks id) = NoSuchDevice ∷ Fault ∷ Damaged ∷ []
 refusals_in_writable Close = Fault ∷ Damaged ∷ []
+refusals_in_writable (HeldRead id sector count) = NoHeldRoot ∷ NoSuchDevice ∷ Fault ∷ Damaged ∷ []
+refusals_in_writable ReserveMetadataSnap = HeldRootExists ∷ NoMetadataSpace ∷ Fault ∷ Damaged ∷ []
+refusals_in_writable ReleaseMetadataSnap = NoHeldRoot ∷ Fault ∷ Damaged ∷ []
 
 abbrev pub refusals_in_read_only : Call → List Refusal
 refusals_in_read_only call =
@@ -424,6 +468,8 @@ ends_in_commit (CreateSnap id origin) = true
 ends_in_commit (Delete id) = true
 ends_in_commit (SetTransactionId current next) = true
 ends_in_commit (Grow id blocks) = true
+ends_in_commit ReserveMetadataSnap = true
+ends_in_commit ReleaseMetadataSnap = true
 ends_in_commit call = false
 
 -- A read-only pool has nothing to commit. No other call commits but for the refusal for want of metadata room, and for a commit that frees

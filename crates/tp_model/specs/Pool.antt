@@ -1,8 +1,8 @@
 -- Trusted reading: the plain pool: volumes of sectors, whose blocks share data blocks by labels (the kernel's
 -- thin-provisioning.rst: thin volumes, snapshots, sharing; the modes are own).
-use Rattle.std.specs.Prelude.{◌≡◌, ◌≢◌, ℕ, ◌+◌, ◌*◌, ◌/◌, ◌<◌, ◌≤◌, Bool, false, not, ◌&&◌, ◌||◌, ◌==◌, if◌then◌else◌, List, [], ◌∷◌, map, length, slice_get, Option, None, Some, IsSome, IsTrue}
+use Rattle.std.specs.Prelude.{◌≡◌, ◌≢◌, ℕ, ◌+◌, ◌*◌, ◌/◌, ◌^◌, ◌<◌, ◌≤◌, nat_lt, Bool, false, not, ◌&&◌, ◌||◌, ◌==◌, if◌then◌else◌, List, [], ◌∷◌, map, length, slice_get, Option, None, Some, IsSome, IsTrue}
 use Rattle.std.specs.Option.{option_map, option_map_or, unwrap_or}
-use Rattle.std.specs.List.{flat_map, list_any, list_all, sum_by}
+use Rattle.std.specs.List.{count_by, flat_map, list_any, list_all, sum_by}
 use Rattle.std.specs.Ordering.{nat_cmp}
 use Rattle.std.specs.FinMap.{FinMap, contains_key, empty, get, entries}
 use Rattle.tp_model.specs.declared.mode.Mode.{Mode}
@@ -15,9 +15,17 @@ pub record Volume : Type 0 where
   pub sectors : List Sector
   pub slots : FinMap nat_cmp ℕ
 
+-- A held copy of the whole mapping stands in the same map as the volumes: each of its volumes under its id and 2 ^ 24, which no device has.
+abbrev pub copy_id : ℕ → ℕ
+copy_id id = 2 ^ 24 + id
+
+abbrev pub is_now : ℕ → Bool
+is_now id = nat_lt id (2 ^ 24)
+
 pub record PlainPool : Type 0 where
   pub geometry : Geometry
-  pub volumes : FinMap nat_cmp Volume  -- by device id
+  pub volumes : FinMap nat_cmp Volume  -- by device id, and behind them the held copies
+  pub held_root : ℕ  -- the number of the held metadata root; 0 where there is no held copy
   pub transaction_id : ℕ
   pub needs_check : Bool
   pub mode : Mode
@@ -47,6 +55,10 @@ volume_sectors p id = option_map_or (λ v. v.sectors) (get p.volumes id) []
 
 abbrev pub volume_slots : PlainPool → ℕ → FinMap nat_cmp ℕ
 volume_slots p id = option_map_or (λ v. v.slots) (get p.volumes id) empty
+
+-- how many volumes there are, held copies aside
+abbrev pub device_count : PlainPool → ℕ
+device_count p = count_by (λ e. is_now e.0) (entries p.volumes)
 
 -- how many sectors a volume has
 abbrev pub volume_size : PlainPool → ℕ → Option ℕ
@@ -116,7 +128,7 @@ pub record IsSound (p : PlainPool) : Type 0 where
 
 -- who holds a volume finds it
 abbrev pub FindsHeld : PlainPool → Type 0
-FindsHeld p = (id : ℕ) → 0 < hold_count p.holds id → IsTrue (contains_key p.volumes id)
+FindsHeld p = (id : ℕ) → 0 < hold_count p.holds id → IsTrue (is_now id && contains_key p.volumes id)
 
 -- what holds of each pool that serves (own)
 pub record IsConsistent (p : PlainPool) : Type 0 where
@@ -127,6 +139,8 @@ pub record IsConsistent (p : PlainPool) : Type 0 where
   pub metadata_room : p.meta_used ≤ p.geometry.metadata_blocks
   -- a pool that wants a check is not written to
   pub check : IsTrue p.needs_check → p.mode ≢ modes.Writable
+  -- where no root is held, there are no copies
+  pub copies : p.held_root ≡ 0 → (id : ℕ) → 2 ^ 24 ≤ id → get p.volumes id ≡ None
 
 -- ---- pools that differ in their labels alone (own)
 
@@ -144,3 +158,4 @@ pub record IsRenamed (p q : PlainPool) : Type 0 where
   pub mode : q.mode ≡ p.mode
   pub holds : q.holds ≡ p.holds
   pub meta_used : q.meta_used ≡ p.meta_used
+  pub held_root : q.held_root ≡ p.held_root

@@ -23,8 +23,8 @@ volume_code =
 
 abbrev pub pool_code : Coded PlainPool
 pool_code =
-    code_by (Geometry × (FinMap nat_cmp Volume × (ℕ × (Bool × (Mode × (FinMap nat_cmp ℕ × ℕ))))))
-    (coded× geometry_code (coded× (code coded_ℕ volume_code) (coded× coded_ℕ (coded× coded_bool (coded× mode.the_row.coded (coded× (code coded_ℕ coded_ℕ) coded_ℕ))))))
-    (λ p. (p.geometry, (p.volumes, (p.transaction_id, (p.needs_check, (p.mode, (p.holds, p.meta_used)))))))
-    (λ c. record { geometry = c.0; volumes = c.1.0; transaction_id = c.1.1.0; needs_check = c.1.1.1.0; mode = c.1.1.1.1.0; holds = c.1.1.1.1.1.0; meta_used = c.1.1.1.1.1.1 })
+    code_by (Geometry × (FinMap nat_cmp Volume × (ℕ × (Bool × (Mode × (FinMap nat_cmp ℕ × (ℕ × ℕ)))))))
+    (coded× geometry_code (coded× (code coded_ℕ volume_code) (coded× coded_ℕ (coded× coded_bool (coded× mode.the_row.coded (coded× (code coded_ℕ coded_ℕ) (coded× coded_ℕ coded_ℕ)))))))
+    (λ p. (p.geometry, (p.volumes, (p.transaction_id, (p.needs_check, (p.mode, (p.holds, (p.meta_used, p.held_root))))))))
+    (λ c. record { geometry = c.0; volumes = c.1.0; transaction_id = c.1.1.0; needs_check = c.1.1.1.0; mode = c.1.1.1.1.0; holds = c.1.1.1.1.1.0; meta_used = c.1.1.1.1.1.1.0; held_root = c.1.1.1.1.1.1.1 })
     (λ _. refl)

@@ -7,7 +7,7 @@ use Rattle.tp_model.specs.declared.mode.Mode.TheVariants as mode
 use Rattle.tp_model.specs.declared.refusal.Refusal.TheVariants.{NoMetadataSpace}
 use Rattle.tp_model.specs.Sectors.{Sector, zero_sector}
 use Rattle.tp_model.specs.Pool.{PlainPool, volume_size, volume_sector, slot_at, IsExclusive}
-use Rattle.tp_model.specs.Calls.{Call, Write, Trim, WriteZeroes, Flush, CreateThin, CreateSnap, Delete, SetTransactionId, Grow, Close, Answer, Done, Refused, Owns, is_within, effect_at, refusal_of}
+use Rattle.tp_model.specs.Calls.{Call, Write, Trim, WriteZeroes, Flush, CreateThin, CreateSnap, Delete, SetTransactionId, ReserveMetadataSnap, ReleaseMetadataSnap, Grow, Close, Answer, Done, Refused, Owns, is_within, effect_at, refusal_of}
 
 -- One call in a run: the state before it, and the one that it made, or, where the disk failed in it, would have made.
 pub record Event : Type 0 where
@@ -27,6 +27,8 @@ keeps (CreateSnap id origin) Done = true
 keeps (Delete id) Done = true
 keeps (SetTransactionId current next) Done = true
 keeps (Grow id blocks) Done = true
+keeps ReserveMetadataSnap Done = true
+keeps ReleaseMetadataSnap Done = true
 keeps Close Done = true
 keeps call (Refused NoMetadataSpace) = true
 keeps call answer = false
@@ -66,6 +68,7 @@ pub record MayReopen (S : PlainPool) (given : ℕ → ℕ → Sector → Type 0)
   pub transaction_id : P.transaction_id ≡ S.transaction_id
   pub needs_check : P.needs_check ≡ S.needs_check
   pub meta_used : P.meta_used ≡ S.meta_used
+  pub held_root : P.held_root ≡ S.held_root
   pub mode : P.mode ≡ (if S.needs_check then mode.ReadOnly else mode.Writable)
   pub holds : P.holds ≡ empty
   -- a sector has its value in S, or, in a block that is exclusive in S, one given to it since

@@ -3,7 +3,7 @@ use Rattle.std.specs.Prelude.{ℕ, Bool, true, false, Result, Ok, Err}
 use Rattle.tp_model.specs.declared.refusal.Refusal.{Refusal}
 use Rattle.tp_model.specs.declared.refusal.NbdError.{NbdError}
 use Rattle.tp_model.specs.declared.refusal.NbdError.TheVariants.{NotPermitted, InputOutput, Invalid, NoSpace}
-use Rattle.tp_model.specs.declared.refusal.Refusal.TheVariants.{BadGeometry, Damaged, NotAPool, BadVersion, Fault, Memory, BadSyntax, UnknownMessage, BadDeviceId, Exists, NoSuchDevice, Busy, StaleTransactionId, NoMetadataSpace, TooManyDevices, ReadOnly, Failed, SessionInUse, NoSession, NoDataSpace, BadSize, BadSuper, BadNode, BadOrder, BadCount, OutOfPlace, HalfEmpty, BadMapped, BadRecordSize}
+use Rattle.tp_model.specs.declared.refusal.Refusal.TheVariants.{BadGeometry, Damaged, NotAPool, BadVersion, Fault, Memory, BadSyntax, UnknownMessage, BadDeviceId, Exists, NoSuchDevice, Busy, StaleTransactionId, NoMetadataSpace, TooManyDevices, ReadOnly, Failed, SessionInUse, NoSession, NoDataSpace, HeldRootExists, NoHeldRoot, BadSize, BadSuper, BadNode, BadOrder, BadCount, OutOfPlace, HalfEmpty, BadMapped, BadRecordSize}
 
 abbrev pub refusal_number : Refusal → ℕ
 refusal_number BadGeometry = 1
@@ -27,6 +27,8 @@ refusal_number SessionInUse = 22
 refusal_number NoSession = 23
 refusal_number NoDataSpace = 24
 refusal_number BadSize = 25
+refusal_number HeldRootExists = 26
+refusal_number NoHeldRoot = 27
 refusal_number BadSuper = 30
 refusal_number BadNode = 31
 refusal_number BadOrder = 32

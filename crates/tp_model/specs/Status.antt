@@ -22,6 +22,9 @@ mode_word p Writable = if used p == p.geometry.data_blocks then codes "out_of_da
 mode_word p ReadOnly = codes "ro"
 mode_word p Failed = codes "Fail"
 
+abbrev pub held_word : ℕ → List ℕ
+held_word root = if root == 0 then codes "-" else decimal root
+
 -- a failed pool tells nothing else
 abbrev pub unless_failed : Mode → List ℕ → List ℕ
 unless_failed Writable line = line
@@ -33,7 +36,7 @@ pool_line p = unless_failed p.mode (spaced (
     decimal p.transaction_id
     ∷ fraction p.meta_used p.geometry.metadata_blocks
     ∷ fraction (used p) p.geometry.data_blocks
-    ∷ codes "-"
+    ∷ held_word p.held_root
     ∷ mode_word p p.mode
     ∷ codes "no_discard_passdown"
     ∷ codes "error_if_no_space"

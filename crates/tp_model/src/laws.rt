@@ -3,9 +3,9 @@ ghost use Rattle.std.specs.Prelude.{◌≡◌, ◌⊎◌, ◌<◌, ◌≤◌, �
 ghost use Rattle.tp_model.specs.Sectors.{Sector};
 ghost use Rattle.tp_model.specs.Disk.{DiskState, Writes, after_read, after_flush};
 ghost use Rattle.tp_model.specs.DiskStops.{Leaves, LeavesOnly, PartlyOverlaid, StoppedSince, moment as moment_of};
-ghost use Rattle.tp_model.specs.Pool.{FindsHeld, IsExclusive, IsRenamed, IsShared, IsSound, PlainPool, hold_count, slot_at, volume_size};
+ghost use Rattle.tp_model.specs.Pool.{FindsHeld, IsExclusive, IsRenamed, IsShared, IsSound, PlainPool, copy_id, hold_count, slot_at, volume_sector, volume_size};
 ghost use Rattle.tp_model.specs.Calls.{Answer, Call, IsAllowed, Makes, Refused, Step, Takes, volume_asked, IsOneOf, may_accept, refusal_of, refusals};
-ghost use Rattle.tp_model.specs.PoolStops.{Event, GivenBy, MayBeLeftSince, MayReopen, Nothing, keeps, reopened};
+ghost use Rattle.tp_model.specs.PoolStops.{Event, GivenBy, GivenIn, MayBeLeftSince, MayReopen, Nothing, keeps, reopened};
 ghost use Rattle.tp_model.specs.Clauses.{AreCalls, AreTraced, Asked, Called, Continues, HasTrace, OpensSince, Traced, found_now, traced, PoolCall};
 
 use crate::mode::Mode;
@@ -36,10 +36,10 @@ pub fn held_sizes_stay()
         → FindsHeld old → (id : ℕ) → 0 < hold_count old.holds id → volume_size new id ≡ volume_size old id }
 {}
 
-/// A call makes one pool, but for the names of labels and the metadata blocks that it takes.
+/// A call makes one pool, but for the names of labels, the metadata blocks that it takes, and the number of a held root.
 pub fn calls_are_determined()
     ensures { (old : PlainPool) (call : Call) (one other : PlainPool)
-        → Makes old call one → Makes old call other → one.meta_used ≡ other.meta_used → IsRenamed one other }
+        → Makes old call one → Makes old call other → one.meta_used ≡ other.meta_used → one.held_root ≡ other.held_root → IsRenamed one other }
 {}
 
 /// What the definitions say of a call can be met on every pool whose blocks have sectors: an accepted call makes some
@@ -59,6 +59,12 @@ pub fn tests_may_be_answered()
 /// Where nothing was given since a state was kept, that state is found.
 pub fn kept_state_is_found()
     ensures { (kept found : PlainPool) → MayReopen kept Nothing found → found ≡ reopened kept }
+{}
+
+/// No call gives a sector of a held copy a value: a stop leaves each as it was kept.
+pub fn copies_are_as_kept()
+    ensures { (kept found : PlainPool) (es : List Event) → MayReopen kept (GivenIn es) found
+        → (id k : ℕ) → volume_sector found (copy_id id) k ≡ volume_sector kept (copy_id id) k }
 {}
 
 /// A request to a volume that is held is not refused for want of the volume.

@@ -70,6 +70,12 @@ pub enum Refusal {
     /// A volume's new size is less than the one that it has, or over 16777216 blocks.
     #[error("25 BadSize")]
     BadSize,
+    /// A metadata root is held already.
+    #[error("26 HeldRootExists")]
+    HeldRootExists,
+    /// No metadata root is held.
+    #[error("27 NoHeldRoot")]
+    NoHeldRoot,
     /// No superblock can be chosen, or the disk is too small.
     #[error("30 BadSuper")]
     BadSuper,
@@ -154,6 +160,8 @@ impl Refusal {
             Refusal::NoSession => 23,
             Refusal::NoDataSpace => 24,
             Refusal::BadSize => 25,
+            Refusal::HeldRootExists => 26,
+            Refusal::NoHeldRoot => 27,
             Refusal::BadSuper => 30,
             Refusal::BadNode => 31,
             Refusal::BadOrder => 32,

@@ -1,15 +1,17 @@
 -- Messages and their lines: what is read is spelled by its line, and each message's line is read as it.
-use Rattle.std.proofs.Common.{◌≡◌, ℕ, ◌^◌, ◌<◌, ◌≤◌, Bool, true, false, List, ◌∷◌, ◌++◌, length, length-append, refl, sym, ap, subst, ◌∙◌, arith, inl, inr}
+use Rattle.std.proofs.Common.{◌≡◌, ℕ, ◌^◌, ◌<◌, ◌≤◌, Bool, true, false, List, ◌∷◌, ◌++◌, length, length-append, Option, None, Some, refl, sym, ap, subst, ◌∙◌, arith, inl, inr}
 use Rattle.std.specs.Prelude.{if◌then◌else◌, Result, Ok, Err, IfOk, IfErr, nat_lt, codes, bytes_eq, ◌⊎◌}
+use Rattle.std.specs.Option.{option_map_or}
 use Rattle.std.specs.Fmt.{decimal}
 use Rattle.std.proofs.lemmas.Bool.{and_from, and_parts, ltb-true, lt-ltb, le-ltb}
 use Rattle.std.proofs.lemmas.Slice.Eq.{bytes_eq-Decides}
+use Rattle.std.proofs.lemmas.Option.{none-some, same_Some}
 use Rattle.std.proofs.lemmas.Fmt.{length-decimal-le}
 use Rattle.tp_model.specs.declared.refusal.Refusal.{Refusal}
-use Rattle.tp_model.specs.declared.refusal.Refusal.TheVariants.{BadSyntax, UnknownMessage, BadDeviceId}
+use Rattle.tp_model.specs.declared.refusal.Refusal.TheVariants.{BadSyntax, BadDeviceId}
 use Rattle.tp_msg.specs.declared.message.Message.{Message}
-use Rattle.tp_msg.specs.declared.message.Message.TheVariants.{CreateThin, CreateSnap, Delete, SetTransactionId, Grow}
-use Rattle.tp_msg.specs.Messages.{IsMessage, IsNoMessage, spelling, first_word, behind, is_number, number, device_id, transaction_id, one_id, message_of, message_of_two, create_thin, delete, are_numbers, create_snap, set_transaction_id, grow, by_word, reading}
+use Rattle.tp_msg.specs.declared.message.Message.TheVariants.{CreateThin, CreateSnap, Delete, SetTransactionId, Grow, ReserveMetadataSnap, ReleaseMetadataSnap}
+use Rattle.tp_msg.specs.Messages.{IsMessage, IsNoMessage, spelling, first_word, behind, is_number, number, device_id, transaction_id, one_id, message_of, message_of_two, create_thin, delete, are_numbers, create_snap, set_transaction_id, grow, one_word, by_word, reading}
 use Rattle.tp_msg.proofs.Numbers.{decimal-number, decimal_digits, decimal_is_number, number-decimal, number_some}
 use Rattle.tp_msg.proofs.Words.{parts, behind_some, first_word-append, behind-append}
 
@@ -137,30 +139,49 @@ by_word_spelled word arguments m h =
           | inr no_delete ↦ elim (ok_either (bytes_eq word (codes "set_transaction_id")) (set_transaction_id arguments) _ m no_delete) [
             | inl exchange ↦ spells_at word arguments (codes "set_transaction_id") m exchange.0 (exchange_spelled arguments m exchange.1)
             | inr other ↦
-                let p = ok_then (bytes_eq word (codes "grow")) (grow arguments) UnknownMessage m other in
+                let p = ok_then (bytes_eq word (codes "grow")) (grow arguments) _ m other in
                 spells_at word arguments (codes "grow") m p.0 (growth_spelled arguments m p.1)
           ]
         ]
       ]
     ]
 
+-- a message of one word is its line
+bare_spelled : (line : List ℕ) (m : Message) → one_word line ≡ Some m → IsMessage m × (line ≡ spelling m)
+bare_spelled line m h = by (bytes_eq line (codes "reserve_metadata_snap")) (bytes_eq line (codes "release_metadata_snap")) refl refl h
+  where
+    by : (a b : Bool) → bytes_eq line (codes "reserve_metadata_snap") ≡ a → bytes_eq line (codes "release_metadata_snap") ≡ b
+        → (if a then Some ReserveMetadataSnap else (if b then Some ReleaseMetadataSnap else None)) ≡ Some m → IsMessage m × (line ≡ spelling m)
+    by true b is _ h =
+        subst (λ k. IsMessage k × (line ≡ spelling k)) (same_Some ReserveMetadataSnap m h) (tt, (bytes_eq-Decides line (codes "reserve_metadata_snap")).0 is)
+    by false true _ is h =
+        subst (λ k. IsMessage k × (line ≡ spelling k)) (same_Some ReleaseMetadataSnap m h) (tt, (bytes_eq-Decides line (codes "release_metadata_snap")).0 is)
+    by false false _ _ h = absurd (none-some m h)
+
+spelled_by : (line : List ℕ) (m : Message) (o : Option Message) → one_word line ≡ o → option_map_or Ok o (by_word (first_word line) (behind line)) ≡ Ok m
+    → IsMessage m × (line ≡ spelling m)
+spelled_by line m (Some k) is h = bare_spelled line m (is ∙ ap Some (ok_same k m h))
+spelled_by line m None is h = let s = by_word_spelled (first_word line) (behind line) m h in (s.1.0, parts line s.0 ∙ s.1.1)
+
+abbrev short_read : List ℕ → Result Message Refusal
+short_read line = option_map_or Ok (one_word line) (by_word (first_word line) (behind line))
+
 pub reading_spelled : (line : List ℕ) (m : Message) → reading line ≡ Ok m → IsMessage m × (line ≡ spelling m)
-reading_spelled line m h =
-    let s = by_word_spelled (first_word line) (behind line) m (ok_else (nat_lt 256 (length line)) (by_word (first_word line) (behind line)) BadSyntax m h) in
-    (s.1.0, parts line s.0 ∙ s.1.1)
+reading_spelled line m h = spelled_by line m (one_word line) refl (ok_else (nat_lt 256 (length line)) (short_read line) BadSyntax m h)
 
 -- ---- each message's line is read as it
 
 pub reading_long : (line : List ℕ) → 256 < length line → Err BadSyntax ≡ reading line
-reading_long line lt = sym (ap (λ (b : Bool). if b then Err BadSyntax else by_word (first_word line) (behind line)) (lt-ltb 256 (length line) lt))
+reading_long line lt = sym (ap (λ (b : Bool). if b then Err BadSyntax else short_read line) (lt-ltb 256 (length line) lt))
 
-reading_short : (line : List ℕ) → length line ≤ 256 → reading line ≡ by_word (first_word line) (behind line)
-reading_short line le = ap (λ (b : Bool). if b then Err BadSyntax else by_word (first_word line) (behind line)) (le-ltb 256 (length line) le)
+reading_short : (line : List ℕ) → length line ≤ 256 → reading line ≡ short_read line
+reading_short line le = ap (λ (b : Bool). if b then Err BadSyntax else short_read line) (le-ltb 256 (length line) le)
 
-pub reading_words : (line word arguments : List ℕ) (r : Result Message Refusal) → length line ≤ 256 → word ≡ first_word line → arguments ≡ behind line
+pub reading_words : (line word arguments : List ℕ) (r : Result Message Refusal) → length line ≤ 256 → None ≡ one_word line → word ≡ first_word line → arguments ≡ behind line
     → r ≡ by_word word arguments → r ≡ reading line
-reading_words line word arguments r le first rest is =
-    is ∙ ap (λ (w : List ℕ). by_word w arguments) first ∙ ap (by_word (first_word line)) rest ∙ sym (reading_short line le)
+reading_words line word arguments r le none first rest is =
+    is ∙ ap (λ (w : List ℕ). by_word w arguments) first ∙ ap (by_word (first_word line)) rest
+    ∙ (ap (λ o. option_map_or Ok o (by_word (first_word line) (behind line))) none ∙ sym (reading_short line le))
 
 limited : (limit n : ℕ) (e : Refusal) → n < limit → limit ≤ 2 ^ 64 → ◌≡◌ {A = Result ℕ Refusal} (if nat_lt (number (decimal n)) limit then Ok (number (decimal n)) else Err e) (Ok n)
 limited limit n e lt le =
@@ -224,6 +245,8 @@ spelling_read (Grow id blocks) h =
     reading_short (spelling (Grow id blocks)) (omega arith)
     ∙ two_read (λ blocks id. Grow id blocks) _ _ _ blocks id (two_are_numbers _ _ id blocks first rest small h.1)
     (word_read _ (2 ^ 64) blocks BadSyntax rest h.1 (omega arith)) (word_read _ 16777216 id BadDeviceId first h.0 (omega arith))
+spelling_read ReserveMetadataSnap h = refl
+spelling_read ReleaseMetadataSnap h = refl
 
 -- ---- what the reader answers
 

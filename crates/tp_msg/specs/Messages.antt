@@ -1,12 +1,13 @@
 -- Trusted reading: the messages to a pool (the kernel's thin-provisioning.rst, "Messages"; `grow`, the limits and the order of the tests are own).
-use Rattle.std.specs.Prelude.{◌≡◌, ℕ, ◌<◌, ◌^◌, Bool, true, false, not, ◌&&◌, ◌==◌, if◌then◌else◌, List, [], ◌∷◌, ◌++◌, length, Result, Ok, Err, nat_lt, codes, bytes_eq}
+use Rattle.std.specs.Prelude.{◌≡◌, ℕ, ◌<◌, ◌^◌, Bool, true, false, not, ◌&&◌, ◌==◌, if◌then◌else◌, List, [], ◌∷◌, ◌++◌, length, Option, None, Some, is_some, Result, Ok, Err, nat_lt, codes, bytes_eq}
 use Rattle.std.specs.Fmt.{decimal}
+use Rattle.std.specs.Option.{option_map_or}
 use Rattle.std.specs.Str.{all_ascii_digits}
 use Rattle.tp_model.specs.declared.refusal.Refusal.{Refusal}
 use Rattle.tp_model.specs.declared.refusal.Refusal.TheVariants.{BadSyntax, UnknownMessage, BadDeviceId}
 use Rattle.tp_model.specs.Digits.{number_after}
 use Rattle.tp_msg.specs.declared.message.Message.{Message}
-use Rattle.tp_msg.specs.declared.message.Message.TheVariants.{CreateThin, CreateSnap, Delete, SetTransactionId, Grow}
+use Rattle.tp_msg.specs.declared.message.Message.TheVariants.{CreateThin, CreateSnap, Delete, SetTransactionId, Grow, ReserveMetadataSnap, ReleaseMetadataSnap}
 
 -- ---- what each message's line is
 
@@ -16,6 +17,8 @@ IsMessage (CreateSnap id origin) = (id < 16777216) × (origin < 16777216)
 IsMessage (Delete id) = id < 16777216
 IsMessage (SetTransactionId current next) = (current < 2 ^ 64) × (next < 2 ^ 64)
 IsMessage (Grow id blocks) = (id < 16777216) × (blocks < 2 ^ 64)
+IsMessage ReserveMetadataSnap = Unit {0}
+IsMessage ReleaseMetadataSnap = Unit {0}
 
 abbrev pub spelling : Message → List ℕ
 spelling (CreateThin id) = codes "create_thin " ++ decimal id
@@ -23,6 +26,8 @@ spelling (CreateSnap id origin) = codes "create_snap " ++ (decimal id ++ (codes 
 spelling (Delete id) = codes "delete " ++ decimal id
 spelling (SetTransactionId current next) = codes "set_transaction_id " ++ (decimal current ++ (codes " " ++ decimal next))
 spelling (Grow id blocks) = codes "grow " ++ (decimal id ++ (codes " " ++ decimal blocks))
+spelling ReserveMetadataSnap = codes "reserve_metadata_snap"
+spelling ReleaseMetadataSnap = codes "release_metadata_snap"
 
 abbrev pub IsNoMessage : List ℕ → Type 0
 IsNoMessage line = (m : Message) → IsMessage m → line ≡ spelling m → ⊥
@@ -110,6 +115,13 @@ grow arguments =
     then growth_of (transaction_id (behind arguments)) (device_id (first_word arguments))
     else Err BadSyntax
 
+-- the messages of one word, which is the whole line
+abbrev pub one_word : List ℕ → Option Message
+one_word line =
+    if bytes_eq line (codes "reserve_metadata_snap") then Some ReserveMetadataSnap
+    else (if bytes_eq line (codes "release_metadata_snap") then Some ReleaseMetadataSnap
+    else None)
+
 abbrev pub by_word : List ℕ → List ℕ → Result Message Refusal
 by_word word arguments =
     if bytes_eq word (codes "create_thin") then create_thin arguments
@@ -117,7 +129,9 @@ by_word word arguments =
     else (if bytes_eq word (codes "delete") then delete arguments
     else (if bytes_eq word (codes "set_transaction_id") then set_transaction_id arguments
     else (if bytes_eq word (codes "grow") then grow arguments
-    else Err UnknownMessage))))
+    else Err (if is_some (one_word word) then BadSyntax else UnknownMessage)))))
 
 abbrev pub reading : List ℕ → Result Message Refusal
-reading line = if nat_lt 256 (length line) then Err BadSyntax else by_word (first_word line) (behind line)
+reading line =
+    if nat_lt 256 (length line) then Err BadSyntax
+    else option_map_or Ok (one_word line) (by_word (first_word line) (behind line))

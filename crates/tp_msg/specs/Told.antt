@@ -6,7 +6,7 @@ use Rattle.tp_model.specs.declared.mode.Mode.{Mode}
 use Rattle.tp_model.specs.declared.mode.Mode.TheVariants.{Writable, ReadOnly, Failed}
 use Rattle.std.specs.Fmt.{decimal}
 use Rattle.std.specs.Option.{option_map_or}
-use Rattle.tp_model.specs.Status.{spaced, fraction, unless_failed}
+use Rattle.tp_model.specs.Status.{held_word, spaced, fraction, unless_failed}
 use Rattle.tp_model.specs.Pool.{PlainPool, volume_slots, used}
 use Rattle.tp_msg.specs.declared.status.PoolStatus.{PoolStatus}
 use Rattle.tp_msg.specs.declared.status.VolumeStatus.{VolumeStatus}
@@ -19,6 +19,7 @@ pub record TellsPool (told : PoolStatus) (p : PlainPool) : Type 0 where
   pub data_blocks : p.geometry.data_blocks ≡ told.data_blocks
   pub mode : p.mode ≡ told.mode
   pub needs_check : p.needs_check ≡ told.needs_check
+  pub held_root : p.held_root ≡ told.held_root
 
 pub record TellsVolume (told : VolumeStatus) (p : PlainPool) (id : ℕ) : Type 0 where
   pub mode : p.mode ≡ told.mode
@@ -38,13 +39,13 @@ abbrev pub check_word : Bool → List ℕ
 check_word needs_check = if needs_check then codes "needs_check" else codes "-"
 
 -- the line of a pool that is not failed, of these fields
-abbrev pub line_of : ℕ → List ℕ → List ℕ → List ℕ → List ℕ → List ℕ
-line_of id metadata data_part mode check = spaced (
-    decimal id ∷ metadata ∷ data_part ∷ codes "-" ∷ mode ∷ codes "no_discard_passdown" ∷ codes "error_if_no_space" ∷ check ∷ codes "512" ∷ [])
+abbrev pub line_of : ℕ → List ℕ → List ℕ → List ℕ → List ℕ → List ℕ → List ℕ
+line_of id metadata data_part held mode check = spaced (
+    decimal id ∷ metadata ∷ data_part ∷ held ∷ mode ∷ codes "no_discard_passdown" ∷ codes "error_if_no_space" ∷ check ∷ codes "512" ∷ [])
 
 abbrev pub open_line : PoolStatus → List ℕ
 open_line told =
-    line_of told.transaction_id (fraction told.used_metadata told.metadata_blocks) (fraction told.used_data told.data_blocks) (mode_word told) (check_word told.needs_check)
+    line_of told.transaction_id (fraction told.used_metadata told.metadata_blocks) (fraction told.used_data told.data_blocks) (held_word told.held_root) (mode_word told) (check_word told.needs_check)
 
 -- the first three fields
 abbrev pub figures : PoolStatus → List ℕ

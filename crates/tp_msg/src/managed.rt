@@ -1,6 +1,6 @@
 //! A pool that takes messages and tells its status lines.
 ghost use Rattle.std.specs.Prelude.{◌≡◌, ◌≤◌, IfOk, MatchResult, take};
-ghost use Rattle.tp_model.specs.Calls.{CreateSnap, CreateThin, Delete, Done, Grow, Line, Refused, SetTransactionId, Status, ThinStatus};
+ghost use Rattle.tp_model.specs.Calls.{CreateSnap, CreateThin, Delete, Done, Grow, Line, Refused, ReleaseMetadataSnap, ReserveMetadataSnap, SetTransactionId, Status, ThinStatus};
 ghost use Rattle.tp_model.specs.Clauses.{Meets};
 
 use crate::status::LineBuffer;
@@ -26,7 +26,7 @@ pub trait Managed: Volumes {
 
     /// Removes a volume that nobody holds, and keeps that.
     ///
-    /// Refused by `Failed`, `ReadOnly`, `NoSuchDevice`, `Busy`, `Fault` or `Damaged`.
+    /// Refused by `Failed`, `ReadOnly`, `NoSuchDevice`, `Busy`, `NoMetadataSpace` (only while a metadata root is held), `Fault` or `Damaged`.
     fn delete(&mut self, id: DevId) -> Result<(), Refusal>
         ensures { MatchResult result
             (λ _. Meets Self.view self.old self.new (Delete id) Done)
@@ -49,6 +49,22 @@ pub trait Managed: Volumes {
         ensures { MatchResult result
             (λ _. Meets Self.view self.old self.new (Grow id blocks) Done)
             (λ reason. Meets Self.view self.old self.new (Grow id blocks) (Refused reason)) };
+
+    /// Holds the mapping of all volumes as it is now, and keeps that.
+    ///
+    /// Refused by `Failed`, `ReadOnly`, `HeldRootExists`, `NoMetadataSpace`, `Fault` or `Damaged`.
+    fn reserve_metadata_snap(&mut self) -> Result<(), Refusal>
+        ensures { MatchResult result
+            (λ _. Meets Self.view self.old self.new ReserveMetadataSnap Done)
+            (λ reason. Meets Self.view self.old self.new ReserveMetadataSnap (Refused reason)) };
+
+    /// Gives up the mapping that is held, and keeps that.
+    ///
+    /// Refused by `Failed`, `ReadOnly`, `NoHeldRoot`, `Fault` or `Damaged`.
+    fn release_metadata_snap(&mut self) -> Result<(), Refusal>
+        ensures { MatchResult result
+            (λ _. Meets Self.view self.old self.new ReleaseMetadataSnap Done)
+            (λ reason. Meets Self.view self.old self.new ReleaseMetadataSnap (Refused reason)) };
 
     /// Writes the pool's status line into a buffer, and answers its length in bytes; those behind it mean nothing.
     fn status(&mut self, out: &mut LineBuffer) -> usize

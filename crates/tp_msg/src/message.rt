@@ -15,4 +15,8 @@ pub enum Message {
     SetTransactionId { current: u64, next: u64 },
     /// `grow <dev id> <blocks>`: the volume gets so many blocks of its pool's block size; those behind its old end have no data block.
     Grow { id: DevId, blocks: u64 },
+    /// `reserve_metadata_snap`: the mapping of all volumes is held as it is now.
+    ReserveMetadataSnap,
+    /// `release_metadata_snap`: what is held is given up.
+    ReleaseMetadataSnap,
 }

@@ -1,7 +1,7 @@
 //! Messages from lines.
 
 ghost use Rattle.std.specs.Prelude.{◌≡◌, ◌&&◌, IfOk, IfErr};
-ghost use Rattle.tp_msg.specs.Messages.{IsMessage, IsNoMessage, are_numbers, behind, create_snap, create_thin, delete, first_word, grow, growth_of, one_id, by_word, exchange_of, reading, set_transaction_id, snapshot_of, spelling};
+ghost use Rattle.tp_msg.specs.Messages.{IsMessage, IsNoMessage, are_numbers, behind, create_snap, create_thin, delete, first_word, grow, growth_of, one_id, one_word, by_word, exchange_of, reading, set_transaction_id, snapshot_of, spelling};
 
 use crate::message::Message;
 use crate::numeral::{device_id, is_number, transaction_id};
@@ -136,6 +136,19 @@ fn grow(arguments: &[u8]) -> Result<Message, Refusal>
     }
 }
 
+// A message of one word is its whole line.
+fn one_word(line: &[u8]) -> Option<Message>
+    ensures { result ≡ one_word line.now }
+{
+    if line == b"reserve_metadata_snap".as_slice() {
+        Some(Message::ReserveMetadataSnap)
+    } else if line == b"release_metadata_snap".as_slice() {
+        Some(Message::ReleaseMetadataSnap)
+    } else {
+        None
+    }
+}
+
 fn by_word(word: &[u8], arguments: &[u8]) -> Result<Message, Refusal>
     ensures { result ≡ by_word word.now arguments.now }
 {
@@ -149,6 +162,8 @@ fn by_word(word: &[u8], arguments: &[u8]) -> Result<Message, Refusal>
         set_transaction_id(arguments)
     } else if word == b"grow".as_slice() {
         grow(arguments)
+    } else if one_word(word).is_some() {
+        Err(Refusal::BadSyntax)
     } else {
         Err(Refusal::UnknownMessage)
     }
@@ -159,7 +174,7 @@ fn by_word(word: &[u8], arguments: &[u8]) -> Result<Message, Refusal>
 ///
 /// The first of these refusals that holds is given:
 /// - `BadSyntax` for a line over 256 bytes;
-/// - `UnknownMessage` where the bytes before the first space, or the whole line, are none of the five first words;
+/// - `UnknownMessage` where the bytes before the first space, or the whole line, are none of the seven first words;
 /// - `BadSyntax` for a wrong number of words, a word that is no number, or a transaction id or a number of blocks over 2^64 - 1;
 /// - `BadDeviceId` for a device id of 16777216 or more, however many digits it has.
 pub fn read_message(line: &[u8]) -> Result<Message, Refusal>
@@ -169,6 +184,9 @@ pub fn read_message(line: &[u8]) -> Result<Message, Refusal>
 {
     if line.len() > MAX_LINE {
         return Err(Refusal::BadSyntax);
+    }
+    if let Some(message) = one_word(line) {
+        return Ok(message);
     }
     let (word, arguments) = cut(line);
     by_word(word, arguments)

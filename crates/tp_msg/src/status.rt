@@ -3,7 +3,7 @@
 ghost use Rattle.std.specs.Prelude.{◌≡◌, ◌+◌, ◌*◌, ◌<◌, ◌≤◌, ◌++◌, ℕ, length, take};
 ghost use Rattle.std.specs.Fmt.{decimal};
 ghost use Rattle.tp_model.specs.Pool.{PlainPool};
-ghost use Rattle.tp_model.specs.Status.{fraction, pool_line, volume_line};
+ghost use Rattle.tp_model.specs.Status.{fraction, held_word, pool_line, volume_line};
 ghost use Rattle.tp_msg.specs.Told.{TellsPool, TellsVolume, check_word, figures, last_sector, mode_word, open_line, open_volume_line, status_line, thin_line};
 
 use itoa::Buffer;
@@ -21,6 +21,8 @@ pub struct PoolStatus {
     pub data_blocks: u32,
     pub mode: Mode,
     pub needs_check: bool,
+    /// The number of the metadata root that is held; 0 where none is.
+    pub held_root: u32,
 }
 
 /// What the line of a volume tells.
@@ -101,14 +103,30 @@ fn check_word_of(needs_check: bool) -> &'static str
     if needs_check { "needs_check" } else { "-" }
 }
 
+// The number of the held root, which is a block's.
+fn put_held(out: &mut [u8], at: usize, root: u32) -> usize
+    requires { at + 10 ≤ length out.old }
+    ensures line { take result out.new ≡ take at out.old ++ held_word root }
+    ensures end { result ≤ at + 10 }
+    ensures len { length out.new ≡ length out.old }
+{
+    if root == 0 {
+        return put(out, at, b"-");
+    }
+    let mut digits = Buffer::new();
+    put(out, at, digits.format(root).as_bytes())
+}
+
 // The line of a pool that is not failed.
 fn put_open_line(out: &mut [u8], status: &PoolStatus) -> usize
-    requires { 178 ≤ length out.old }
+    requires { 187 ≤ length out.old }
     ensures line { take result out.new ≡ open_line status.now }
-    ensures end { result ≤ 178 }
+    ensures end { result ≤ 187 }
 {
     let after_figures = put_figures(out, status);
-    let mode = put(out, after_figures, b" - ");
+    let held = put(out, after_figures, b" ");
+    let after_held = put_held(out, held, status.held_root);
+    let mode = put(out, after_held, b" ");
     let after_mode = put(out, mode, mode_word_of(status).as_bytes());
     let check = put(out, after_mode, b" no_discard_passdown error_if_no_space ");
     let after_check = put(out, check, check_word_of(status.needs_check).as_bytes());

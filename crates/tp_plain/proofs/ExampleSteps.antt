@@ -1,25 +1,25 @@
 -- The examples, proved.
-use Rattle.std.proofs.Common.{ap, length, sym, ◌∙◌, subst, ◌≡◌, ℕ, zero, suc, ◌+◌, ◌*◌, ◌/◌, ◌<◌, ◌≤◌, ◌==◌, true, false, [], ◌∷◌, Some, None, ◌⊎◌, inl, inr, refl, arith}
+use Rattle.std.proofs.Common.{ap, length, sym, ◌∙◌, subst, ◌≡◌, ℕ, zero, suc, ◌+◌, ◌*◌, ◌/◌, ◌<◌, ◌≤◌, ◌==◌, ◌-◌, ◌^◌, Bool, true, false, cond, [], ◌∷◌, Some, None, ◌⊎◌, inl, inr, refl, arith}
 use Rattle.std.specs.Prelude.{codes}
 use Rattle.std.specs.Fmt.{digits}
 use Rattle.std.specs.Ordering.{nat_cmp}
-use Rattle.std.specs.FinMap.{empty, insert, remove}
+use Rattle.std.specs.FinMap.{empty, get, insert, remove, retain_keys}
 use Rattle.tp_model.specs.declared.refusal.Refusal.TheVariants.{BadSize, Busy, NoSuchDevice, NoDataSpace, NoMetadataSpace, StaleTransactionId, Exists}
 use Rattle.tp_model.specs.declared.refusal.NbdError.TheVariants.{Invalid, NoSpace}
 use Rattle.tp_model.specs.Sectors.{Sector, zero_sector}
-use Rattle.tp_model.specs.Pool.{PlainPool, used, volume_size, volume_sector, slot_at, IsExclusive}
-use Rattle.tp_model.specs.Calls.{Call, Grow, Makes, SlotEffect, Read, Trim, Write, CreateThin, CreateSnap, Delete, SetTransactionId, Sized, VolumeBlocks, after_refusal, Done, Gave, Refused, grown, volume_blocks, volume_of, reply, refusal_of, Step, SlotAfter, Keeps, Owns, effect_at, need}
+use Rattle.tp_model.specs.Pool.{PlainPool, copy_id, is_now, used, volume_size, volume_sector, slot_at, IsExclusive}
+use Rattle.tp_model.specs.Calls.{Call, Grow, HeldRead, ReserveMetadataSnap, ReleaseMetadataSnap, held_of, Makes, SlotEffect, Read, Trim, Write, CreateThin, CreateSnap, Delete, SetTransactionId, Sized, VolumeBlocks, after_refusal, Done, Gave, Refused, grown, volume_blocks, volume_of, reply, refusal_of, Step, SlotAfter, Keeps, Owns, effect_at, need}
 use Rattle.tp_model.specs.PoolStops.{MayReopen}
 use Rattle.tp_model.specs.Status.{pool_line, volume_line}
 use Rattle.tp_model.proofs.Found.{shared_stays}
-use Rattle.tp_model.proofs.Maps.{map_values, same_nat_map}
+use Rattle.tp_model.proofs.Maps.{get_retain, map_values, same_nat_map}
 use Rattle.tp_model.proofs.Sharing.{Decides-is_exclusive}
 use Rattle.tp_model.proofs.Steps.{step_accepted, step_refused, not_touched_past, not_covered_past, other_of_insert}
-use Rattle.std.proofs.lemmas.Bool.{ne_eqb}
+use Rattle.std.proofs.lemmas.Bool.{cases_eq, eq-eqb, ltb-false, ltb-true, ne_eqb, true≢false}
 use Rattle.std.proofs.lemmas.List.{length-replicate}
 use Rattle.std.proofs.lemmas.Option.{same_Some, MatchOption-at_none}
 use Rattle.std.proofs.lemmas.Bool.Decides.{nat_tests}
-use Rattle.tp_plain.specs.Examples.{with_data, z, a, b, c, formatted, thin, across, wrote_across, two_blocks, full, snapped, overwrite, rewritten, shared_block, origin_written, both_written, trim, trimmed, nearly_full, sevened, kept_own, found_new, overwritten, on_wire, thin_and_snapshot, zeroes, zeroed_with_hole, zeroed_whole, first_block, grown_own, shows_old_data, as_large, held_own}
+use Rattle.tp_plain.specs.Examples.{with_data, z, a, b, c, formatted, thin, across, wrote_across, two_blocks, full, snapped, overwrite, rewritten, shared_block, origin_written, both_written, trim, trimmed, nearly_full, sevened, kept_own, found_new, overwritten, on_wire, thin_and_snapshot, zeroes, zeroed_with_hole, zeroed_whole, first_block, grown_own, shows_old_data, as_large, held_own, pool, reserved, written_since, written_in_place, released}
 
 pub not_zero : (n : ℕ) → (suc n == 0) ≡ false
 not_zero n = ne_eqb (suc n) 0 (λ e. omega arith)
@@ -263,6 +263,7 @@ may_be_found = record {
   transaction_id = refl;
   needs_check = refl;
   meta_used = refl;
+  held_root = refl;
   mode = refl;
   holds = refl;
   sectors = found_sectors;
@@ -425,3 +426,101 @@ grows_far = simp map_values
 
 pub grows_without_room : refusal_of (record kept_own { meta_used = 1537 }) (Grow 0 2) ≡ Some NoMetadataSpace
 grows_without_room = simp map_values
+
+-- ---- a root is held
+
+-- what stands at a key behind the keys of devices, and before them
+key_of_copy : (id : ℕ) → is_now id ≡ true → (id == copy_id 0) ≡ false
+key_of_copy id here = let low = ltb-true id (2 ^ 24) here in ne_eqb id (copy_id 0) (λ e. omega (arith, low, e))
+
+key_of_none : (id : ℕ) → is_now id ≡ false → (id == 0) ≡ false
+key_of_none id past = ne_eqb id 0 (λ e. true≢false (sym (ap is_now e) ∙ past))
+
+at_held : (id : ℕ) (here : Bool) → is_now id ≡ here
+    → cond (id == copy_id 0) (Some first_block) (cond (id == 0) (Some first_block) None) ≡ cond ((cond here id (id - 2 ^ 24)) == 0) (Some first_block) None
+at_held id true is = ap (λ t. cond t (Some first_block) (cond (id == 0) (Some first_block) None)) (key_of_copy id is)
+at_held id false is =
+    ap (λ t. cond (id == copy_id 0) (Some first_block) (cond t (Some first_block) None)) (key_of_none id is)
+    ∙ ap (λ t. cond t (Some first_block) None) (shifted id is)
+  where
+    shifted : (id : ℕ) → is_now id ≡ false → (id == copy_id 0) ≡ ((id - 2 ^ 24) == 0)
+    shifted id past = elim (cases_eq id (copy_id 0)) [
+      | inl same ↦ eq-eqb id (copy_id 0) same ∙ sym (eq-eqb (id - 2 ^ 24) 0 (omega (arith, same)))
+      | inr apart ↦ ne_eqb id (copy_id 0) apart ∙ sym (ne_eqb (id - 2 ^ 24) 0 (λ e. apart (omega (arith, e, ltb-false id (2 ^ 24) past))))
+    ]
+
+held_volumes : (id : ℕ) → get reserved.volumes id ≡ get kept_own.volumes (held_of id)
+held_volumes id =
+    let now : get reserved.volumes id ≡ cond (id == copy_id 0) (Some first_block) (cond (id == 0) (Some first_block) None) = simp map_values in
+    let was : get kept_own.volumes (held_of id) ≡ cond (held_of id == 0) (Some first_block) None = simp map_values in
+    now ∙ (at_held id (is_now id) refl ∙ sym was)
+
+pub reserves : Step kept_own ReserveMetadataSnap Done reserved
+reserves = step_accepted kept_own ReserveMetadataSnap reserved refl (record { rest = refl; held = omega arith; volumes = held_volumes })
+
+pub reserved_line : pool_line reserved ≡ codes "0 10/2048 1/4 8 rw no_discard_passdown error_if_no_space - 512"
+unfolding digits
+reserved_line = simp map_values
+
+moved_since : slot_at written_since 0 0 ≡ slot_at reserved 0 0 → ⊥
+moved_since same =
+    let is : slot_at written_since 0 0 ≡ Some 1 = simp map_values in
+    let was : slot_at reserved 0 0 ≡ Some 0 = simp map_values in
+    let one : 1 ≡ 0 = same_Some 1 0 (sym is ∙ (same ∙ was)) in
+    absurd (omega (arith, one))
+
+slots_since : (block : ℕ) → SlotAfter (effect_at reserved overwrite 0 block) reserved written_since 0 block
+slots_since zero = (Decides-is_exclusive written_since 0 0).0 (simp map_values)
+slots_since (suc n) =
+    let past : 0 + 2 ≤ suc n * 2 = omega arith in
+    rw (not_touched_past (with_data 4) 0 2 (suc n) past) (simp (map_values, not_zero))
+
+pub writes_since : Step reserved overwrite Done written_since
+writes_since = step_accepted reserved overwrite written_since (simp map_values) (record {
+  rest = refl;
+  others = λ i apart. other_of_insert _ 0 _ i apart;
+  volume = simp map_values;
+  slots = slots_since;
+  untouched = λ same. absurd (moved_since (same 0));
+})
+
+pub read_since : reply written_since (Read 0 0 4) ≡ Gave (b ∷ b ∷ z ∷ z ∷ [])
+read_since = simp map_values
+
+pub held_since : reply written_since (HeldRead 0 0 4) ≡ Gave (a ∷ a ∷ z ∷ z ∷ [])
+held_since = simp map_values
+
+pub used_since : used written_since ≡ 2
+used_since = simp map_values
+
+pub not_in_place : Makes reserved overwrite written_in_place → ⊥
+not_in_place h =
+    let own : IsExclusive written_in_place 0 0 = h.slots 0 in
+    let there : slot_at written_in_place (copy_id 0) 0 ≡ slot_at written_in_place 0 0 = simp map_values in
+    let zero_is : copy_id 0 ≡ 0 = (own.alone (copy_id 0) 0 there).0 in
+    absurd (omega (arith, zero_is))
+
+released_volumes : (id : ℕ) → get released.volumes id ≡ get (retain_keys written_since.volumes is_now) id
+released_volumes id = at_released id (is_now id) refl ∙ sym (get_retain written_since.volumes is_now id)
+  where
+    at_released : (id : ℕ) (here : Bool) → is_now id ≡ here → get released.volumes id ≡ cond here (get written_since.volumes id) None
+    at_released id true is = simp (map_values, key_of_copy id is)
+    at_released id false is = simp (map_values, key_of_none id is)
+
+pub releases : Step written_since ReleaseMetadataSnap Done released
+releases = step_accepted written_since ReleaseMetadataSnap released refl (ap (λ m. pool 4 12 m) (same_nat_map released.volumes (retain_keys written_since.volumes is_now) released_volumes))
+
+pub used_released : used released ≡ 1
+used_released = simp map_values
+
+pub copy_is_none : refusal_of reserved (HeldRead 1 0 1) ≡ Some NoSuchDevice
+copy_is_none = simp map_values
+
+pub removes_without_room : refusal_of (record reserved { meta_used = 1793 }) (Delete 0) ≡ Some NoMetadataSpace
+removes_without_room = simp map_values
+
+pub removes_with_room : refusal_of (record reserved { meta_used = 1792 }) (Delete 0) ≡ None
+removes_with_room = simp map_values
+
+pub removes_without_root : refusal_of (record kept_own { meta_used = 2048 }) (Delete 0) ≡ None
+removes_without_root = simp map_values

@@ -6,7 +6,7 @@ use Rattle.tp_model.specs.declared.mode.Mode.TheVariants as mode
 use Rattle.tp_model.specs.declared.refusal.NbdError.{NbdError}
 use Rattle.tp_model.specs.Geometry.{Geometry}
 use Rattle.tp_model.specs.Sectors.{Sector, zero_sector}
-use Rattle.tp_model.specs.Pool.{Volume, PlainPool}
+use Rattle.tp_model.specs.Pool.{Volume, PlainPool, copy_id}
 use Rattle.tp_model.specs.Calls.{WriteZeroes, Call, Write, Trim, new_volume}
 use Rattle.tp_model.specs.PoolStops.{Given}
 use Rattle.tp_model.specs.Requests.{form_error}
@@ -30,7 +30,7 @@ c = 99 ∷ []
 
 -- a writable pool of n data blocks that nobody holds, with these volumes
 abbrev pub pool : ℕ → ℕ → FinMap nat_cmp Volume → PlainPool
-pool n meta volumes = record { geometry = with_data n; volumes = volumes; transaction_id = 0; needs_check = false; mode = mode.Writable; holds = empty; meta_used = meta }
+pool n meta volumes = record { geometry = with_data n; volumes = volumes; held_root = 0; transaction_id = 0; needs_check = false; mode = mode.Writable; holds = empty; meta_used = meta }
 
 -- ---- an empty pool, and a first volume
 
@@ -145,3 +145,18 @@ as_large n = record kept_own { volumes = insert (insert empty 0 first_block) 0 f
 
 abbrev pub held_own : PlainPool
 held_own = record kept_own { holds = insert empty 0 1 }
+
+-- ---- a root is held: the copies stand behind the volumes, with their blocks, and what is written since is written elsewhere
+
+abbrev pub reserved : PlainPool
+reserved = record kept_own { volumes = insert (insert empty 0 first_block) (copy_id 0) first_block; held_root = 8 }
+
+abbrev pub written_since : PlainPool
+written_since = record reserved { volumes = insert reserved.volumes 0 (record { sectors = b ∷ b ∷ z ∷ z ∷ []; slots = insert empty 0 1 }); meta_used = 12 }
+
+-- what no write leaves: the held copy's block was written in place
+abbrev pub written_in_place : PlainPool
+written_in_place = record reserved { volumes = insert reserved.volumes 0 (record { sectors = b ∷ b ∷ z ∷ z ∷ []; slots = insert empty 0 0 }); meta_used = 12 }
+
+abbrev pub released : PlainPool
+released = pool 4 12 (insert (insert empty 0 first_block) 0 (record { sectors = b ∷ b ∷ z ∷ z ∷ []; slots = insert empty 0 1 }))

@@ -1,16 +1,15 @@
 -- Internal: the tests of calls over what they look at.
 use Rattle.std.specs.Prelude.{◌≡◌, ℕ, ◌-◌, ◌==◌, Bool, true, not, ◌&&◌, ◌||◌, List, [], ◌∷◌, length, Option, Some, nat_lt, nat_le, if◌then◌else◌}
-use Rattle.std.specs.FinMap.{len}
 use Rattle.tp_model.specs.declared.mode.Mode.{Mode}
 use Rattle.tp_model.specs.declared.mode.Mode.TheVariants as mode
 use Rattle.tp_model.specs.declared.refusal.Refusal.{Refusal}
 use Rattle.tp_model.specs.declared.refusal.Refusal.TheVariants as refusals
 use Rattle.tp_model.specs.Sectors.{Sector}
-use Rattle.tp_model.specs.Pool.{PlainPool, hold_count}
+use Rattle.tp_model.specs.Pool.{PlainPool, device_count, hold_count}
 use Rattle.tp_model.specs.Calls as calls
-use Rattle.tp_model.specs.Calls.{Call, first_failed, is_failed, exists, has_data_room, volume_blocks}
+use Rattle.tp_model.specs.Calls.{Call, first_failed, is_failed, exists, has_copy, has_data_room, volume_blocks}
 use Rattle.tp_plain.specs.declared.tests_of_calls.Asked.{Asked}
-use Rattle.tp_plain.specs.declared.tests_of_calls.Asked.TheVariants.{Read, Write, Trim, WriteZeroes, Flush, CreateThin, CreateSnap, Delete, SetTransactionId, Grow, Hold, VolumeBlocks}
+use Rattle.tp_plain.specs.declared.tests_of_calls.Asked.TheVariants.{Read, Write, Trim, WriteZeroes, Flush, CreateThin, CreateSnap, Delete, SetTransactionId, Grow, Hold, VolumeBlocks, HeldRead, ReserveMetadataSnap, ReleaseMetadataSnap}
 use Rattle.tp_plain.specs.declared.tests_of_calls.Facts.{Facts}
 
 -- the call of a pool, on this volume, that is asked
@@ -27,15 +26,20 @@ Asks p id (SetTransactionId current) call = (next : ℕ) × (call ≡ calls.SetT
 Asks p id (Grow is_held blocks) call = (nat_lt 0 (hold_count p.holds id) ≡ is_held) × (call ≡ calls.Grow id blocks)
 Asks p id Hold call = call ≡ calls.Hold id
 Asks p id VolumeBlocks call = call ≡ calls.VolumeBlocks id
+Asks p id HeldRead call = (sector : ℕ) × (count : ℕ) × (call ≡ calls.HeldRead id sector count)
+Asks p id ReserveMetadataSnap call = call ≡ calls.ReserveMetadataSnap
+Asks p id ReleaseMetadataSnap call = call ≡ calls.ReleaseMetadataSnap
 
 pub record IsTrueOf (facts : Facts) (p : PlainPool) (id : ℕ) (call : Call) : Type 0 where
   pub mode : p.mode ≡ facts.mode
   pub exists_is : exists p id ≡ facts.exists
   pub blocks : volume_blocks p id ≡ facts.blocks
-  pub devices : len p.volumes ≡ facts.devices
+  pub devices : device_count p ≡ facts.devices
   pub free_metadata : p.geometry.metadata_blocks - p.meta_used ≡ facts.free_metadata
   pub has_room : has_data_room p call id ≡ facts.has_data_room
   pub transaction_id : p.transaction_id ≡ facts.transaction_id
+  pub is_held : not (p.held_root == 0) ≡ facts.is_held
+  pub has_copy_is : has_copy p id ≡ facts.has_copy
 
 abbrev pub request_refusal : Facts → ℕ → ℕ → Bool → Option Refusal
 request_refusal f sectors least has_room = first_failed (
@@ -57,7 +61,10 @@ creation_refusal f = first_failed (
     ∷ (not (nat_le 512 f.free_metadata), refusals.NoMetadataSpace) ∷ [])
 
 abbrev pub deletion_refusal : Facts → Bool → Option Refusal
-deletion_refusal f is_held = first_failed ((not f.exists, refusals.NoSuchDevice) ∷ (is_held, refusals.Busy) ∷ [])
+deletion_refusal f is_held = first_failed (
+    (not f.exists, refusals.NoSuchDevice)
+    ∷ (is_held, refusals.Busy)
+    ∷ (f.is_held && not (nat_le 256 f.free_metadata), refusals.NoMetadataSpace) ∷ [])
 
 abbrev pub growth_refusal : Facts → Bool → ℕ → Option Refusal
 growth_refusal f is_held blocks = first_failed (
@@ -68,6 +75,15 @@ growth_refusal f is_held blocks = first_failed (
 
 abbrev pub read_refusal : Facts → Option Refusal
 read_refusal f = first_failed ((is_failed f.mode, refusals.Failed) ∷ (not f.exists, refusals.NoSuchDevice) ∷ [])
+
+abbrev pub held_refusal : Facts → Option Refusal
+held_refusal f = first_failed ((is_failed f.mode, refusals.Failed) ∷ (not f.is_held, refusals.NoHeldRoot) ∷ (not f.has_copy, refusals.NoSuchDevice) ∷ [])
+
+abbrev pub reserve_refusal : Facts → Option Refusal
+reserve_refusal f = first_failed ((f.is_held, refusals.HeldRootExists) ∷ (not (nat_le 512 f.free_metadata), refusals.NoMetadataSpace) ∷ [])
+
+abbrev pub release_refusal : Facts → Option Refusal
+release_refusal f = first_failed ((not f.is_held, refusals.NoHeldRoot) ∷ [])
 
 abbrev pub refusal_by : Facts → Asked → Option Refusal
 refusal_by f Read = read_refusal f
@@ -82,3 +98,6 @@ refusal_by f (SetTransactionId current) = message_refusal f.mode (first_failed (
 refusal_by f (Grow is_held blocks) = message_refusal f.mode (growth_refusal f is_held blocks)
 refusal_by f Hold = read_refusal f
 refusal_by f VolumeBlocks = read_refusal f
+refusal_by f HeldRead = held_refusal f
+refusal_by f ReserveMetadataSnap = message_refusal f.mode (reserve_refusal f)
+refusal_by f ReleaseMetadataSnap = message_refusal f.mode (release_refusal f)

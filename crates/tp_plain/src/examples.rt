@@ -3,13 +3,13 @@
 //! are short where a sector would be long. A definition that is changed to another meaning breaks one of them.
 ghost use Rattle.std.specs.Prelude.{◌≡◌, ℕ, Bool, IsTrue, [], ◌∷◌, Some, None, codes, true, false};
 ghost use Rattle.tp_model.specs.declared.refusal.NbdError.TheVariants.{Invalid, NoSpace};
-ghost use Rattle.tp_model.specs.declared.refusal.Refusal.TheVariants.{BadSize, Busy, Exists, NoDataSpace, NoMetadataSpace, NoSuchDevice, StaleTransactionId};
+ghost use Rattle.tp_model.specs.declared.refusal.Refusal.TheVariants.{BadSize, Busy, Exists, HeldRootExists, NoDataSpace, NoHeldRoot, NoMetadataSpace, NoSuchDevice, StaleTransactionId};
 ghost use Rattle.tp_model.specs.Sectors.{Sector};
 ghost use Rattle.tp_model.specs.Pool.{PlainPool, used, volume_sector};
 ghost use Rattle.tp_model.specs.Status.{pool_line, volume_line};
-ghost use Rattle.tp_model.specs.Calls.{CreateSnap, CreateThin, Delete, Done, Gave, Grow, Makes, Read, Refused, SetTransactionId, Sized, Step, Trim, VolumeBlocks, Write, after_refusal, need, refusal_of, reply};
+ghost use Rattle.tp_model.specs.Calls.{CreateSnap, CreateThin, Delete, Done, Gave, Grow, HeldRead, Makes, Read, Refused, ReleaseMetadataSnap, ReserveMetadataSnap, SetTransactionId, Sized, Step, Trim, VolumeBlocks, Write, after_refusal, need, refusal_of, reply};
 ghost use Rattle.tp_model.specs.PoolStops.{MayReopen};
-ghost use Rattle.tp_plain.specs.Examples.{a, b, c, z, formatted, thin, thin_and_snapshot, across, wrote_across, full, snapped, overwrite, rewritten, shared_block, origin_written, both_written, trim, trimmed, zeroes, zeroed_with_hole, zeroed_whole, nearly_full, sevened, kept_own, overwritten, found_new, on_wire, grown_own, shows_old_data, as_large, held_own};
+ghost use Rattle.tp_plain.specs.Examples.{a, b, c, z, formatted, thin, thin_and_snapshot, across, wrote_across, full, snapped, overwrite, rewritten, shared_block, origin_written, both_written, trim, trimmed, zeroes, zeroed_with_hole, zeroed_whole, nearly_full, sevened, kept_own, overwritten, found_new, on_wire, grown_own, shows_old_data, as_large, held_own, reserved, written_since, written_in_place, released};
 
 pub fn fresh_status()
     ensures { pool_line formatted ≡ codes "0 9/2048 0/4 - rw no_discard_passdown error_if_no_space - 512" }
@@ -124,6 +124,33 @@ pub fn growth_refusals()
     ensures more { refusal_of kept_own (Grow 0 16777217) ≡ Some BadSize }
     ensures most { refusal_of kept_own (Grow 0 16777216) ≡ None }
     ensures no_room { refusal_of (record kept_own { meta_used = 1537 }) (Grow 0 2) ≡ Some NoMetadataSpace }
+{}
+
+/// The whole mapping is held: what is written since takes a block of its own, and the held copy reads as it was. A release leaves the
+/// volumes as they are, and frees what only the copy had.
+pub fn held_metadata_snapshot()
+    ensures reserves { Step kept_own ReserveMetadataSnap Done reserved }
+    ensures line { pool_line reserved ≡ codes "0 10/2048 1/4 8 rw no_discard_passdown error_if_no_space - 512" }
+    ensures writes { Step reserved overwrite Done written_since }
+    ensures read { reply written_since (Read 0 0 4) ≡ Gave (b ∷ b ∷ z ∷ z ∷ []) }
+    ensures held { reply written_since (HeldRead 0 0 4) ≡ Gave (a ∷ a ∷ z ∷ z ∷ []) }
+    ensures both_used { used written_since ≡ 2 }
+    ensures not_in_place { Makes reserved overwrite written_in_place → ⊥ }
+    ensures releases { Step written_since ReleaseMetadataSnap Done released }
+    ensures one_used { used released ≡ 1 }
+{}
+
+/// One root is held at a time. While it is, a removal may take metadata blocks, so it wants 256 free ones.
+pub fn held_root_refusals()
+    ensures again { refusal_of reserved ReserveMetadataSnap ≡ Some HeldRootExists }
+    ensures no_room { refusal_of (record kept_own { meta_used = 1537 }) ReserveMetadataSnap ≡ Some NoMetadataSpace }
+    ensures none { refusal_of kept_own ReleaseMetadataSnap ≡ Some NoHeldRoot }
+    ensures full { refusal_of (record reserved { meta_used = 2048 }) ReleaseMetadataSnap ≡ None }
+    ensures not_held { refusal_of kept_own (HeldRead 0 0 1) ≡ Some NoHeldRoot }
+    ensures no_copy { refusal_of reserved (HeldRead 1 0 1) ≡ Some NoSuchDevice }
+    ensures removal { refusal_of (record reserved { meta_used = 1793 }) (Delete 0) ≡ Some NoMetadataSpace }
+    ensures enough { refusal_of (record reserved { meta_used = 1792 }) (Delete 0) ≡ None }
+    ensures no_root { refusal_of (record kept_own { meta_used = 2048 }) (Delete 0) ≡ None }
 {}
 
 /// Requests to a volume of 1048576 bytes.

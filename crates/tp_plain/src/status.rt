@@ -25,19 +25,30 @@ fn fraction_of(alloc: Global, count: u32, total: u32) -> Result<String, AllocErr
     format!(in alloc; "{count}/{total}")
 }
 
+fn held_word_of(alloc: Global, root: u32) -> Result<String, AllocError>
+    ensures { IfOk result (λ text. string_bytes text ≡ status.held_word root) }
+{
+    if root == 0 {
+        String::from_str(alloc, "-")
+    } else {
+        format!(in alloc; "{root}")
+    }
+}
+
 // The line of a pool that is not failed, of these fields.
 fn line_of(
     alloc: Global,
     id: u64,
     metadata: &str,
     data_part: &str,
+    held: &str,
     mode: &str,
     check: &str,
 ) -> Result<String, AllocError>
-    ensures { IfOk result (λ line. string_bytes line ≡ line_of id metadata.now data_part.now mode.now check.now) }
+    ensures { IfOk result (λ line. string_bytes line ≡ line_of id metadata.now data_part.now held.now mode.now check.now) }
 {
     format!(in alloc;
-        "{id} {metadata} {data_part} - {mode} no_discard_passdown error_if_no_space {check} 512"
+        "{id} {metadata} {data_part} {held} {mode} no_discard_passdown error_if_no_space {check} 512"
     )
 }
 
@@ -47,11 +58,13 @@ fn open_line(alloc: Global, told: &PoolStatus) -> Result<String, AllocError>
 {
     let metadata = fraction_of(alloc, told.used_metadata, told.metadata_blocks)?;
     let data_part = fraction_of(alloc, told.used_data, told.data_blocks)?;
+    let held = held_word_of(alloc, told.held_root)?;
     line_of(
         alloc,
         told.transaction_id,
         metadata.as_str(),
         data_part.as_str(),
+        held.as_str(),
         mode_word_of(told),
         check_word_of(told.needs_check),
     )

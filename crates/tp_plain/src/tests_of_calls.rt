@@ -2,7 +2,7 @@
 ghost use Rattle.std.specs.Prelude.{◌≡◌, ℕ};
 ghost use Rattle.tp_model.specs.Pool.{PlainPool};
 ghost use Rattle.tp_model.specs.Calls as calls;
-ghost use Rattle.tp_plain.specs.Tests.{Asks, IsTrueOf, request_refusal, message_refusal, creation_refusal, deletion_refusal, growth_refusal, read_refusal, refusal_by};
+ghost use Rattle.tp_plain.specs.Tests.{Asks, IsTrueOf, request_refusal, message_refusal, creation_refusal, deletion_refusal, growth_refusal, held_refusal, read_refusal, release_refusal, reserve_refusal, refusal_by};
 
 use tp_model::{Mode, Refusal};
 
@@ -21,6 +21,9 @@ pub enum Asked {
     Grow { is_held: bool, blocks: u64 },
     Hold,
     VolumeBlocks,
+    HeldRead,
+    ReserveMetadataSnap,
+    ReleaseMetadataSnap,
 }
 
 /// What the tests look at of a pool, and of the call's volume in it.
@@ -34,6 +37,9 @@ pub struct Facts {
     pub free_metadata: u32,
     pub has_data_room: bool,
     pub transaction_id: u64,
+    /// A metadata root is held, and in its copy there is a volume of this id.
+    pub is_held: bool,
+    pub has_copy: bool,
 }
 
 // Of a request that wants so many free metadata blocks.
@@ -89,6 +95,8 @@ fn deletion_refusal_of(facts: &Facts, is_held: bool) -> Option<Refusal>
         Some(Refusal::NoSuchDevice)
     } else if is_held {
         Some(Refusal::Busy)
+    } else if facts.is_held && facts.free_metadata < 256 {
+        Some(Refusal::NoMetadataSpace)
     } else {
         None
     }
@@ -122,6 +130,42 @@ fn read_refusal_of(facts: &Facts) -> Option<Refusal>
     }
 }
 
+// Of a read of the held copy.
+fn held_refusal_of(facts: &Facts) -> Option<Refusal>
+    ensures { result ≡ held_refusal facts.now }
+{
+    match facts.mode {
+        Mode::Failed => Some(Refusal::Failed),
+        _ if !facts.is_held => Some(Refusal::NoHeldRoot),
+        _ if facts.has_copy => None,
+        _ => Some(Refusal::NoSuchDevice),
+    }
+}
+
+// Of the message that holds a root.
+fn reserve_refusal_of(facts: &Facts) -> Option<Refusal>
+    ensures { result ≡ reserve_refusal facts.now }
+{
+    if facts.is_held {
+        Some(Refusal::HeldRootExists)
+    } else if facts.free_metadata < 512 {
+        Some(Refusal::NoMetadataSpace)
+    } else {
+        None
+    }
+}
+
+// Of the one that gives it up.
+fn release_refusal_of(facts: &Facts) -> Option<Refusal>
+    ensures { result ≡ release_refusal facts.now }
+{
+    if facts.is_held {
+        None
+    } else {
+        Some(Refusal::NoHeldRoot)
+    }
+}
+
 fn refusal_of_facts(facts: &Facts, asked: Asked) -> Option<Refusal>
     ensures { result ≡ refusal_by facts.now asked }
 {
@@ -150,6 +194,9 @@ fn refusal_of_facts(facts: &Facts, asked: Asked) -> Option<Refusal>
         Asked::Grow { is_held, blocks } => {
             message_refusal_of(facts.mode, growth_refusal_of(facts, is_held, blocks))
         }
+        Asked::HeldRead => held_refusal_of(facts),
+        Asked::ReserveMetadataSnap => message_refusal_of(facts.mode, reserve_refusal_of(facts)),
+        Asked::ReleaseMetadataSnap => message_refusal_of(facts.mode, release_refusal_of(facts)),
         Asked::SetTransactionId { current } => {
             let own = if current == facts.transaction_id {
                 None

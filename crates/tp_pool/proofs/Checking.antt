@@ -34,6 +34,7 @@ has_read_only g c image s has = record {
   transaction_id = has.transaction_id;
   needs_check = has.needs_check;
   meta_used = has.meta_used;
+  held_root = has.held_root;
   sizes = has.sizes;
   slots = has.slots;
   sectors = record { mapped = has.sectors.mapped; unmapped = has.sectors.unmapped };
@@ -78,6 +79,7 @@ has_cleared g c image s has = record {
   transaction_id = has.transaction_id;
   needs_check = refl;
   meta_used = has.meta_used;
+  held_root = has.held_root;
   sizes = has.sizes;
   slots = has.slots;
   sectors = record { mapped = has.sectors.mapped; unmapped = has.sectors.unmapped };

@@ -1,14 +1,13 @@
 -- How the creation of a volume is refused.
 use Rattle.std.proofs.Common.{◌≡◌, inl, inr, ℕ, ◌-◌, ◌≤◌, ◌<◌, ◌↔◌, Bool, true, false, not, Option, None, Some, List, refl, [], ◌∷◌, sym, ◌∙◌, ap, arith}
 use Rattle.std.specs.Prelude.{IsTrue, nat_le}
-use Rattle.std.specs.FinMap.{len}
 use Rattle.std.proofs.lemmas.Bool.{cases_lt, le-leb, lt-leb, true≢false}
 use Rattle.std.proofs.lemmas.Option.{none-some}
 use Rattle.tp_model.specs.declared.refusal.Refusal.{Refusal}
 use Rattle.tp_model.specs.declared.refusal.Refusal.TheVariants.{Exists, Failed, NoMetadataSpace, NoSuchDevice, ReadOnly, TooManyDevices}
 use Rattle.tp_model.specs.Geometry.{Geometry}
 use Rattle.tp_model.specs.Sectors.{Sector}
-use Rattle.tp_model.specs.Pool.{PlainPool}
+use Rattle.tp_model.specs.Pool.{PlainPool, device_count}
 use Rattle.tp_model.specs.Calls.{exists, first_failed, has_metadata_room, is_failed, is_read_only, refusal_of}
 use Rattle.tp_stored.specs.Contents.{Contents, HasContents}
 use Rattle.tp_pool.specs.Messages.{create_call}
@@ -25,7 +24,7 @@ create_verdict failed read_only misses there many short = first_failed (
     (failed, Failed) ∷ (read_only, ReadOnly) ∷ (misses, NoSuchDevice) ∷ (there, Exists) ∷ (many, TooManyDevices) ∷ (short, NoMetadataSpace) ∷ [])
 
 pub tests_are : (s : PlainPool) (id : ℕ) (origin : Option ℕ) (failed read_only misses there many short : Bool) → is_failed s.mode ≡ failed → is_read_only s.mode ≡ read_only
-    → lacks_origin s origin ≡ misses → exists s id ≡ there → nat_le 65536 (len s.volumes) ≡ many → not (has_metadata_room s 512) ≡ short
+    → lacks_origin s origin ≡ misses → exists s id ≡ there → nat_le 65536 (device_count s) ≡ many → not (has_metadata_room s 512) ≡ short
     → refusal_of s (create_call id origin) ≡ create_verdict failed read_only misses there many short
 tests_are s id None failed read_only misses there many short a b m c d e = (λ i. create_verdict (a i) (b i) (m i) (c i) (d i) (e i))
 tests_are s id (Some origin) failed read_only misses there many short a b m c d e = (λ i. create_verdict (a i) (b i) (m i) (c i) (d i) (e i))

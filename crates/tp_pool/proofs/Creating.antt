@@ -1,14 +1,13 @@
 -- The creation of a volume in a pool that works.
-use Rattle.std.proofs.Common.{◌≡◌, ◌⊎◌, inl, inr, ℕ, ◌+◌, ◌≤◌, ◌<◌, ◌↔◌, Bool, true, false, not, Option, None, Some, is_some, Result, Ok, Err, List, [], length, refl, sym, ◌∙◌, ap, subst, arith}
-use Rattle.std.specs.Prelude.{IfErr, IsSome, IsTrue, OnOk, nat_le}
-use Rattle.std.specs.FinMap.{len}
-use Rattle.std.proofs.lemmas.Bool.{cases_lt, false≢true, le-leb, true≢false}
+use Rattle.std.proofs.Common.{◌≡◌, ◌⊎◌, inl, inr, ℕ, ◌+◌, ◌^◌, ◌≤◌, ◌<◌, ◌↔◌, Bool, true, false, not, Option, None, Some, is_some, Result, Ok, Err, List, [], refl, sym, ◌∙◌, ap, subst, arith}
+use Rattle.std.specs.Prelude.{IfErr, IfSome, IsSome, IsTrue, OnOk, nat_le}
+use Rattle.std.proofs.lemmas.Bool.{cases_lt, false≢true, le-leb, lt-ltb, true≢false}
 use Rattle.tp_model.specs.declared.mode.Mode.TheVariants as mode
 use Rattle.tp_model.specs.declared.refusal.Refusal.{Refusal}
 use Rattle.tp_model.specs.declared.refusal.Refusal.TheVariants.{Damaged, Exists, Failed, Fault, NoMetadataSpace, NoSuchDevice, ReadOnly, TooManyDevices}
 use Rattle.tp_model.specs.Geometry.{Geometry, IsWithinLimits}
 use Rattle.tp_model.specs.Sectors.{Sector}
-use Rattle.tp_model.specs.Pool.{PlainPool}
+use Rattle.tp_model.specs.Pool.{PlainPool, device_count}
 use Rattle.tp_model.specs.Refusals.{is_fault, is_fault_refusal}
 use Rattle.tp_model.specs.Calls.{Answer, Call, Done, IsAllowed, Flush, Makes, Refused, ends_in_commit, exists, has_metadata_room, is_failed, is_read_only, is_writing, may_reclaim, refusal_of, reply}
 use Rattle.tp_model.specs.PoolStops.{Event, GivenBy, keeps}
@@ -18,16 +17,16 @@ use Rattle.tp_model.proofs.DiskStopLaws.{joins, weakens}
 use Rattle.tp_model.proofs.Holds.{Makes-FindsHeld}
 use Rattle.tp_model.proofs.Shape.{Step-IsSound}
 use Rattle.tp_model.proofs.Steps.{step_accepted}
-use Rattle.tp_sharing.specs.Volumes.{device_of}
+use Rattle.tp_sharing.specs.Volumes.{device_of, devices_in}
 use Rattle.tp_mapping.specs.Mapping.{IsWithin, free_places}
 use Rattle.tp_stored.specs.Contents.{Contents, HasContents, IsStill, SameData}
 use Rattle.tp_shown.proofs.Made.{create_makes, snapshot_makes}
 use Rattle.tp_shown.proofs.Tests.{count_is_listed, exists_is_listed}
 use Rattle.tp_meta.specs.Metadata.{IsChanging, IsLater, Ran}
-use Rattle.tp_pool.specs.Held.{Held, HasPool, LacksRoom, PoolCalled, PoolRefused, PoolTried, UsesAtMost, failed_by, shows}
-use Rattle.tp_pool.specs.Messages.{RefusesNew, TestedSo, blocks_of_new, create_call, misses_origin, new_tests, with_new, with_volume}
+use Rattle.tp_pool.specs.Held.{Held, HasPool, LacksRoom, PoolCalled, PoolRefused, PoolTried, UsesWhere, failed_by, shows}
+use Rattle.tp_pool.specs.Messages.{CountsBlocks, RefusesNew, TestedSo, blocks_of_new, create_call, misses_origin, new_tests, with_new, with_volume}
 use Rattle.tp_pool.specs.Writing.{IsAsBefore, IsHalf, IsKept, IsReclaiming, LacksMetadata}
-use Rattle.tp_pool.proofs.Behind.{CountedLaw, Over, kept_behind, uses_behind}
+use Rattle.tp_pool.proofs.Behind.{CountedLaw, Over, kept_behind, uses_where}
 use Rattle.tp_pool.proofs.Calling.{Laws, called_working, met_fault}
 use Rattle.tp_pool.proofs.Create.{create_verdict, lacks_origin, no_room_is, three_pass, passes_room, room_is, tests_are, verdict_first}
 use Rattle.tp_pool.proofs.Halves.{half_changing}
@@ -54,7 +53,6 @@ pub record IsCreation (call : Call) : Type 0 where
   pub there : keeps call (Refused Exists) ≡ false
   pub many : keeps call (Refused TooManyDevices) ≡ false
   pub outline : KeepsOutline call
-  pub allowed : (s : PlainPool) → IsAllowed s call
 
 pub is_creation : (id : ℕ) (origin : Option ℕ) → IsCreation (create_call id origin)
 is_creation id None = record {
@@ -69,7 +67,6 @@ is_creation id None = record {
   there = refl;
   many = refl;
   outline = λ s q makes. (ap (λ (p : PlainPool). p.geometry) makes, ap (λ (p : PlainPool). p.holds) makes);
-  allowed = λ s. tt;
 }
 is_creation id (Some origin) = record {
   writes = refl;
@@ -83,8 +80,15 @@ is_creation id (Some origin) = record {
   there = refl;
   many = refl;
   outline = λ s q makes. (ap (λ (p : PlainPool). p.geometry) makes, ap (λ (p : PlainPool). p.holds) makes);
-  allowed = λ s. tt;
 }
+
+-- the ids of the volumes that it names are of 24 bits
+abbrev pub AreLow : ℕ → Option ℕ → Type 0
+AreLow id origin = (id < 2 ^ 24) × IfSome origin (λ other. other < 2 ^ 24)
+
+is_allowed : (s : PlainPool) (id : ℕ) (origin : Option ℕ) → id < 2 ^ 24 → IsAllowed s (create_call id origin)
+is_allowed s id None low = lt-ltb id (2 ^ 24) low
+is_allowed s id (Some origin) low = lt-ltb id (2 ^ 24) low
 
 makes_it : (s : PlainPool) (id : ℕ) (origin : Option ℕ) (meta_used : ℕ) → Makes s (create_call id origin) (with_volume s id origin meta_used)
 makes_it s id None meta_used = refl
@@ -107,7 +111,7 @@ volume_shown g c image s limits within has id (Some origin) meta_used absent the
 record IsCreatable (g : Geometry) (id : ℕ) (origin : Option ℕ) (now : Contents) : Type 0 where
   pub there : misses_origin origin now ≡ false
   pub absent : device_of id now.volumes ≡ None
-  pub few : length now.volumes < 65536
+  pub few : devices_in now.volumes < 65536
   pub enough : LacksMetadata g now → ⊥
 
 none_from : {A : Type 0} (o : Option A) → is_some o ≡ false → o ≡ None
@@ -120,11 +124,11 @@ fewer n e = elim (cases_lt n 65536) [ inl lt ↦ lt | inr ge ↦ absurd (true≢
 creatable : (g : Geometry) (id : ℕ) (origin : Option ℕ) (now : Contents) (lacks : Bool) → new_tests id origin now ≡ None
     → IsTrue lacks ↔ LacksMetadata g now → lacks ≡ false → IsCreatable g id origin now
 creatable g id origin now lacks passed tested passes =
-    let p = three_pass (misses_origin origin now) (is_some (device_of id now.volumes)) (nat_le 65536 (length now.volumes)) passed in
+    let p = three_pass (misses_origin origin now) (is_some (device_of id now.volumes)) (nat_le 65536 (devices_in now.volumes)) passed in
     record {
       there = p.0;
       absent = none_from (device_of id now.volumes) p.1;
-      few = fewer (length now.volumes) p.2;
+      few = fewer (devices_in now.volumes) p.2;
       enough = passes_room g now lacks tested passes;
     }
 
@@ -133,11 +137,13 @@ module _ {M : Type 0} (stands : M → DiskState → Contents → Contents → Ty
   pub record IsReady (start old : Held M) : Type 0 where
     pub same : old ≡ start
     pub works : old.mode ≡ mode.Writable
+    pub low : AreLow id origin
     pub passed : (now kept : Contents) → stands old.metadata old.disk now kept → new_tests id origin now ≡ None
 
-  pub ready : (start was : Held M) → was ≡ start → is_failed start.mode ≡ false → is_read_only start.mode ≡ false
+  pub ready : (start was : Held M) → was ≡ start → is_failed start.mode ≡ false → is_read_only start.mode ≡ false → AreLow id origin
       → ((now kept : Contents) → stands start.metadata start.disk now kept → new_tests id origin now ≡ None) → IsReady start was
-  ready start was view works writes told = record {
+  ready start was view works writes low told = record {
+    low = low;
     same = view;
     works = ap (λ (h : Held M). h.mode) view ∙ writable_is start.mode works writes;
     passed = subst (λ (h : Held M). (now kept : Contents) → stands h.metadata h.disk now kept → new_tests id origin now ≡ None) (sym view) told;
@@ -146,56 +152,57 @@ module _ {M : Type 0} (stands : M → DiskState → Contents → Contents → Ty
 -- a test that reads refuses it, or the disk failed in one
 module _ {M : Type 0} {geometry : M → Geometry} {stands : M → DiskState → Contents → Contents → Type 0} {marks : M → List Bool} {room : M → ℕ}
     (laws : Laws geometry stands marks room) (id : ℕ) (origin : Option ℕ) where
-  verdict_is : (h : Held M) → is_failed h.mode ≡ false → is_read_only h.mode ≡ false → (s : PlainPool) (now kept : Contents) → HasPool geometry stands h now kept s
+  verdict_is : (h : Held M) → AreLow id origin → is_failed h.mode ≡ false → is_read_only h.mode ≡ false → (s : PlainPool) (now kept : Contents) → HasPool geometry stands h now kept s
       → (short : Bool) → not (has_metadata_room s 512) ≡ short
       → refusal_of s (create_call id origin)
-      ≡ create_verdict false false (misses_origin origin now) (is_some (device_of id now.volumes)) (nat_le 65536 (length now.volumes)) short
-  verdict_is h works writes s now kept pool short e =
+      ≡ create_verdict false false (misses_origin origin now) (is_some (device_of id now.volumes)) (nat_le 65536 (devices_in now.volumes)) short
+  verdict_is h low works writes s now kept pool short e =
       let g = geometry h.metadata in
       let image = seen h.disk.cells in
       let within = laws.within h.metadata h.disk now kept pool.standing in
-      tests_are s id origin false false (misses_origin origin now) (is_some (device_of id now.volumes)) (nat_le 65536 (length now.volumes)) short
-      (ap is_failed pool.mode_is ∙ works) (ap is_read_only pool.mode_is ∙ writes) (missing g now image s pool.has origin)
-      (exists_is_listed g now image s id pool.has) (ap (λ n. nat_le 65536 n) (count_is_listed g now image s within.volumes_now pool.has)) e
+      tests_are s id origin false false (misses_origin origin now) (is_some (device_of id now.volumes)) (nat_le 65536 (devices_in now.volumes)) short
+      (ap is_failed pool.mode_is ∙ works) (ap is_read_only pool.mode_is ∙ writes) (missing g now image s pool.has origin low.1)
+      (exists_is_listed g now image s id low.0 pool.has) (ap (λ n. nat_le 65536 n) (count_is_listed g now image s within.volumes_now pool.has)) e
     where
-      missing : (g : Geometry) (c : Contents) (image : List Sector) (p : PlainPool) → HasContents g c image p → (o : Option ℕ) → lacks_origin p o ≡ misses_origin o c
-      missing g c image p has None = refl
-      missing g c image p has (Some other) = ap not (exists_is_listed g c image p other has)
+      missing : (g : Geometry) (c : Contents) (image : List Sector) (p : PlainPool) → HasContents g c image p → (o : Option ℕ) → IfSome o (λ other. other < 2 ^ 24)
+          → lacks_origin p o ≡ misses_origin o c
+      missing g c image p has None small = refl
+      missing g c image p has (Some other) small = ap not (exists_is_listed g c image p other small has)
 
-  tested : (h : Held M) (reason : Refusal) → is_failed h.mode ≡ false → is_read_only h.mode ≡ false
+  tested : (h : Held M) (reason : Refusal) → AreLow id origin → is_failed h.mode ≡ false → is_read_only h.mode ≡ false
       → ((now kept : Contents) → stands h.metadata h.disk now kept → new_tests id origin now ≡ Some reason)
       → (s : PlainPool) (now kept : Contents) → HasPool geometry stands h now kept s → refusal_of s (create_call id origin) ≡ Some reason
-  tested h reason works writes told s now kept pool =
+  tested h reason low works writes told s now kept pool =
       let short = not (has_metadata_room s 512) in
-      verdict_is h works writes s now kept pool short refl
-      ∙ verdict_first (misses_origin origin now) (is_some (device_of id now.volumes)) (nat_le 65536 (length now.volumes)) short reason (told now kept pool.standing)
+      verdict_is h low works writes s now kept pool short refl
+      ∙ verdict_first (misses_origin origin now) (is_some (device_of id now.volumes)) (nat_le 65536 (devices_in now.volumes)) short reason (told now kept pool.standing)
 
   pub create_read_only_called : (h : Held M) → is_failed h.mode ≡ false → is_read_only h.mode ≡ true → PoolCalled geometry stands h h (create_call id origin) (Refused ReadOnly)
   create_read_only_called h works reads =
       called_tested laws h (create_call id origin) ReadOnly works refl (λ s. refl) (is_creation id origin).read_only (λ s now kept pool.
-      tests_are s id origin false true (lacks_origin s origin) (exists s id) (nat_le 65536 (len s.volumes)) (not (has_metadata_room s 512))
+      tests_are s id origin false true (lacks_origin s origin) (exists s id) (nat_le 65536 (device_count s)) (not (has_metadata_room s 512))
       (ap is_failed pool.mode_is ∙ works) (ap is_read_only pool.mode_is ∙ reads) refl refl refl refl)
 
-  pub create_tested : (h : Held M) (x : Refusal) → is_failed h.mode ≡ false → is_read_only h.mode ≡ false
+  pub create_tested : (h : Held M) (x : Refusal) → AreLow id origin → is_failed h.mode ≡ false → is_read_only h.mode ≡ false
       → ((now kept : Contents) → stands h.metadata h.disk now kept → TestedSo (Err x) (new_tests id origin now))
       → (x ≡ Damaged → (now kept : Contents) → stands h.metadata h.disk now kept → ⊥) → RefusesNew origin x
       → PoolRefused geometry stands h (failed_by x (record h { disk = after_read (not (is_fault_refusal x)) h.disk })) (create_call id origin) x
-  create_tested h x works writes told never (inl e) =
+  create_tested h x low works writes told never (inl e) =
       let is = is_creation id origin in write_refused laws h (create_call id origin) x works is.writes is.fault is.outline (inl e) never
-  create_tested h x works writes told never (inr (inl e)) =
+  create_tested h x low works writes told never (inr (inl e)) =
       let is = is_creation id origin in write_refused laws h (create_call id origin) x works is.writes is.fault is.outline (inr e) never
-  create_tested h x works writes told never (inr (inr (inl e))) =
+  create_tested h x low works writes told never (inr (inr (inl e))) =
       subst (λ (r : Refusal). PoolRefused geometry stands h (failed_by r (record h { disk = after_read (not (is_fault_refusal r)) h.disk })) (create_call id origin) r) (sym e)
       (called_tested laws h (create_call id origin) Exists works refl (λ s. refl) (is_creation id origin).there
-      (tested h Exists works writes (λ now kept st. subst (λ (r : Refusal). TestedSo (Err r) (new_tests id origin now)) e (told now kept st) refl)))
-  create_tested h x works writes told never (inr (inr (inr (inl e)))) =
+      (tested h Exists low works writes (λ now kept st. subst (λ (r : Refusal). TestedSo (Err r) (new_tests id origin now)) e (told now kept st) refl)))
+  create_tested h x low works writes told never (inr (inr (inr (inl e)))) =
       subst (λ (r : Refusal). PoolRefused geometry stands h (failed_by r (record h { disk = after_read (not (is_fault_refusal r)) h.disk })) (create_call id origin) r) (sym e)
       (called_tested laws h (create_call id origin) TooManyDevices works refl (λ s. refl) (is_creation id origin).many
-      (tested h TooManyDevices works writes (λ now kept st. subst (λ (r : Refusal). TestedSo (Err r) (new_tests id origin now)) e (told now kept st) refl)))
-  create_tested h x works writes told never (inr (inr (inr (inr e)))) =
+      (tested h TooManyDevices low works writes (λ now kept st. subst (λ (r : Refusal). TestedSo (Err r) (new_tests id origin now)) e (told now kept st) refl)))
+  create_tested h x low works writes told never (inr (inr (inr (inr e)))) =
       subst (λ (r : Refusal). PoolRefused geometry stands h (failed_by r (record h { disk = after_read (not (is_fault_refusal r)) h.disk })) (create_call id origin) r) (sym e.0)
       (called_tested laws h (create_call id origin) NoSuchDevice works refl (λ s. refl) (is_creation id origin).missed
-      (tested h NoSuchDevice works writes (λ now kept st. subst (λ (r : Refusal). TestedSo (Err r) (new_tests id origin now)) e.0 (told now kept st) refl)))
+      (tested h NoSuchDevice low works writes (λ now kept st. subst (λ (r : Refusal). TestedSo (Err r) (new_tests id origin now)) e.0 (told now kept st) refl)))
 
 module _ {M : Type 0} {geometry : M → Geometry} {stands : M → DiskState → Contents → Contents → Type 0} {marks : M → List Bool} {room : M → ℕ}
     (laws : Laws geometry stands marks room) (id : ℕ) (origin : Option ℕ) (start old : Held M) (ready_is : IsReady stands id origin start old) where
@@ -220,8 +227,8 @@ module _ {M : Type 0} {geometry : M → Geometry} {stands : M → DiskState → 
 
     refusal_is : (short : Bool) → not (has_metadata_room s 512) ≡ short → refusal_of s call ≡ create_verdict false false false false false short
     refusal_is short e =
-        let p = three_pass (misses_origin origin now) (is_some (device_of id now.volumes)) (nat_le 65536 (length now.volumes)) passed_now in
-        verdict_is laws id origin old (ap is_failed works) (ap is_read_only works) s now kept pool short e
+        let p = three_pass (misses_origin origin now) (is_some (device_of id now.volumes)) (nat_le 65536 (devices_in now.volumes)) passed_now in
+        verdict_is laws id origin old ready_is.low (ap is_failed works) (ap is_read_only works) s now kept pool short e
         ∙ (λ i. create_verdict false false (p.0 i) (p.1 i) (p.2 i) short)
 
     accepts : IsCreatable g id origin now → refusal_of s call ≡ None
@@ -253,7 +260,7 @@ module _ {M : Type 0} {geometry : M → Geometry} {stands : M → DiskState → 
       works = pool.works;
       check = pool.check;
       settled = λ read_only. absurd (not_read_only old.mode works read_only);
-      sound = Step-IsSound s call (reply s call) (with_volume s id origin meta_used) (is.allowed s) pool.sound
+      sound = Step-IsSound s call (reply s call) (with_volume s id origin meta_used) (is_allowed s id origin ready_is.low.0) pool.sound
           (step_accepted s call (with_volume s id origin meta_used) accepted (makes_it s id origin meta_used));
       found = Makes-FindsHeld s call (with_volume s id origin meta_used) accepted (makes_it s id origin meta_used) pool.found;
       known = known_after g (geometry metadata) old.holders s call (with_volume s id origin meta_used) same accepted (makes_it s id origin meta_used) refl pool.found pool.known;
@@ -302,7 +309,7 @@ module _ {M : Type 0} {geometry : M → Geometry} {stands : M → DiskState → 
         (second_phase_kept g Flush 0 [] now kept old.disk d last is_kept.left (half now now is_kept.standing))
 
     module _ (metadata : M)
-        (added : (now kept : Contents) → stands mid d now kept → device_of id now.volumes ≡ None → length now.volumes < 65536
+        (added : (now kept : Contents) → stands mid d now kept → device_of id now.volumes ≡ None → devices_in now.volumes < 65536
         → misses_origin origin now ≡ false → ((meta_used : ℕ) × stands metadata last (with_new now id origin meta_used) kept) × (marks metadata ≡ marks mid)) where
       has_new : (s : PlainPool) (now before : Contents) (meta_used : ℕ) → IsWithin g now.volumes → device_of id now.volumes ≡ None → misses_origin origin now ≡ false
           → stands mid d now before → HasContents g now (seen d.cells) s
@@ -440,7 +447,7 @@ module _ {M : Type 0} {geometry : M → Geometry} {stands : M → DiskState → 
 
         -- it failed
         pub create_failed : {r t : ℕ} (reason : Refusal) → Ran 64 (is_fault_refusal reason) r t (geometry mid) (geometry metadata) d last
-            → (reason ≡ Damaged → (now kept : Contents) → stands mid d now kept → device_of id now.volumes ≡ None → length now.volumes < 65536 → misses_origin origin now ≡ false → ⊥)
+            → (reason ≡ Damaged → (now kept : Contents) → stands mid d now kept → device_of id now.volumes ≡ None → devices_in now.volumes < 65536 → misses_origin origin now ≡ false → ⊥)
             → (reason ≡ Fault) ⊎ (reason ≡ Damaged)
             → PoolRefused geometry stands start (failed_by reason (record old { disk = last; metadata = metadata })) call reason
         create_failed reason ran never only =
@@ -454,7 +461,7 @@ module _ {M : Type 0} {geometry : M → Geometry} {stands : M → DiskState → 
 
         -- it was done, and then kept
         module _ (ran : Ran 64 false (room mid) (room metadata) (geometry mid) (geometry metadata) d last) (enough : 512 ≤ room mid)
-            (added : (now kept : Contents) → stands mid d now kept → device_of id now.volumes ≡ None → length now.volumes < 65536
+            (added : (now kept : Contents) → stands mid d now kept → device_of id now.volumes ≡ None → devices_in now.volumes < 65536
             → misses_origin origin now ≡ false → ((meta_used : ℕ) × stands metadata last (with_new now id origin meta_used) kept) × (marks metadata ≡ marks mid)) where
           still_enough : 128 ≤ room metadata
           still_enough = omega (arith, enough, ran.room)
@@ -488,22 +495,22 @@ module _ {M : Type 0} {geometry : M → Geometry} {stands : M → DiskState → 
 
           -- as many more metadata blocks are in use behind it as a new volume takes
           pub create_uses : CountedLaw stands
-              → ((now kept next before : Contents) → stands mid d now kept → stands metadata last next before → device_of id now.volumes ≡ None → length now.volumes < 65536
-              → misses_origin origin now ≡ false → next.meta_used ≤ now.meta_used + blocks_of_new origin)
+              → ((now kept next before : Contents) → stands mid d now kept → stands metadata last next before → device_of id now.volumes ≡ None → devices_in now.volumes < 65536
+              → misses_origin origin now ≡ false → CountsBlocks origin now.held_root → next.meta_used ≤ now.meta_used + blocks_of_new origin)
               → (end_metadata : M) (end : DiskState) (result : Result (Unit {0}) Refusal)
               → OnOk result ((now kept : Contents) → stands metadata last now kept → now.meta_used + 128 ≤ (geometry metadata).metadata_blocks
               → IsKept geometry stands marks metadata end_metadata last end now
               × (room end_metadata + now.meta_used ≡ (geometry metadata).metadata_blocks))
-              → OnOk result (UsesAtMost geometry stands start (record old { disk = end; metadata = end_metadata }) (blocks_of_new origin))
+              → OnOk result (UsesWhere geometry stands (CountsBlocks origin) start (record old { disk = end; metadata = end_metadata }) (blocks_of_new origin))
           create_uses counted more end_metadata end (Ok x) is_kept =
               let new : Held M = record old { disk = end; metadata = end_metadata } in
-              subst (λ (h : Held M). UsesAtMost geometry stands h new (blocks_of_new origin)) ready_is.same
-              (uses_behind geometry stands counted old new (blocks_of_new origin) (ap is_failed works) (ap is_failed works) (λ s now kept pool.
+              subst (λ (h : Held M). UsesWhere geometry stands (CountsBlocks origin) h new (blocks_of_new origin)) ready_is.same
+              (uses_where geometry stands counted (CountsBlocks origin) old new (blocks_of_new origin) (ap is_failed works) (ap is_failed works) (λ s now kept pool counts.
               let w = over s now kept pool in
               let m = stood_or_kept now kept pool.standing in
               let p = passed now kept pool.standing in
               let k = (is_kept w.then w.before w.shown.standing w.shown.spare).0 in
-              (w.then, w.then, k.standing, more now m.0 w.then w.before m.1 w.shown.standing p.absent p.few p.there)))
+              (w.then, w.then, k.standing, more now m.0 w.then w.before m.1 w.shown.standing p.absent p.few p.there counts)))
           create_uses counted more end_metadata end (Err reason) is_kept = tt
 
           pub create_then_kept : (end_metadata : M) (end : DiskState) → geometry end_metadata ≡ geometry metadata → IsLater last end

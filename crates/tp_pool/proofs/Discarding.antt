@@ -109,7 +109,7 @@ module _ {M : Type 0} {geometry : M → Geometry} {stands : M → DiskState → 
     inside = λ size e.
         let device = there now kept pool.standing in
         let is = same_Some size (own_sectors g now.volumes id) (sym e ∙ size_is g now (seen old.disk.cells) s pool.has id device) in
-        omega (arith, is, lies now kept s pool device);
+        omega (arith, is, lies.1 now kept s pool device);
     most = most;
   }
 
@@ -117,7 +117,7 @@ module _ {M : Type 0} {geometry : M → Geometry} {stands : M → DiskState → 
       → refusal_of s call ≡ write_tests false true false some enough true
   tests some enough more s now kept pool room_is =
       trim_tests_are s id sector count fua false true false some enough (ap is_failed (pool.mode_is ∙ works))
-      (exists_is_listed g now (seen old.disk.cells) s id pool.has ∙ is_some_from (device_of id now.volumes) (there now kept pool.standing))
+      (exists_is_listed g now (seen old.disk.cells) s id lies.0 pool.has ∙ is_some_from (device_of id now.volumes) (there now kept pool.standing))
       (ap is_read_only (pool.mode_is ∙ works)) more room_is
 
   -- what a range of no sectors makes of a pool

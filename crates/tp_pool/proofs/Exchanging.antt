@@ -45,6 +45,7 @@ exchanged g c image p next has = record {
   transaction_id = refl;
   needs_check = has.needs_check;
   meta_used = has.meta_used;
+  held_root = has.held_root;
   sizes = has.sizes;
   slots = has.slots;
   sectors = record { mapped = has.sectors.mapped; unmapped = has.sectors.unmapped };

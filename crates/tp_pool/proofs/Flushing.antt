@@ -150,6 +150,16 @@ module _ {M : Type 0} (geometry : M → Geometry) (stands : M → DiskState → 
         within_two new.flushes old.disk.flushes (commits s call) (commits_at_end s call (accepted s shown) ends (works_in old s works shown)) some.1;
   }
 
+  -- it was refused for want of metadata room, which a commit keeps, and ends in one else
+  pub counted_refused : (old : Held M) (call : Call) → old.mode ≡ mode.Writable → ends_in_commit call ≡ true → ((s : PlainPool) → Shown old s → refusal_of s call ≡ Some NoMetadataSpace)
+      → (new : DiskState) → (old.disk.flushes ≤ new.flushes) × (new.flushes ≤ old.disk.flushes + 2) → Counted old new call
+  counted_refused old call works ends refused new some = record {
+    no_fewer = some.0;
+    most = subst (λ (m : Mode). new.flushes ≤ old.disk.flushes + most_flushes m call) (sym works)
+        (within_last new.flushes old.disk.flushes (if may_reclaim call then 2 else 0) (ends_in_commit call) ends some.1);
+    few = λ s shown enough. within_two new.flushes old.disk.flushes (commits s call) (commits_by s call (Some NoMetadataSpace) (refused s shown)) some.1;
+  }
+
   module _ (old : Held M) (call : Call) (works : old.mode ≡ mode.Writable) (reclaims : may_reclaim call ≡ true) where
     most_before : (n : ℕ) → n ≤ old.disk.flushes + 2 → n ≤ old.disk.flushes + most_flushes old.mode call
     most_before n le =

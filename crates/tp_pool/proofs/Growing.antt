@@ -34,12 +34,12 @@ use Rattle.tp_shown.proofs.Tests.{exists_is_listed}
 use Rattle.tp_meta.specs.Metadata.{IsAltered, IsChanging, IsLater, Ran, StandsWith}
 use Rattle.tp_holders.specs.Holders.{Holding, holds_of}
 use Rattle.tp_pool.specs.Flushes.{HasFlushed, Lacks}
-use Rattle.tp_pool.specs.Held.{Held, HasPool, LacksRoom, PoolCalled, PoolRefused, PoolTried, UsesAtMost, failed_by, shows}
+use Rattle.tp_pool.specs.Held.{Held, HasPool, LacksRoom, PoolCalled, PoolRefused, PoolTried, UsesUnheld, failed_by, shows}
 use Rattle.tp_pool.specs.Messages.{HasBlocks, RefusesGrown, SizedSo, grown_tests, is_bad_size, size_verdict, with_blocks, with_grown}
 use Rattle.tp_pool.specs.Shown.{told_within}
 use Rattle.tp_pool.specs.Writing.{IsAsBefore, IsHalf, IsKept, IsReclaiming, LacksMetadata}
 use Rattle.tp_pool.proofs.Altering.{HasMade, IsAlteration, alter_accepts, alter_failed, alter_then_kept, alter_unreclaimed, stood_or_kept}
-use Rattle.tp_pool.proofs.Behind.{CountedLaw, uses_behind}
+use Rattle.tp_pool.proofs.Behind.{CountedLaw, uses_where}
 use Rattle.tp_pool.proofs.Calling.{Laws}
 use Rattle.tp_pool.proofs.Create.{no_room_is, passes_room, room_is}
 use Rattle.tp_pool.proofs.Flushing.{counted_before, counted_behind, counted_short}
@@ -210,22 +210,22 @@ module _ {M : Type 0} {geometry : M → Geometry} {stands : M → DiskState → 
           plain_are g id (told_blocks g size) now has (seen h.disk.cells) s (laws.within h.metadata h.disk now kept pool.standing).limits pool.has
           ∙ sym (own_are g id (told_blocks g size) now has)
 
-  refusal_by : (h : Held M) → is_failed h.mode ≡ false → is_read_only h.mode ≡ false → (s : PlainPool) (now kept : Contents) → HasPool geometry stands h now kept s → (short : Bool)
+  refusal_by : (h : Held M) → id < 2 ^ 24 → is_failed h.mode ≡ false → is_read_only h.mode ≡ false → (s : PlainPool) (now kept : Contents) → HasPool geometry stands h now kept s → (short : Bool)
       → not (has_metadata_room s 512) ≡ short
       → refusal_of s (Grow id blocks)
       ≡ grow_verdict false false (not (is_some (device_of id now.volumes))) (nat_lt 0 (hold_count (holds_of h.holders) id)) (is_bad_size (volume_blocks s id) blocks) short
-  refusal_by h works writes s now kept pool short e =
+  refusal_by h low works writes s now kept pool short e =
       growth_tests s id blocks false false (not (is_some (device_of id now.volumes))) (nat_lt 0 (hold_count (holds_of h.holders) id)) (is_bad_size (volume_blocks s id) blocks) short
-      (ap is_failed pool.mode_is ∙ works) (ap is_read_only pool.mode_is ∙ writes) (ap not (exists_is_listed (geometry h.metadata) now (seen h.disk.cells) s id pool.has))
+      (ap is_failed pool.mode_is ∙ works) (ap is_read_only pool.mode_is ∙ writes) (ap not (exists_is_listed (geometry h.metadata) now (seen h.disk.cells) s id low pool.has))
       (ap (λ m. nat_lt 0 (hold_count m id)) pool.holds) refl e
 
-  tested : (h : Held M) (reason : Refusal) → is_failed h.mode ≡ false → is_read_only h.mode ≡ false
+  tested : (h : Held M) (reason : Refusal) → id < 2 ^ 24 → is_failed h.mode ≡ false → is_read_only h.mode ≡ false
       → ((now kept : Contents) → stands h.metadata h.disk now kept → Tests h now ≡ Some reason)
       → (s : PlainPool) (now kept : Contents) → HasPool geometry stands h now kept s → refusal_of s (Grow id blocks) ≡ Some reason
-  tested h reason works writes told s now kept pool =
+  tested h reason low works writes told s now kept pool =
       let g = geometry h.metadata in
       let short = not (has_metadata_room s 512) in
-      refusal_by h works writes s now kept pool short refl
+      refusal_by h low works writes s now kept pool short refl
       ∙ verdict_first (not (is_some (device_of id now.volumes))) (nat_lt 0 (hold_count (holds_of h.holders) id)) (is_bad_size (own_blocks g now.volumes id) blocks) (is_bad_size (volume_blocks s id) blocks) short reason
       (λ there. ap (λ n. is_bad_size n blocks) (size_is_told h s now kept pool there)) (told now kept pool.standing)
 
@@ -236,24 +236,24 @@ module _ {M : Type 0} {geometry : M → Geometry} {stands : M → DiskState → 
       (ap is_failed pool.mode_is ∙ works) (ap is_read_only pool.mode_is ∙ reads) refl refl refl refl)
 
   -- a test that reads refuses it, or the disk failed in one
-  pub grow_tested : (h : Held M) (x : Refusal) → is_failed h.mode ≡ false → is_read_only h.mode ≡ false
+  pub grow_tested : (h : Held M) (x : Refusal) → id < 2 ^ 24 → is_failed h.mode ≡ false → is_read_only h.mode ≡ false
       → ((now kept : Contents) → stands h.metadata h.disk now kept → is_failure x ≡ false → Tests h now ≡ Some x)
       → (x ≡ Damaged → (now kept : Contents) → stands h.metadata h.disk now kept → ⊥) → RefusesGrown x
       → PoolRefused geometry stands h (failed_by x (record h { disk = after_read (not (is_fault_refusal x)) h.disk })) (Grow id blocks) x
-  grow_tested h x works writes told never (inl e) = write_refused laws h (Grow id blocks) x works refl refl (grow_alters id blocks).outline (inl e) never
-  grow_tested h x works writes told never (inr (inl e)) = write_refused laws h (Grow id blocks) x works refl refl (grow_alters id blocks).outline (inr e) never
-  grow_tested h x works writes told never (inr (inr (inl e))) =
+  grow_tested h x low works writes told never (inl e) = write_refused laws h (Grow id blocks) x works refl refl (grow_alters id blocks).outline (inl e) never
+  grow_tested h x low works writes told never (inr (inl e)) = write_refused laws h (Grow id blocks) x works refl refl (grow_alters id blocks).outline (inr e) never
+  grow_tested h x low works writes told never (inr (inr (inl e))) =
       subst (λ (r : Refusal). PoolRefused geometry stands h (failed_by r (record h { disk = after_read (not (is_fault_refusal r)) h.disk })) (Grow id blocks) r) (sym e)
       (called_tested laws h (Grow id blocks) NoSuchDevice works refl (λ s. refl) refl
-      (tested h NoSuchDevice works writes (λ now kept st. subst (λ (r : Refusal). is_failure r ≡ false → Tests h now ≡ Some r) e (told now kept st) refl)))
-  grow_tested h x works writes told never (inr (inr (inr (inl e)))) =
+      (tested h NoSuchDevice low works writes (λ now kept st. subst (λ (r : Refusal). is_failure r ≡ false → Tests h now ≡ Some r) e (told now kept st) refl)))
+  grow_tested h x low works writes told never (inr (inr (inr (inl e)))) =
       subst (λ (r : Refusal). PoolRefused geometry stands h (failed_by r (record h { disk = after_read (not (is_fault_refusal r)) h.disk })) (Grow id blocks) r) (sym e)
       (called_tested laws h (Grow id blocks) Busy works refl (λ s. refl) refl
-      (tested h Busy works writes (λ now kept st. subst (λ (r : Refusal). is_failure r ≡ false → Tests h now ≡ Some r) e (told now kept st) refl)))
-  grow_tested h x works writes told never (inr (inr (inr (inr e)))) =
+      (tested h Busy low works writes (λ now kept st. subst (λ (r : Refusal). is_failure r ≡ false → Tests h now ≡ Some r) e (told now kept st) refl)))
+  grow_tested h x low works writes told never (inr (inr (inr (inr e)))) =
       subst (λ (r : Refusal). PoolRefused geometry stands h (failed_by r (record h { disk = after_read (not (is_fault_refusal r)) h.disk })) (Grow id blocks) r) (sym e)
       (called_tested laws h (Grow id blocks) BadSize works refl (λ s. refl) refl
-      (tested h BadSize works writes (λ now kept st. subst (λ (r : Refusal). is_failure r ≡ false → Tests h now ≡ Some r) e (told now kept st) refl)))
+      (tested h BadSize low works writes (λ now kept st. subst (λ (r : Refusal). is_failure r ≡ false → Tests h now ≡ Some r) e (told now kept st) refl)))
 
 -- ---- what changes the metadata
 
@@ -365,14 +365,15 @@ module _ {M : Type 0} {geometry : M → Geometry} {stands : M → DiskState → 
   abbrev Used : Type 0
   Used = (now kept next before : Contents) → stands mid d now kept → stands metadata last next before → IsSome (device_of id now.volumes)
       → IsToldSize (geometry mid) (size_for (geometry mid) blocks) → ((size : ℕ) → size_of id now.volumes ≡ Some size → told_blocks (geometry mid) size ≤ blocks)
-      → next.meta_used ≤ now.meta_used + 1
+      → now.held_root ≡ 0 → next.meta_used ≤ now.meta_used + 1
 
   pub enlarge_used : CountedLaw stands → result ≡ Ok tt
       → ((blocks ≡ present → ⊥) → OnOk result ((now kept next before : Contents) → stands mid d now kept → stands metadata last next before → IsSome (device_of id now.volumes)
       → IsToldSize (geometry mid) (size_for (geometry mid) blocks) → ((size : ℕ) → size_of id now.volumes ≡ Some size → told_blocks (geometry mid) size ≤ blocks)
-      → next.meta_used ≤ now.meta_used + 1))
-      → (now kept next before : Contents) → stands mid d now kept → stands metadata last next before → HasBlocks (geometry mid) id present now → next.meta_used ≤ now.meta_used + 1
-  enlarge_used counted done used now kept next before st stood has = elim (cases_eq blocks present) [
+      → now.held_root ≡ 0 → next.meta_used ≤ now.meta_used + 1))
+      → (now kept next before : Contents) → stands mid d now kept → stands metadata last next before → HasBlocks (geometry mid) id present now → now.held_root ≡ 0
+      → next.meta_used ≤ now.meta_used + 1
+  enlarge_used counted done used now kept next before st stood has none = elim (cases_eq blocks present) [
     | inl e ↦
         let s = same e in
         let here = subst (λ (m : M). stands m d next before) s.1 (subst (λ (x : DiskState). stands metadata x next before) s.2 stood) in
@@ -380,7 +381,7 @@ module _ {M : Type 0} {geometry : M → Geometry} {stands : M → DiskState → 
         omega (arith, equal)
     | inr n ↦
         let m = told_may now kept st has in
-        where_ok Used result done (used n) now kept next before st stood m.0 m.1 m.2
+        where_ok Used result done (used n) now kept next before st stood m.0 m.1 m.2 none
   ]
 
 -- ---- behind the tests that read
@@ -390,13 +391,15 @@ module _ {M : Type 0} (geometry : M → Geometry) (stands : M → DiskState → 
   pub record IsGrowable (start old : Held M) : Type 0 where
     pub same : old ≡ start
     pub works : old.mode ≡ mode.Writable
+    pub low : id < 2 ^ 24
     pub passed : (now kept : Contents) → stands old.metadata old.disk now kept
         → (grown_tests (geometry old.metadata) id blocks old.holders now ≡ None) × HasBlocks (geometry old.metadata) id present now
 
-  pub growable : (start was : Held M) → was ≡ start → is_failed start.mode ≡ false → is_read_only start.mode ≡ false
+  pub growable : (start was : Held M) → was ≡ start → is_failed start.mode ≡ false → is_read_only start.mode ≡ false → id < 2 ^ 24
       → ((now kept : Contents) → stands start.metadata start.disk now kept → (grown_tests (geometry start.metadata) id blocks start.holders now ≡ None) × HasBlocks (geometry start.metadata) id present now)
       → IsGrowable start was
-  growable start was view works writes told = record {
+  growable start was view works writes low told = record {
+    low = low;
     same = view;
     works = ap (λ (h : Held M). h.mode) view ∙ writable_is start.mode works writes;
     passed = subst (λ (h : Held M). (now kept : Contents) → stands h.metadata h.disk now kept → (grown_tests (geometry h.metadata) id blocks h.holders now ≡ None) × HasBlocks (geometry h.metadata) id present now)
@@ -424,7 +427,7 @@ module _ {M : Type 0} {geometry : M → Geometry} {stands : M → DiskState → 
       let tests = (ready_is.passed now kept pool.standing).0 in
       let p = three_pass (not (is_some (device_of id now.volumes))) (nat_lt 0 (hold_count (holds_of old.holders) id)) (is_bad_size (own_blocks g now.volumes id) blocks) tests in
       let size : is_bad_size (volume_blocks s id) blocks ≡ false = ap (λ n. is_bad_size n blocks) (size_is_told laws id blocks old s now kept pool p.0) ∙ p.2 in
-      refusal_by laws id blocks old (ap is_failed works) (ap is_read_only works) s now kept pool short e
+      refusal_by laws id blocks old ready_is.low (ap is_failed works) (ap is_read_only works) s now kept pool short e
       ∙ (λ i. grow_verdict false false (p.0 i) (p.1 i) (size i) short)
 
   -- there is no metadata room for it
@@ -574,21 +577,21 @@ module _ {M : Type 0} {geometry : M → Geometry} {stands : M → DiskState → 
         pub grow_uses : CountedLaw stands
             → ((blocks ≡ present → ⊥) → OnOk result ((now kept next before : Contents) → stands mid d now kept → stands metadata last next before → IsSome (device_of id now.volumes)
             → IsToldSize (geometry mid) (size_for (geometry mid) blocks) → ((size : ℕ) → size_of id now.volumes ≡ Some size → told_blocks (geometry mid) size ≤ blocks)
-            → next.meta_used ≤ now.meta_used + 1))
+            → now.held_root ≡ 0 → next.meta_used ≤ now.meta_used + 1))
             → (end_metadata : M) (end : DiskState) (kept_so : Result (Unit {0}) Refusal)
             → OnOk kept_so ((now kept : Contents) → stands metadata last now kept → now.meta_used + 128 ≤ (geometry metadata).metadata_blocks
             → IsKept geometry stands marks metadata end_metadata last end now × (room end_metadata + now.meta_used ≡ (geometry metadata).metadata_blocks))
-            → OnOk kept_so (UsesAtMost geometry stands start (record old { disk = end; metadata = end_metadata }) 1)
+            → OnOk kept_so (UsesUnheld geometry stands start (record old { disk = end; metadata = end_metadata }) 1)
         grow_uses counted used end_metadata end (Ok x) is_kept =
             let new : Held M = record old { disk = end; metadata = end_metadata } in
-            subst (λ (h : Held M). UsesAtMost geometry stands h new 1) ready_is.same
-            (uses_behind geometry stands counted old new 1 (ap is_failed works) (ap is_failed works) (λ s now kept pool.
+            subst (λ (h : Held M). UsesUnheld geometry stands h new 1) ready_is.same
+            (uses_where geometry stands counted (λ root. root ≡ 0) old new 1 (ap is_failed works) (ap is_failed works) (λ s now kept pool none.
             let m = stood now kept pool.standing in
             let w = enlarged now m.0 kept pool.standing m.1 in
             let next : Contents = with_blocks (geometry mid) now id blocks w.meta_used in
             let r = (laws.within metadata last next m.0 w.standing).room in
             let k = (is_kept next m.0 w.standing (omega (arith, r, still_enough))).0 in
-            let few = enlarge_used laws id present blocks more most mid d metadata last result same_blocks altered counted is_done used now m.0 next m.0 m.1 w.standing (has_blocks now kept pool.standing) in
+            let few = enlarge_used laws id present blocks more most mid d metadata last result same_blocks altered counted is_done used now m.0 next m.0 m.1 w.standing (has_blocks now kept pool.standing) none in
             (next, next, k.standing, few)))
         grow_uses counted used end_metadata end (Err reason) is_kept = tt
 

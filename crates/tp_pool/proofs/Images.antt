@@ -24,7 +24,7 @@ pub contents_within : (g : Geometry) (c : Contents) (image : Image) → HoldsCon
 contents_within g c image holds =
     let volumes = ap (λ (k : Contents). k.volumes) holds.4 in
     subst (λ (k : Geometry). IsWithin k c.volumes) holds.3
-    (subst (λ (v : Volumes). IsWithin holds.0.geometry v) (sym volumes) (sound_within holds.0.geometry holds.0.root holds.1 holds.2.sound))
+    (subst (λ (v : Volumes). IsWithin holds.0.geometry v) (sym volumes) (sound_within holds.0.geometry holds.0.root holds.0.held_root holds.1 holds.2.sound))
 
 -- it stands for some pool
 pub pool_there : (image : Image) → IsSomePool image → (P : PlainPool) × StandsFor image P

@@ -54,3 +54,6 @@ mod Zeroed
 mod Cleared
 mod Zeroes
 pub mod Looking
+mod Snapping
+mod Reserving
+mod Copied

@@ -1,8 +1,8 @@
 -- The next volume in the order of the ids.
-use Rattle.std.proofs.Common.{◌≡◌, ◌⊎◌, inl, inr, ℕ, Bool, true, false, not, Option, None, Some, is_some, Result, Ok, Err, List, [], ◌∷◌, refl, sym, ◌∙◌, ap, subst}
-use Rattle.std.specs.Prelude.{IfErr, IfOk, IsTrue, MatchResult}
+use Rattle.std.proofs.Common.{◌≡◌, ◌⊎◌, inl, inr, ℕ, ◌^◌, ◌<◌, Bool, true, false, not, Option, None, Some, is_some, Result, Ok, Err, List, [], ◌∷◌, refl, sym, ◌∙◌, ap, subst}
+use Rattle.std.specs.Prelude.{IfErr, IfOk, IfSome, IsTrue, MatchResult, ◌&&◌}
 use Rattle.std.specs.FinMap.{entries, get}
-use Rattle.std.proofs.lemmas.Bool.{false≢true, true≢false}
+use Rattle.std.proofs.lemmas.Bool.{false≢true, lt-ltb, true≢false}
 use Rattle.tp_model.specs.declared.mode.Mode.{Mode}
 use Rattle.tp_model.specs.declared.mode.Mode.TheVariants as mode
 use Rattle.tp_model.specs.declared.refusal.Refusal.{Refusal}
@@ -36,18 +36,22 @@ some_here : {X : Type 0} (o : Option X) → is_some o ≡ true → (x : X) × (o
 some_here None e = absurd (false≢true e)
 some_here (Some x) e = (x, refl)
 
+-- of the ids of volumes, those are in the map that exist
+is_there : (s : PlainPool) (id : ℕ) → id < 2 ^ 24 → is_some (get s.volumes id) ≡ exists s id
+is_there s id low = sym (ap (λ (b : Bool). b && is_some (get s.volumes id)) (lt-ltb id (2 ^ 24) low))
+
 -- the first id of the plain pool is the next one of the lists
-first_is_next : (s : PlainPool) (volumes : Volumes) (from : ℕ) → ((id : ℕ) → exists s id ≡ is_some (device_of id volumes)) → (found : Option ℕ) → IsNext from volumes found
-    → first_from from (entries s.volumes) ≡ found
-first_is_next s volumes from same None next = first_none from s.volumes (λ id le. none_here (get s.volumes id) (same id ∙ ap (λ (o : Option _). is_some o) (next id le)))
-first_is_next s volumes from same (Some id) next =
-    let v = some_here (get s.volumes id) (same id ∙ is_some_from (device_of id volumes) next.1) in
-    first_some from id v.0 s.volumes next.0 v.1
-    (λ other w le is. next.2 other le (is_some_to (device_of other volumes) (sym (ap (λ (o : Option Volume). is_some o) is) ∙ same other)))
+first_is_next : (s : PlainPool) (volumes : Volumes) (from : ℕ) → ((id : ℕ) → id < 2 ^ 24 → is_some (get s.volumes id) ≡ is_some (device_of id volumes)) → (found : Option ℕ)
+    → IfSome found (λ id. id < 2 ^ 24) → IsNext from volumes found → first_from from (entries s.volumes) ≡ found
+first_is_next s volumes from same None small next = first_none from s.volumes (λ id le low. none_here (get s.volumes id) (same id low ∙ ap (λ (o : Option _). is_some o) (next id le low)))
+first_is_next s volumes from same (Some id) small next =
+    let v = some_here (get s.volumes id) (same id small ∙ is_some_from (device_of id volumes) next.1) in
+    first_some from id v.0 s.volumes next.0 small v.1
+    (λ other w le low is. next.2 other le (is_some_to (device_of other volumes) (sym (ap (λ (o : Option Volume). is_some o) is) ∙ same other low)))
 
 module _ {M : Type 0} {geometry : M → Geometry} {stands : M → DiskState → Contents → Contents → Type 0} {marks : M → List Bool} {room : M → ℕ} (laws : Laws geometry stands marks room) where
   pub next_by : (old : Held M) (disk : DiskState) (from : ℕ) (result : Result (Option ℕ) Refusal) → is_failed old.mode ≡ false → disk ≡ after_read (not (is_fault result)) old.disk
-      → IfOk result (λ found. (now kept : Contents) → stands old.metadata old.disk now kept → IsNext from now.volumes found)
+      → IfOk result (λ found. IfSome found (λ id. id < 2 ^ 24) × ((now kept : Contents) → stands old.metadata old.disk now kept → IsNext from now.volumes found))
       → (result ≡ Err Damaged → (now kept : Contents) → stands old.metadata old.disk now kept → ⊥) → IfErr result (λ refusal. (refusal ≡ Fault) ⊎ (refusal ≡ Damaged))
       → MatchResult result (λ found. PoolCalled geometry stands old (record old { disk = disk }) (NextId from) (Found found))
       (λ reason. PoolRefused geometry stands old (record old { disk = disk }) (NextId from) reason)
@@ -55,7 +59,8 @@ module _ {M : Type 0} {geometry : M → Geometry} {stands : M → DiskState → 
       subst (λ (d : DiskState). PoolCalled geometry stands old (record old { disk = d }) (NextId from) (Found found)) (sym state)
       (called_working laws old old (NextId from) (Found found) works (at_once old.disk) refl (λ s now kept pool.
       let works_s = works_is laws old s now kept works pool in
-      let is = first_is_next s now.volumes from (λ id. exists_is_listed (geometry old.metadata) now (seen old.disk.cells) s id pool.has) found (told now kept pool.standing) in
+      let there = λ (id : ℕ) (low : id < 2 ^ 24). is_there s id low ∙ exists_is_listed (geometry old.metadata) now (seen old.disk.cells) s id low pool.has in
+      let is = first_is_next s now.volumes from there found told.0 (told.1 now kept pool.standing) in
       subst (λ (a : Answer). Met laws old old s (NextId from) a) (ap (λ (o : Option ℕ). Found o) is)
       (met_answered laws old old s s (NextId from) (inl (now, kept, pool)) (λ i. first_failed ((works_s i, Failed) ∷ [])) refl (inl (now, kept, pool)) refl refl)))
   next_by old disk from (Err reason) works state told damaged only =

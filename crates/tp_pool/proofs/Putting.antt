@@ -84,14 +84,14 @@ module _ {M : Type 0} {geometry : M → Geometry} {stands : M → DiskState → 
   module _ (s : PlainPool) (now kept : Contents) (pool : HasPool geometry stands old now kept s) (device : IsSome (device_of id now.volumes)) where
     tests : (enough has_room : Bool) → has_metadata_room s 512 ≡ enough → has_data_room s call id ≡ has_room → refusal_of s call ≡ write_tests false true false true enough has_room
     tests enough has_room a b =
-        write_tests_are s id sector xs fua false true false true enough has_room (ap is_failed (pool.mode_is ∙ works)) (exists_is_listed g now (seen old.disk.cells) s id pool.has ∙ is_some_from (device_of id now.volumes) device)
+        write_tests_are s id sector xs fua false true false true enough has_room (ap is_failed (pool.mode_is ∙ works)) (exists_is_listed g now (seen old.disk.cells) s id lies.0 pool.has ∙ is_some_from (device_of id now.volumes) device)
         (ap is_read_only (pool.mode_is ∙ works)) (lt-ltb 0 (length xs) some) a b
 
     room_tested : nat_le (used_by s + need s call id) s.geometry.data_blocks ≡ nat_le (used now.volumes + blocks_wanted id now.volumes (first_block g sector) (blocks_touched g sector (length xs))) g.data_blocks
     room_tested =
         let within = laws.within old.metadata old.disk now kept pool.standing in
         let a = used_is_listed g now (seen old.disk.cells) s within.volumes_now pool.has in
-        let b = need_is_wanted g now (seen old.disk.cells) s within.limits within.volumes_now pool.has id sector xs fua device (lies now kept s pool device) in
+        let b = need_is_wanted g now (seen old.disk.cells) s within.limits within.volumes_now pool.has id sector xs fua device (lies.1 now kept s pool device) in
         (λ i. nat_le (a i + b i) (pool.has.geometry i).data_blocks)
 
     flip : (b t : Bool) → not b ≡ t → b ≡ not t
@@ -122,7 +122,7 @@ module _ {M : Type 0} {geometry : M → Geometry} {stands : M → DiskState → 
     allowed : AreValues xs → IsAllowed s call
     allowed values = (
       record {
-        inside = λ size e. let is = same_Some size (own_sectors g now.volumes id) (sym e ∙ size_is g now (seen old.disk.cells) s pool.has id device) in omega (arith, is, lies now kept s pool device);
+        inside = λ size e. let is = same_Some size (own_sectors g now.volumes id) (sym e ∙ size_is g now (seen old.disk.cells) s pool.has id device) in omega (arith, is, lies.1 now kept s pool device);
         most = values.0;
       },
       values.1,
@@ -153,7 +153,7 @@ module _ {M : Type 0} {geometry : M → Geometry} {stands : M → DiskState → 
       (passed : (now kept : Contents) → stands old.metadata old.disk now kept
       → (LacksMetadata g now → ⊥) × (used now.volumes + blocks_wanted id now.volumes (first_block g sector) (blocks_touched g sector (length xs)) ≤ g.data_blocks)) where
     reaches : (s : PlainPool) (now kept : Contents) → HasPool geometry stands old now kept s → Reaches g id (sector + length xs) now.volumes
-    reaches s now kept pool = let device = there now kept pool.standing in (device, lies now kept s pool device)
+    reaches s now kept pool = let device = there now kept pool.standing in (device, lies.1 now kept s pool device)
 
     accepted_by : (s : PlainPool) (now kept : Contents) → HasPool geometry stands old now kept s → refusal_of s call ≡ None
     accepted_by s now kept pool = let p = passed now kept pool.standing in accepts s now kept pool (there now kept pool.standing) p.0 p.1
@@ -287,7 +287,7 @@ module _ {M : Type 0} {geometry : M → Geometry} {stands : M → DiskState → 
 
   -- its sectors lie in the volume
   reached : (s : PlainPool) (now kept : Contents) → HasPool geometry stands old now kept s → Reaches (geometry old.metadata) id (sector + length xs) now.volumes
-  reached s now kept pool = let device = there now kept pool.standing in (device, lies now kept s pool device)
+  reached s now kept pool = let device = there now kept pool.standing in (device, lies.1 now kept s pool device)
 
   reach_of : (metadata : M) (now : Contents) → geometry metadata ≡ geometry old.metadata → Reaches (geometry old.metadata) id (sector + length xs) now.volumes → Reaches (geometry metadata) id (sector + length xs) now.volumes
   reach_of metadata now same reach = subst (λ (g : Geometry). Reaches g id (sector + length xs) now.volumes) (sym same) reach
@@ -553,13 +553,13 @@ module _ {M : Type 0} {geometry : M → Geometry} {stands : M → DiskState → 
       let device = there now kept pool.standing in
       let within = laws.within old.metadata old.disk now kept pool.standing in
       let v = volume_is g now (seen old.disk.cells) s pool.has id device in
-      let need_none : need s (Write id sector [] fua) id ≡ 0 = need_is_wanted g now (seen old.disk.cells) s within.limits within.volumes_now pool.has id sector [] fua device (omega (arith, lies now kept s pool device)) in
+      let need_none : need s (Write id sector [] fua) id ≡ 0 = need_is_wanted g now (seen old.disk.cells) s within.limits within.volumes_now pool.has id sector [] fua device (omega (arith, lies.1 now kept s pool device)) in
       let used_is = used_is_listed g now (seen old.disk.cells) s within.volumes_now pool.has in
       let all = free_all g now.volumes within.volumes_now in
       let sizes : s.geometry.data_blocks ≡ g.data_blocks = ap (λ (x : Geometry). x.data_blocks) pool.has.geometry in
       let fits : has_data_room s (Write id sector [] fua) id ≡ true = le-leb (used_by s + need s (Write id sector [] fua) id) s.geometry.data_blocks (omega (arith, need_none, used_is, all, sizes)) in
       let accepted = write_tests_are s id sector [] fua false true false false (has_metadata_room s 512) true (ap is_failed (pool.mode_is ∙ works))
-      (exists_is_listed g now (seen old.disk.cells) s id pool.has ∙ is_some_from (device_of id now.volumes) device) (ap is_read_only (pool.mode_is ∙ works)) refl refl fits in
+      (exists_is_listed g now (seen old.disk.cells) s id lies.0 pool.has ∙ is_some_from (device_of id now.volumes) device) (ap is_read_only (pool.mode_is ∙ works)) refl refl fits in
       met_done laws old old s s (Write id sector [] fua) accepted refl (Edits-nothing s id sector fua v.0 v.1) (inl (now, kept, pool))
       (rests laws old old (record { before = s; call = Write id sector [] fua; answer = Done; made = s }) refl (pool_left laws old now kept s pool)) (λ wants. absurd (false≢true (sym (no_sectors fua) ∙ wants))))
 

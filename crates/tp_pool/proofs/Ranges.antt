@@ -20,7 +20,7 @@ use Rattle.tp_shown.specs.Shown.{own_blocks, own_sectors}
 use Rattle.tp_shown.proofs.Values.{size_is}
 use Rattle.tp_holders.specs.Holders.{Holding, LeftTold, blocks_held, holds_of}
 use Rattle.tp_holders.proofs.Rows.{blocks_new, blocks_pushed, newly_held}
-use Rattle.tp_pool.specs.Held.{Held, KnowsSizes, LiesIn, blocks_known, more_held, most_sectors, view}
+use Rattle.tp_pool.specs.Held.{EndsIn, Held, KnowsSizes, LiesIn, blocks_known, more_held, most_sectors, view}
 use Rattle.tp_pool.specs.Shown as laws_of
 use Rattle.tp_pool.specs.Shown.{told_within}
 use Rattle.tp_pool.specs.Writing.{HasBlock, Reaches}
@@ -126,7 +126,7 @@ known_released g before after s holds was is left known id some =
 -- what stands is within the sizes
 pub law_within : {M : Type 0} {geometry : M → Geometry} {stands : M → DiskState → Contents → Contents → Type 0} {marks : M → List Bool} {room : M → ℕ}
     → ((metadata : M) (disk : DiskState) (now kept : Contents) → stands metadata disk now kept → AreWithin (geometry metadata) (room metadata) (marks metadata) now kept) → laws_of.WithinLaw geometry stands
-law_within within metadata disk now kept st = let w = within metadata disk now kept st in (w.limits, w.volumes_now)
+law_within within metadata disk now kept st = let w = within metadata disk now kept st in (w.limits, w.volumes_now, w.copies)
 
 module _ {M : Type 0} (geometry : M → Geometry) (stands : M → DiskState → Contents → Contents → Type 0) where
   -- what ends in a volume has no more sectors than a volume may have
@@ -135,12 +135,15 @@ module _ {M : Type 0} (geometry : M → Geometry) (stands : M → DiskState → 
   range_fits h id end limits (inr w) = w.0
 
   -- and lies in the volume of whatever contents
-  pub lies_in : laws_of.WithinLaw geometry stands → (h : Held M) (id end : ℕ) → EndsInVolume (view geometry stands) h id end → LiesIn geometry stands h id end
-  lies_in within h id end (inl known) now kept s pool device =
+  pub ends_in : laws_of.WithinLaw geometry stands → (h : Held M) (id end : ℕ) → EndsInVolume (view geometry stands) h id end → EndsIn geometry stands h id end
+  ends_in within h id end (inl known) now kept s pool device =
       let works : is_failed s.mode ≡ false = ap is_failed pool.mode_is ∙ pool.works in
       let is = size_is (geometry h.metadata) now (seen h.disk.cells) s pool.has id device in
       let sized = laws_of.sized geometry stands within h s id (own_sectors (geometry h.metadata) now.volumes id) (inl (now, kept, pool)) works is in
       let same : sectors_of_volume s.geometry ≡ sectors_of_volume (geometry h.metadata) = ap sectors_of_volume pool.has.geometry in
       omega (arith, known, sized.0, same)
-  lies_in within h id end (inr w) now kept s pool device =
+  ends_in within h id end (inr w) now kept s pool device =
       w.1 s (own_sectors (geometry h.metadata) now.volumes id) (inl (now, kept, pool)) (ap is_failed pool.mode_is ∙ pool.works) (size_is (geometry h.metadata) now (seen h.disk.cells) s pool.has id device)
+
+  pub lies_in : laws_of.WithinLaw geometry stands → (h : Held M) (id end : ℕ) → id < 2 ^ 24 → EndsInVolume (view geometry stands) h id end → LiesIn geometry stands h id end
+  lies_in within h id end low ends = (low, ends_in within h id end ends)

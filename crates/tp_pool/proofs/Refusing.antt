@@ -8,7 +8,7 @@ use Rattle.tp_model.specs.Geometry.{Geometry}
 use Rattle.tp_model.specs.Sectors.{Sector}
 use Rattle.tp_model.specs.Pool.{PlainPool}
 use Rattle.tp_model.specs.Refusals.{is_fault, is_fault_refusal}
-use Rattle.tp_model.specs.Calls.{Answer, Call, Read, Write, Trim, WriteZeroes, Flush, CreateThin, CreateSnap, Delete, SetTransactionId, Hold, LetGo, Status, ThinStatus, NextId, Close, Refused, Step, is_failed, Grow, VolumeBlocks}
+use Rattle.tp_model.specs.Calls.{Answer, Call, Read, Write, Trim, WriteZeroes, Flush, CreateThin, CreateSnap, Delete, SetTransactionId, Hold, LetGo, Status, ThinStatus, NextId, Close, Refused, Step, is_failed, Grow, VolumeBlocks, HeldRead, ReserveMetadataSnap, ReleaseMetadataSnap}
 use Rattle.tp_model.specs.PoolStops.{Event, keeps}
 use Rattle.tp_model.specs.Disk.{DiskState, FaultHasCause, seen}
 use Rattle.tp_model.specs.DiskStops.{LeavesOnly}
@@ -37,6 +37,7 @@ short_has g now image s has = record {
   transaction_id = has.transaction_id;
   needs_check = refl;
   meta_used = has.meta_used;
+  held_root = has.held_root;
   sizes = has.sizes;
   slots = has.slots;
   sectors = record { mapped = has.sectors.mapped; unmapped = has.sectors.unmapped };
@@ -61,6 +62,9 @@ fault_keeps_not (ThinStatus id) = refl
 fault_keeps_not (NextId id) = refl
 fault_keeps_not (VolumeBlocks id) = refl
 fault_keeps_not Close = refl
+fault_keeps_not (HeldRead id sector count) = refl
+fault_keeps_not ReserveMetadataSnap = refl
+fault_keeps_not ReleaseMetadataSnap = refl
 
 -- a fault is another refusal
 pub no_room_is_no_fault : (r : Result (Unit {0}) Refusal) (y : Refusal) → r ≡ Err NoMetadataSpace → r ≡ Err y → y ≡ Fault → ⊥

@@ -1,11 +1,11 @@
 -- The room that a write takes.
-use Rattle.std.proofs.Common.{◌≡◌, inl, ℕ, zero, suc, ◌+◌, ◌-◌, ◌*◌, ◌/◌, ◌%◌, ◌≤◌, ◌<◌, ◌&&◌, ◌||◌, Bool, true, false, cond, not, Option, None, Some, List, length, refl, sym, ◌∙◌, ap, subst, arith}
+use Rattle.std.proofs.Common.{◌≡◌, inl, inr, ℕ, zero, suc, ◌+◌, ◌-◌, ◌*◌, ◌/◌, ◌%◌, ◌==◌, ◌≤◌, ◌<◌, ◌&&◌, ◌||◌, Bool, true, false, cond, not, Option, None, Some, List, length, refl, sym, ◌∙◌, ap, subst, arith}
 use Rattle.std.specs.Prelude.{IfSome, IsTrue, nat_le, nat_lt, replicate, slice_index_or, ◌↔◌}
 use mir.Val.{bool_byte}
 use Rattle.std.specs.Option.{is_some, option_map_or}
 use Rattle.std.specs.List.{count_by, range_with_len}
 use Rattle.std.proofs.Math.Nat.{mul-le-mul_right}
-use Rattle.std.proofs.lemmas.Bool.{and_from, and_parts, false≢true, le-leb, leb-true, lt-ltb, ltb-true}
+use Rattle.std.proofs.lemmas.Bool.{and_from, and_parts, cases_eq, cases_lt, eq-eqb, false≢true, le-leb, leb-true, lt-ltb, ltb-true, ne_eqb, true≢false}
 use Rattle.std.proofs.lemmas.Option.{none-some, same_Some}
 use Rattle.tp_model.specs.Geometry.{Geometry}
 use Rattle.tp_model.specs.Calls.{Call, Keeps, Loses, Owns, WriteZeroes, covers, is_owning, touches}
@@ -26,7 +26,7 @@ use Rattle.tp_shown.proofs.Trimmed.{covered_by, covered_is}
 use Rattle.tp_meta.specs.Metadata.{AreInside, AreTold, IsInside, IsTold}
 use Rattle.tp_meta.specs.declared.metadata.Home.{Home}
 use Rattle.tp_pool.specs.Held.{Held}
-use Rattle.tp_pool.specs.Reading.{IsRun}
+use Rattle.tp_pool.specs.Reading.{ArePlaced, IsRun}
 use Rattle.tp_pool.specs.Writing.{IsKnown, IsReclaiming, blocks_taken, blocks_taken_by, old_place, own_place, takes_block, told_taken, told_wanted}
 use Rattle.tp_pool.specs.Zeroing.{told_owned}
 use Rattle.tp_pool.proofs.Following.{from_first, up_to_last}
@@ -36,6 +36,14 @@ use Rattle.tp_pool.proofs.Taken.{old_is_slot, told_if_not_own, told_if_own}
 pub reclaims_nothing : (g : Geometry) (now kept : Contents) (disk : DiskState) → Leaves (HoldsContents g kept) disk.cells → LeavesOnly disk disk (IsReclaiming g now kept disk)
 reclaims_nothing g now kept disk left =
     starts {P = IsReclaiming g now kept disk} disk (λ image stop. inl (image, stop, left image stop, record { same_length = refl; same = λ i high. refl }))
+
+-- ---- whether a root is held
+
+pub no_root : (root : ℕ) → not (root == 0) ≡ false → root ≡ 0
+no_root root told = elim (cases_eq root 0) [ inl none ↦ none | inr some ↦ absurd (true≢false (sym (ap not (ne_eqb root 0 some)) ∙ told)) ]
+
+pub a_root : (root : ℕ) → not (root == 0) ≡ true → 0 < root
+a_root root told = elim (cases_lt 0 root) [ inl some ↦ some | inr low ↦ absurd (let none : root ≡ 0 = omega (arith, low) in false≢true (sym (ap not (eq-eqb root 0 none)) ∙ told)) ]
 
 -- ---- what is told of a block
 
@@ -138,19 +146,26 @@ module _ (g : Geometry) (homes : List (Option Home)) (sector done count : ℕ) (
       let e : sector / g.block_sectors + (index + j) ≡ (sector + done) / g.block_sectors + j = omega (arith, w.1) in
       subst (λ b. IsTold id b volumes marks (slice_index_or homes (index + j) None)) e (told (index + j) small)
 
+  -- which data blocks they have
+  placed_behind : (id j : ℕ) (volumes : Volumes) → ArePlaced id (sector / g.block_sectors) volumes (length homes) homes → index + j < length homes
+      → slot_of id ((sector + done) / g.block_sectors + j) volumes ≡ old_place (slice_index_or homes (index + j) None)
+  placed_behind id j volumes told small =
+      let w = index_is in
+      let e : sector / g.block_sectors + (index + j) ≡ (sector + done) / g.block_sectors + j = omega (arith, w.1) in
+      subst (λ b. slot_of id b volumes ≡ old_place (slice_index_or homes (index + j) None)) e (told (index + j) small)
+
   -- blocks whose data blocks follow one another, from this one on
   module _ (n run place : ℕ) (some : 0 < run) (most : index + run ≤ length homes) (fits : (sector + done) % g.block_sectors + n ≤ run * g.block_sectors)
       (olds : (j : ℕ) → j < run → old_place (slice_index_or homes (index + j) None) ≡ Some (place + j)) where
-    slots_follow : (id : ℕ) (volumes : Volumes) (marks : List Bool) → AreTold id (sector / g.block_sectors) volumes marks (length homes) homes → IsRun g id (sector + done) n volumes (Some place)
-    slots_follow id volumes marks told b t =
+    slots_follow : (id : ℕ) (volumes : Volumes) → ArePlaced id (sector / g.block_sectors) volumes (length homes) homes → IsRun g id (sector + done) n volumes (Some place)
+    slots_follow id volumes told b t =
         let low = from_first g pos (sector + done) n b t in
         let high = up_to_last g pos (sector + done) n run b fits t in
         let j = b - (sector + done) / g.block_sectors in
         let small : j < run = omega (arith, low, high) in
         let there : (sector + done) / g.block_sectors + j ≡ b = omega (arith, low) in
         let home = slice_index_or homes (index + j) None in
-        let its : IsTold id b volumes marks home = subst (λ k. IsTold id k volumes marks home) there (told_behind id j volumes marks told (omega (arith, small, most))) in
-        sym (old_is_slot id b volumes marks home its) ∙ olds j small
+        subst (λ k. slot_of id k volumes ≡ old_place home) there (placed_behind id j volumes told (omega (arith, small, most))) ∙ olds j small
 
     -- they lie in the data blocks
     olds_fit : AreInside g.data_blocks (length homes) homes → place * g.block_sectors + (sector + done) % g.block_sectors + n ≤ g.data_blocks * g.block_sectors
@@ -167,19 +182,19 @@ module _ (g : Geometry) (homes : List (Option Home)) (sector done count : ℕ) (
   module _ (n run : ℕ) (some : 0 < run) (most : index + run ≤ length homes) (fits : (sector + done) % g.block_sectors + n ≤ run * g.block_sectors)
       (alone : old_place (slice_index_or homes index None) ≡ None → run ≡ 1)
       (olds : (place : ℕ) → old_place (slice_index_or homes index None) ≡ Some place → (j : ℕ) → j < run → old_place (slice_index_or homes (index + j) None) ≡ Some (place + j)) where
-    pub are_run : (id : ℕ) (volumes : Volumes) (marks : List Bool) → AreTold id (sector / g.block_sectors) volumes marks (length homes) homes
+    pub are_run : (id : ℕ) (volumes : Volumes) → ArePlaced id (sector / g.block_sectors) volumes (length homes) homes
         → IsRun g id (sector + done) n volumes (old_place (slice_index_or homes index None))
-    are_run id volumes marks told = by (old_place (slice_index_or homes index None)) refl
+    are_run id volumes told = by (old_place (slice_index_or homes index None)) refl
       where
         by : (o : Option ℕ) → old_place (slice_index_or homes index None) ≡ o → IsRun g id (sector + done) n volumes o
-        by (Some place) e = slots_follow n run place some most fits (olds place e) id volumes marks told
+        by (Some place) e = slots_follow n run place some most fits (olds place e) id volumes told
         by None e = λ b t.
             let one = alone e in
             let low = from_first g pos (sector + done) n b t in
             let high = up_to_last g pos (sector + done) n run b fits t in
             let w = index_is in
             let here : sector / g.block_sectors + index ≡ b = omega (arith, w.1, low, high, one) in
-            sym (old_is_slot id b volumes marks (slice_index_or homes index None) (subst (λ k. IsTold id k volumes marks (slice_index_or homes index None)) here (told index w.0))) ∙ e
+            subst (λ k. slot_of id k volumes ≡ old_place (slice_index_or homes index None)) here (told index w.0) ∙ e
 
     pub read_fits : AreInside g.data_blocks (length homes) homes → (home : Option Home) → home ≡ slice_index_or homes index None
         → IfSome home (λ h. h.place * g.block_sectors + (sector + done) % g.block_sectors + n ≤ g.data_blocks * g.block_sectors)

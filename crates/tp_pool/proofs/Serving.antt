@@ -1,5 +1,5 @@
 -- Calls that read: what their answers mean.
-use Rattle.std.proofs.Common.{◌≡◌, ◌⊎◌, inl, inr, ℕ, ◌+◌, ◌≤◌, ◌<◌, Bool, true, false, not, Option, None, Some, is_some, Result, Ok, Err, List, [], ◌∷◌, ◌++◌, refl, sym, ◌∙◌, ap, subst, arith}
+use Rattle.std.proofs.Common.{◌≡◌, ◌⊎◌, inl, inr, ℕ, ◌+◌, ◌^◌, ◌≤◌, ◌<◌, Bool, true, false, not, Option, None, Some, is_some, Result, Ok, Err, List, [], ◌∷◌, ◌++◌, refl, sym, ◌∙◌, ap, subst, arith}
 use Rattle.std.specs.Prelude.{IfErr, IsSome, MatchResult, OnOk}
 use Rattle.std.specs.List.{concat}
 use Rattle.std.proofs.lemmas.Bool.{false≢true}
@@ -93,7 +93,7 @@ module _ {M : Type 0} {geometry : M → Geometry} {stands : M → DiskState → 
       → ((now kept : Contents) → stands old.metadata old.disk now kept → ⊥) → PoolCalled geometry stands old new call (Refused reason)
   called_never old new call reason works later cause never = called_working laws old new call (Refused reason) works later cause (λ s now kept pool. absurd (never now kept pool.standing))
 
-  block_some : (old : Held M) (now kept : Contents) (s : PlainPool) → HasPool geometry stands old now kept s → 0 < s.geometry.block_sectors
+  pub block_some : (old : Held M) (now kept : Contents) (s : PlainPool) → HasPool geometry stands old now kept s → 0 < s.geometry.block_sectors
   block_some old now kept s pool =
       let limits = (laws.within old.metadata old.disk now kept pool.standing).limits in
       let same : s.geometry.block_sectors ≡ (geometry old.metadata).block_sectors = ap (λ (g : Geometry). g.block_sectors) pool.has.geometry in
@@ -126,8 +126,8 @@ module _ {M : Type 0} {geometry : M → Geometry} {stands : M → DiskState → 
 
   -- ---- there is a volume or none
 
-  pub exists_is : (old : Held M) (s : PlainPool) (now kept : Contents) (id : ℕ) (answer : Bool) → HasPool geometry stands old now kept s → answer ≡ is_some (device_of id now.volumes) → exists s id ≡ answer
-  exists_is old s now kept id answer pool told = exists_is_listed (geometry old.metadata) now (seen old.disk.cells) s id pool.has ∙ sym told
+  pub exists_is : (old : Held M) (s : PlainPool) (now kept : Contents) (id : ℕ) (answer : Bool) → id < 2 ^ 24 → HasPool geometry stands old now kept s → answer ≡ is_some (device_of id now.volumes) → exists s id ≡ answer
+  exists_is old s now kept id answer low pool told = exists_is_listed (geometry old.metadata) now (seen old.disk.cells) s id low pool.has ∙ sym told
 
   pub works_is : (old : Held M) (s : PlainPool) (now kept : Contents) → is_failed old.mode ≡ false → HasPool geometry stands old now kept s → is_failed s.mode ≡ false
   works_is old s now kept works pool = ap is_failed pool.mode_is ∙ works
@@ -159,13 +159,13 @@ module _ {M : Type 0} {geometry : M → Geometry} {stands : M → DiskState → 
       let within = laws.within old.metadata old.disk now kept pool.standing in
       let device = there now kept pool.standing in
       let works_s = works_is old s now kept works pool in
-      let some : exists s id ≡ true = exists_is_listed g now (seen old.disk.cells) s id pool.has ∙ is_some_from (device_of id now.volumes) device in
+      let some : exists s id ≡ true = exists_is_listed g now (seen old.disk.cells) s id lies.0 pool.has ∙ is_some_from (device_of id now.volumes) device in
       let values = values_at g now.volumes (seen old.disk.cells) id sector n in
       let out_is : out ≡ concat values =
       subst (λ (d : DiskState). stands old.metadata d now kept → out ≡ concat (values_at g now.volumes (seen d.cells) id sector n)) same (bytes now kept) pool.standing in
       let whole = values_whole g now.volumes (seen old.disk.cells) id sector n within.limits within.volumes_now (whole-seen formed) (omega (arith, room, length-seen formed)) in
       let gives : reply s (Read id sector n) ≡ Gave (sectors_of out) =
-      ap (λ (l : List (List ℕ)). Gave l) (read_gives g now (seen old.disk.cells) s within.limits pool.has id sector n device (lies now kept s pool device) ∙ sym (ap sectors_of out_is ∙ sectors_of-concat values whole)) in
+      ap (λ (l : List (List ℕ)). Gave l) (read_gives g now (seen old.disk.cells) s within.limits pool.has id sector n device (lies.1 now kept s pool device) ∙ sym (ap sectors_of out_is ∙ sectors_of-concat values whole)) in
       subst (λ (a : Answer). Met laws old old s (Read id sector n) a) gives
       (met_answered laws old old s s (Read id sector n) (inl (now, kept, pool)) (a_device s id works_s some) refl (inl (now, kept, pool)) refl refl)))
   read_by old mid disk id sector n out (Err reason) works same there lies formed room state bytes damaged only =
@@ -175,11 +175,11 @@ module _ {M : Type 0} {geometry : M → Geometry} {stands : M → DiskState → 
 
   -- ---- there is no such volume
 
-  pub none_there : (old : Held M) (call : Call) (id : ℕ) → is_failed old.mode ≡ false → keeps call (Refused NoSuchDevice) ≡ false → ((now kept : Contents) → stands old.metadata old.disk now kept → false ≡ is_some (device_of id now.volumes))
+  pub none_there : (old : Held M) (call : Call) (id : ℕ) → id < 2 ^ 24 → is_failed old.mode ≡ false → keeps call (Refused NoSuchDevice) ≡ false → ((now kept : Contents) → stands old.metadata old.disk now kept → false ≡ is_some (device_of id now.volumes))
       → ((s : PlainPool) → is_failed s.mode ≡ false → exists s id ≡ false → refusal_of s call ≡ Some NoSuchDevice) → PoolCalled geometry stands old old call (Refused NoSuchDevice)
-  none_there old call id works keeps_not none refuses =
+  none_there old call id low works keeps_not none refuses =
       called_tested old call NoSuchDevice works refl (λ s. refl) keeps_not (λ s now kept pool.
-      refuses s (works_is old s now kept works pool) (exists_is old s now kept id false pool (none now kept pool.standing)))
+      refuses s (works_is old s now kept works pool) (exists_is old s now kept id false low pool (none now kept pool.standing)))
 
   -- ---- holds
 
@@ -207,6 +207,7 @@ module _ {M : Type 0} {geometry : M → Geometry} {stands : M → DiskState → 
       transaction_id = pool.has.transaction_id;
       needs_check = pool.has.needs_check;
       meta_used = pool.has.meta_used;
+      held_root = pool.has.held_root;
       sizes = pool.has.sizes;
       slots = pool.has.slots;
       sectors = record { mapped = pool.has.sectors.mapped; unmapped = pool.has.sectors.unmapped };
@@ -226,10 +227,10 @@ module _ {M : Type 0} {geometry : M → Geometry} {stands : M → DiskState → 
     known = known;
   }
 
-  pub hold_done : (old : Held M) (id blocks : ℕ) → is_failed old.mode ≡ false
+  pub hold_done : (old : Held M) (id blocks : ℕ) → id < 2 ^ 24 → is_failed old.mode ≡ false
       → ((now kept : Contents) → stands old.metadata old.disk now kept → Some blocks ≡ option_map (told_blocks (geometry old.metadata)) (size_of id now.volumes))
       → PoolCalled geometry stands old (record old { holders = old.holders ++ (record { volume = id; blocks = blocks }) ∷ [] }) (Hold id) Done
-  hold_done old id blocks works told =
+  hold_done old id blocks low works told =
       let h : Holding = record { volume = id; blocks = blocks } in
       let holders : List Holding = old.holders ++ h ∷ [] in
       let new : Held M = record old { holders = holders } in
@@ -237,7 +238,7 @@ module _ {M : Type 0} {geometry : M → Geometry} {stands : M → DiskState → 
       let g = geometry old.metadata in
       let within = laws.within old.metadata old.disk now kept pool.standing in
       let size = size_told g now.volumes id blocks (told now kept pool.standing) in
-      let some = exists_is old s now kept id true pool (sym (ap is_some size.1) ∙ size_changes.told id now.volumes) in
+      let some = exists_is old s now kept id true low pool (sym (ap is_some size.1) ∙ size_changes.told id now.volumes) in
       let made : PlainPool = record s { holds = holds_after s.holds (Hold id) Done } in
       let accepted = a_device s id (works_is old s now kept works pool) some in
       let holds = ap (λ (m : FinMap nat_cmp ℕ). holds_after m (Hold id) Done) pool.holds ∙ sym (holds_pushed old.holders h) in

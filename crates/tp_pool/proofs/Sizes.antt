@@ -1,5 +1,5 @@
 -- How many blocks a volume has.
-use Rattle.std.proofs.Common.{◌≡◌, inl, ℕ, ◌+◌, ◌*◌, ◌/◌, ◌<◌, Bool, true, false, not, Option, None, Some, is_some, Result, Ok, Err, List, [], ◌∷◌, length, refl, sym, ◌∙◌, ap, subst, arith}
+use Rattle.std.proofs.Common.{◌≡◌, inl, ℕ, ◌+◌, ◌*◌, ◌/◌, ◌^◌, ◌<◌, Bool, true, false, not, Option, None, Some, is_some, Result, Ok, Err, List, [], ◌∷◌, length, refl, sym, ◌∙◌, ap, subst, arith}
 use Rattle.std.specs.Prelude.{MatchResult}
 use Rattle.std.specs.Option.{option_map, option_map_or}
 use Rattle.std.specs.FinMap.{get}
@@ -71,14 +71,14 @@ module _ {M : Type 0} {geometry : M → Geometry} {stands : M → DiskState → 
       (pool.found id some, pool.known id some ∙ ap Some (sym (held_sectors (geometry old.metadata) old.holders id))))
 
   -- or another one
-  pub size_by : (old : Held M) (id blocks : ℕ) → is_failed old.mode ≡ false
+  pub size_by : (old : Held M) (id blocks : ℕ) → id < 2 ^ 24 → is_failed old.mode ≡ false
       → ((now kept : Contents) → stands old.metadata old.disk now kept → Some blocks ≡ option_map (told_blocks (geometry old.metadata)) (size_of id now.volumes))
       → PoolCalled geometry stands old old (VolumeBlocks id) (Sized blocks)
-  size_by old id blocks works told =
+  size_by old id blocks low works told =
       sized_by old id blocks works (λ s now kept pool.
       let g = geometry old.metadata in
       let size = size_told laws g now.volumes id blocks (told now kept pool.standing) in (
-        exists_is laws old s now kept id true pool (sym (ap is_some size.1) ∙ size_changes.told id now.volumes),
+        exists_is laws old s now kept id true low pool (sym (ap is_some size.1) ∙ size_changes.told id now.volumes),
         pool.has.sizes id ∙ (ap (option_map (told_sectors g)) size.1 ∙ ap (λ n. Some (n * g.block_sectors)) (sym size.2)),
       ))
 

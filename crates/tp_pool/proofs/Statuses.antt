@@ -1,5 +1,5 @@
 -- The status lines: what is told of a pool is its line.
-use Rattle.std.proofs.Common.{◌≡◌, inl, inr, ℕ, ◌<◌, ◌&&◌, Bool, true, false, not, Option, None, Some, is_some, List, [], ◌∷◌, length, refl, sym, ◌∙◌, ap, subst, arith}
+use Rattle.std.proofs.Common.{◌≡◌, inl, inr, ℕ, ◌^◌, ◌<◌, ◌&&◌, Bool, true, false, not, Option, None, Some, is_some, List, [], ◌∷◌, length, refl, sym, ◌∙◌, ap, subst, arith}
 use Rattle.std.specs.Prelude.{codes}
 use Rattle.std.specs.Option.{option_map}
 use Rattle.std.proofs.lemmas.Bool.{false≢true}
@@ -72,6 +72,7 @@ module _ {M : Type 0} {geometry : M → Geometry} {stands : M → DiskState → 
     pub used_metadata : told.used_metadata ≡ now.meta_used
     pub used_data : listed.used now.volumes < 4294967296 → told.used_data ≡ listed.used now.volumes
     pub needs_check : told.needs_check ≡ now.needs_check
+    pub held_root : told.held_root ≡ now.held_root
 
   pub pool_told : (h : Held M) (told : PoolStatus) → told.mode ≡ h.mode → told.metadata_blocks ≡ (geometry h.metadata).metadata_blocks
       → told.data_blocks ≡ (geometry h.metadata).data_blocks → ((now kept : Contents) → stands h.metadata h.disk now kept → IsOf h told now)
@@ -92,6 +93,7 @@ module _ {M : Type 0} {geometry : M → Geometry} {stands : M → DiskState → 
         data_blocks = blocks ∙ sym data_blocks;
         mode = pool.mode_is ∙ sym same;
         needs_check = pool.has.needs_check ∙ sym is.needs_check;
+        held_root = pool.has.held_root ∙ sym is.held_root;
       })
   pool_told h told same metadata_blocks data_blocks of_now s (inr f) = inl (same ∙ f.failed, f.mode_is)
 
@@ -107,17 +109,17 @@ module _ {M : Type 0} {geometry : M → Geometry} {stands : M → DiskState → 
   volume_failed h told id same failed s (inl w) = absurd (false≢true (sym w.2.works ∙ failed))
   volume_failed h told id same failed s (inr f) = (thin_tests s id true (exists s id) (ap is_failed f.mode_is) refl, inl (same ∙ f.failed, f.mode_is))
 
-  pub volume_told : (h : Held M) (told : VolumeStatus) (id : ℕ) → told.mode ≡ h.mode → told.block_sectors ≡ (geometry h.metadata).block_sectors
+  pub volume_told : (h : Held M) (told : VolumeStatus) (id : ℕ) → id < 2 ^ 24 → told.mode ≡ h.mode → told.block_sectors ≡ (geometry h.metadata).block_sectors
       → ((now kept : Contents) → stands h.metadata h.disk now kept → Some told.mapped_blocks ≡ mapped_of id now.volumes)
       → ((now kept : Contents) → stands h.metadata h.disk now kept → IsHighest id now.volumes told.highest_block) → is_failed h.mode ≡ false
       → (s : PlainPool) → shows geometry stands h s → (refusal_of s (ThinStatus id) ≡ None) × TellsVolumeLine told s id
-  volume_told h told id same block_sectors mapped highest works s (inl w) =
+  volume_told h told id low same block_sectors mapped highest works s (inl w) =
       let pool = w.2 in
       let g = geometry h.metadata in
       let image = seen h.disk.cells in
       let within = laws.within h.metadata h.disk w.0 w.1 pool.standing in
       let here = mapped_here told.mapped_blocks (device_of id w.0.volumes) (mapped w.0 w.1 pool.standing) in (
-        thin_tests s id false true (ap is_failed pool.mode_is ∙ works) (exists_is_listed g w.0 image s id pool.has ∙ here.1),
+        thin_tests s id false true (ap is_failed pool.mode_is ∙ works) (exists_is_listed g w.0 image s id low pool.has ∙ here.1),
         inr (record {
           mode = pool.mode_is ∙ sym same;
           block_sectors = ap (λ (x : Geometry). x.block_sectors) pool.has.geometry ∙ sym block_sectors;
@@ -125,7 +127,7 @@ module _ {M : Type 0} {geometry : M → Geometry} {stands : M → DiskState → 
           highest_block = highest_is_last g w.0 image s id told.highest_block within.volumes_now pool.has (highest w.0 w.1 pool.standing);
         }),
       )
-  volume_told h told id same block_sectors mapped highest works s (inr f) = absurd (false≢true (sym works ∙ ap is_failed f.failed))
+  volume_told h told id low same block_sectors mapped highest works s (inr f) = absurd (false≢true (sym works ∙ ap is_failed f.failed))
 
   pub thin_called : (h : Held M) (id : ℕ) (line : List ℕ) → ((s : PlainPool) → shows geometry stands h s → (refusal_of s (ThinStatus id) ≡ None) × (line ≡ volume_line s id))
       → PoolCalled geometry stands h (record h { disk = after_read true h.disk }) (ThinStatus id) (Line line)
@@ -133,16 +135,16 @@ module _ {M : Type 0} {geometry : M → Geometry} {stands : M → DiskState → 
       called laws h h (ThinStatus id) (Line line) (at_once h.disk) refl (λ s shown.
       subst (λ (l : List ℕ). Met laws h h s (ThinStatus id) (Line l)) (sym (is s shown).1) (met_answered laws h h s s (ThinStatus id) shown (is s shown).0 refl shown refl refl))
 
-  pub thin_refused : (h : Held M) (id : ℕ) (reason : Refusal) → is_failed h.mode ≡ false → Missed reason
+  pub thin_refused : (h : Held M) (id : ℕ) (reason : Refusal) → id < 2 ^ 24 → is_failed h.mode ≡ false → Missed reason
       → (reason ≡ NoSuchDevice → (now kept : Contents) → stands h.metadata h.disk now kept → false ≡ is_some (device_of id now.volumes))
       → (reason ≡ Damaged → (now kept : Contents) → stands h.metadata h.disk now kept → ⊥)
       → PoolRefused geometry stands h (record h { disk = after_read (not (is_fault_refusal reason)) h.disk }) (ThinStatus id) reason
-  thin_refused h id reason works (inl e) none never =
+  thin_refused h id reason low works (inl e) none never =
       subst (λ (r : Refusal). PoolRefused geometry stands h (record h { disk = after_read (not (is_fault_refusal r)) h.disk }) (ThinStatus id) r) (sym e)
-      (none_there laws h (ThinStatus id) id works refl (none e) (λ s run absent. thin_tests s id false false run absent))
-  thin_refused h id reason works (inr (inl e)) none never = read_refused laws h (ThinStatus id) reason works refl refl (inl e) never
-  thin_refused h id reason works (inr (inr (inl e))) none never = read_refused laws h (ThinStatus id) reason works refl refl (inr e) never
-  thin_refused h id reason works (inr (inr (inr e))) none never = absurd e
+      (none_there laws h (ThinStatus id) id low works refl (none e) (λ s run absent. thin_tests s id false false run absent))
+  thin_refused h id reason low works (inr (inl e)) none never = read_refused laws h (ThinStatus id) reason works refl refl (inl e) never
+  thin_refused h id reason low works (inr (inr (inl e))) none never = read_refused laws h (ThinStatus id) reason works refl refl (inr e) never
+  thin_refused h id reason low works (inr (inr (inr e))) none never = absurd e
 
 module _ {M : Type 0} (geometry : M → Geometry) (stands : M → DiskState → Contents → Contents → Type 0) where
   accepted_in : (call : Call) (line : List ℕ) → may_accept mode.ReadOnly call ≡ true → may_accept mode.Failed call ≡ true → (m : Mode) → MayAnswer m call (Line line)

@@ -39,7 +39,7 @@ nothing_given g i k x h = h.1
 -- a pool with these contents, as it would be opened
 opened_from : (g : Geometry) (c : Contents) (image : Image) (p : PlainPool) → HasContents g c image p → IsOpened g c image (reopened p)
 opened_from g c image p has = record {
-  has = record { geometry = has.geometry; transaction_id = has.transaction_id; needs_check = has.needs_check; meta_used = has.meta_used; sizes = has.sizes; slots = has.slots; sectors = record { mapped = has.sectors.mapped; unmapped = has.sectors.unmapped } };
+  has = record { geometry = has.geometry; transaction_id = has.transaction_id; needs_check = has.needs_check; meta_used = has.meta_used; held_root = has.held_root; sizes = has.sizes; slots = has.slots; sectors = record { mapped = has.sectors.mapped; unmapped = has.sectors.unmapped } };
   mode = ap (λ (b : Bool). if b then mode.ReadOnly else mode.Writable) has.needs_check;
   holds = refl;
 }
@@ -53,6 +53,7 @@ at_rest image P given st = record {
   transaction_id = refl;
   needs_check = refl;
   meta_used = refl;
+  held_root = refl;
   mode = st.mode ∙ ap (λ (b : Bool). if b then mode.ReadOnly else mode.Writable) (sym st.needs_check);
   holds = st.holds;
   sectors = λ _ _. inl refl;

@@ -147,14 +147,14 @@ module _ {M : Type 0} {geometry : M → Geometry} {stands : M → DiskState → 
 
   -- it lies in the volume, in the geometry of later metadata too
   reaches : (x : Geometry) → x ≡ g → (s : PlainPool) (now kept : Contents) → HasPool geometry stands old now kept s → Reaches x id (sector + count) now.volumes
-  reaches x same s now kept pool = let device = there now kept pool.standing in subst (λ (y : Geometry). Reaches y id (sector + count) now.volumes) (sym same) (device, lies now kept s pool device)
+  reaches x same s now kept pool = let device = there now kept pool.standing in subst (λ (y : Geometry). Reaches y id (sector + count) now.volumes) (sym same) (device, lies.1 now kept s pool device)
 
   allowed : (s : PlainPool) (now kept : Contents) → HasPool geometry stands old now kept s → IsAllowed s call
   allowed s now kept pool = record {
     inside = λ size e.
         let device = there now kept pool.standing in
         let is = same_Some size (own_sectors g now.volumes id) (sym e ∙ size_is g now (seen old.disk.cells) s pool.has id device) in
-        omega (arith, is, lies now kept s pool device);
+        omega (arith, is, lies.1 now kept s pool device);
     most = most;
   }
 
@@ -166,14 +166,14 @@ module _ {M : Type 0} {geometry : M → Geometry} {stands : M → DiskState → 
   room_tested s now kept pool =
       let within = laws.within old.metadata old.disk now kept pool.standing in
       let a = used_is_listed g now (seen old.disk.cells) s within.volumes_now pool.has in
-      let b = need_zeroes g now (seen old.disk.cells) s within.limits within.volumes_now pool.has id sector count no_hole fua (there now kept pool.standing) (lies now kept s pool (there now kept pool.standing)) in
+      let b = need_zeroes g now (seen old.disk.cells) s within.limits within.volumes_now pool.has id sector count no_hole fua (there now kept pool.standing) (lies.1 now kept s pool (there now kept pool.standing)) in
       (λ i. nat_le (a i + b i) (pool.has.geometry i).data_blocks)
 
   tests : (some enough fits : Bool) → nat_lt 0 count ≡ some → (s : PlainPool) (now kept : Contents) → HasPool geometry stands old now kept s → has_metadata_room s 512 ≡ enough
       → has_data_room s call id ≡ fits → refusal_of s call ≡ write_tests false true false some enough fits
   tests some enough fits more s now kept pool room_is fits_is =
       zeroes_tests_are s id sector count no_hole fua false true false some enough fits (ap is_failed (pool.mode_is ∙ works))
-      (exists_is_listed g now (seen old.disk.cells) s id pool.has ∙ is_some_from (device_of id now.volumes) (there now kept pool.standing))
+      (exists_is_listed g now (seen old.disk.cells) s id lies.0 pool.has ∙ is_some_from (device_of id now.volumes) (there now kept pool.standing))
       (ap is_read_only (pool.mode_is ∙ works)) more room_is fits_is
 
   none_asked : (n : ℕ) → n ≡ 0 → blocks_touched g sector n ≡ 0

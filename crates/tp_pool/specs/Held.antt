@@ -77,10 +77,10 @@ module _ {M : Type 0} where
 
 -- ---- what it shows
 
--- As many metadata blocks are in use as the trees of the pool have that stand in some image, and no more than its volumes may use. Of a
--- failed pool nothing is told.
+-- As many metadata blocks are in use as the trees of the pool have that stand in some image, and where no root is held, no more than its
+-- volumes may use. Of a failed pool nothing is told.
 abbrev pub HasUse : PlainPool → Type 0
-HasUse s = (s.mode ≡ mode.Failed) ⊎ ((image : List Sector) × HasTrees image s × IsBounded s)
+HasUse s = (s.mode ≡ mode.Failed) ⊎ ((image : List Sector) × HasTrees image s × (s.held_root ≡ 0 → IsBounded s))
 
 -- A read-only pool has nothing that the last commit has not, and nothing was written behind the last flush.
 pub record IsAllKept (now kept : Contents) (disk : DiskState) : Type 0 where
@@ -144,13 +144,24 @@ module _ {M : Type 0} (geometry : M → Geometry) (stands : M → DiskState → 
   abbrev pub shows : Held M → PlainPool → Type 0
   shows h s = ((now : Contents) × (kept : Contents) × HasPool h now kept s) ⊎ HasFailed h s
 
-  -- Whatever contents it has, what ends there lies in the volume, if there is one.
+  -- Whatever contents it has, what ends there lies in the volume, or in the held copy, if there is one.
+  abbrev pub EndsIn : Held M → ℕ → ℕ → Type 0
+  EndsIn h id end = (now kept : Contents) (s : PlainPool) → HasPool h now kept s → IsSome (device_of id now.volumes) → end ≤ own_sectors (geometry h.metadata) now.volumes id
+
+  -- The same, by the id of a volume.
   abbrev pub LiesIn : Held M → ℕ → ℕ → Type 0
-  LiesIn h id end = (now kept : Contents) (s : PlainPool) → HasPool h now kept s → IsSome (device_of id now.volumes) → end ≤ own_sectors (geometry h.metadata) now.volumes id
+  LiesIn h id end = (id < 2 ^ 24) × EndsIn h id end
 
   -- At most n more metadata blocks are in use in the one than in the other, whatever both show.
   abbrev pub UsesAtMost : Held M → Held M → ℕ → Type 0
   UsesAtMost old new n = (s t : PlainPool) → shows old s → shows new t → t.meta_used ≤ s.meta_used + n
+
+  -- The same, where that holds of the number of the held root; and where no root is held.
+  abbrev pub UsesWhere : (ℕ → Type 0) → Held M → Held M → ℕ → Type 0
+  UsesWhere Holds old new n = (s t : PlainPool) → shows old s → shows new t → Holds s.held_root → t.meta_used ≤ s.meta_used + n
+
+  abbrev pub UsesUnheld : Held M → Held M → ℕ → Type 0
+  UsesUnheld old new n = UsesWhere (λ root. root ≡ 0) old new n
 
   -- what is said of it but for what is changed and which blocks are free
   abbrev pub view : View (Held M)

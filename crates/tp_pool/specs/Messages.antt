@@ -1,14 +1,14 @@
--- Internal: how the creation and the removal of a volume are tested, and what they make of what stands (own).
-use Rattle.std.specs.Prelude.{◌≡◌, ◌⊎◌, ℕ, ◌||◌, Bool, false, not, List, [], ◌∷◌, Option, None, Some, Result, Ok, Err, IsSome, is_some, length, nat_le, nat_lt, if◌then◌else◌}
-use Rattle.std.specs.FinMap.{insert, remove}
+-- Internal: how messages are tested, and what they make of what stands (own).
+use Rattle.std.specs.Prelude.{◌≡◌, ◌⊎◌, ℕ, ◌||◌, Bool, false, not, List, [], ◌∷◌, ◌++◌, map, Option, None, Some, Result, Ok, Err, IsSome, is_some, nat_le, nat_lt, if◌then◌else◌}
+use Rattle.std.specs.FinMap.{insert, remove, retain_keys}
 use Rattle.tp_model.specs.declared.refusal.Refusal.{Refusal}
 use Rattle.tp_model.specs.declared.refusal.Refusal.TheVariants.{BadSize, Busy, Damaged, Exists, Fault, NoSuchDevice, TooManyDevices}
 use Rattle.tp_model.specs.Geometry.{Geometry}
 use Rattle.tp_model.specs.Told.{told_blocks}
-use Rattle.tp_model.specs.Pool.{PlainPool, Volume, hold_count}
+use Rattle.tp_model.specs.Pool.{PlainPool, Volume, hold_count, is_now}
 use Rattle.tp_model.specs.Calls.{Call, CreateSnap, CreateThin, first_failed, grown, is_failure, new_volume, volume_of}
-use Rattle.tp_sharing.specs.Volumes.{BlockSlot, Volumes, device_of, resized, size_of, with_device, without_device}
-use Rattle.tp_mapping.specs.Mapping.{size_for, size_or_none, slots_of}
+use Rattle.tp_sharing.specs.Volumes.{BlockSlot, Volumes, as_copy, device_of, devices_in, resized, size_of, with_device, without_device}
+use Rattle.tp_mapping.specs.Mapping.{size_for, size_or_none, slots_of, without_copies}
 use Rattle.tp_stored.specs.Contents.{Contents}
 use Rattle.tp_shown.specs.Shown.{own_blocks}
 use Rattle.tp_holders.specs.Holders.{Holding, holds_of}
@@ -28,7 +28,7 @@ abbrev pub new_tests : ℕ → Option ℕ → Contents → Option Refusal
 new_tests id origin now = first_failed (
     (misses_origin origin now, NoSuchDevice)
     ∷ (is_some (device_of id now.volumes), Exists)
-    ∷ (nat_le 65536 (length now.volumes), TooManyDevices) ∷ [])
+    ∷ (nat_le 65536 (devices_in now.volumes), TooManyDevices) ∷ [])
 
 -- what these tests and a failure in them refuse it for
 abbrev pub RefusesNew : Option ℕ → Refusal → Type 0
@@ -43,6 +43,11 @@ TestedSo (Err reason) told = is_failure reason ≡ false → told ≡ Some reaso
 abbrev pub blocks_of_new : Option ℕ → ℕ
 blocks_of_new None = 8
 blocks_of_new (Some origin) = 3
+
+-- and where that is so: of a snapshot, where no root is held
+abbrev pub CountsBlocks : Option ℕ → ℕ → Type 0
+CountsBlocks None root = Unit {0}
+CountsBlocks (Some origin) root = root ≡ 0
 
 abbrev pub slots_from : Option ℕ → Volumes → List BlockSlot
 slots_from None volumes = []
@@ -119,3 +124,16 @@ with_blocks g now id blocks meta_used = record now { volumes = resized id (size_
 
 abbrev pub with_grown : PlainPool → ℕ → ℕ → ℕ → PlainPool
 with_grown s id blocks meta_used = record s { volumes = insert s.volumes id (grown s.geometry blocks (volume_of s id)); meta_used = meta_used }
+
+-- ---- a held copy of all volumes
+
+-- what it makes of contents that one is held from now on, and what it makes of them that none is
+abbrev pub with_copies : Contents → ℕ → Contents
+with_copies now root = record now { volumes = now.volumes ++ map as_copy now.volumes; held_root = root }
+
+abbrev pub released_contents : Contents → ℕ → Contents
+released_contents now meta_used = record now { volumes = without_copies now.volumes; held_root = 0; meta_used = meta_used }
+
+-- and of a pool
+abbrev pub released_plain : PlainPool → ℕ → PlainPool
+released_plain s meta_used = record s { volumes = retain_keys s.volumes is_now; held_root = 0; meta_used = meta_used }

@@ -1,20 +1,21 @@
 -- Internal: the laws of what a pool shows: it has the pool's outline, and each volume has the size that is known of it.
-use Rattle.std.proofs.Common.{◌≡◌, ◌≢◌, ℕ, ◌+◌, ◌-◌, ◌*◌, ◌^◌, ◌<◌, Option, None, Some, Bool, false, refl, sym, ap, subst, ◌∙◌, ◌≤◌, List, inl, inr, arith}
+use Rattle.std.proofs.Common.{◌≡◌, ◌≢◌, ℕ, ◌+◌, ◌-◌, ◌*◌, ◌^◌, ◌<◌, Option, None, Some, is_some, length, Bool, false, refl, sym, ap, subst, ◌∙◌, ◌≤◌, List, inl, inr, arith}
 use Rattle.std.specs.Option.{option_map}
 use Rattle.std.specs.Prelude.{nat_le, if◌then◌else◌}
 use Rattle.std.specs.Ordering.{nat_cmp}
-use Rattle.std.specs.FinMap.{FinMap}
+use Rattle.std.specs.FinMap.{FinMap, get}
 use Rattle.std.proofs.Math.Nat.{mul-le-mul_right}
 use Rattle.tp_model.specs.declared.mode.Mode.{Mode}
 use Rattle.tp_model.specs.declared.mode.Mode.TheVariants as mode
-use Rattle.std.proofs.lemmas.Bool.{cases_lt, false≢true, ne_eqb}
+use Rattle.std.proofs.lemmas.Bool.{cases_lt, false≢true, ne_eqb, true≢false}
 use Rattle.std.proofs.lemmas.Option.{none-some, same_Some}
 use Rattle.tp_model.specs.Geometry.{Geometry, IsWithinLimits, sectors_of_volume}
-use Rattle.tp_model.specs.Pool.{IsConsistent, PlainPool, hold_count, outline_of, volume_size}
+use Rattle.tp_model.specs.Pool.{IsConsistent, PlainPool, Volume, hold_count, outline_of, volume_size}
 use Rattle.tp_model.specs.Calls.{is_failed, is_read_only}
 use Rattle.tp_model.specs.Disk.{DiskState, seen}
 use Rattle.tp_model.specs.Told.{IsToldSize, told_blocks, told_sectors}
-use Rattle.tp_sharing.specs.Volumes.{AreSized, Volumes, size_of}
+use Rattle.tp_sharing.specs.Volumes.{AreSized, Volumes, device_of, size_of}
+use Rattle.tp_sharing.proofs.Told.{size_changes}
 use Rattle.tp_mapping.specs.Mapping.{IsWithin}
 use Rattle.tp_stored.specs.Contents.{Contents, HasContents}
 use Rattle.tp_stored.specs.Laws.{AreBounded}
@@ -58,9 +59,10 @@ module _ {M : Type 0} (geometry : M → Geometry) (stands : M → DiskState → 
   TreesLaw = (metadata : M) (disk : DiskState) (now kept : Contents) (p : PlainPool) → stands metadata disk now kept
       → HasContents (geometry metadata) now (seen disk.cells) p → HasTrees (seen disk.cells) p
 
-  -- what stands is within the sizes of the pool
+  -- what stands is within the sizes of the pool, and where no root is held, it has no copies
   abbrev pub WithinLaw : Type 0
-  WithinLaw = (metadata : M) (disk : DiskState) (now kept : Contents) → stands metadata disk now kept → IsWithinLimits (geometry metadata) × IsWithin (geometry metadata) now.volumes
+  WithinLaw = (metadata : M) (disk : DiskState) (now kept : Contents) → stands metadata disk now kept
+      → IsWithinLimits (geometry metadata) × IsWithin (geometry metadata) now.volumes × (now.held_root ≡ 0 → (id : ℕ) → 2 ^ 24 ≤ id → device_of id now.volumes ≡ None)
 
   -- and is one list of volumes
   abbrev pub OneLaw : Type 0
@@ -112,12 +114,25 @@ module _ {M : Type 0} (geometry : M → Geometry) (stands : M → DiskState → 
       inr (
         seen h.disk.cells,
         trees m h.disk w.0 w.1 s pool.standing pool.has,
-        pool_is_bounded (geometry m) w.0 (seen h.disk.cells) s (within m h.disk w.0 w.1 pool.standing).1 pool.has (bounded m h.disk w.0 w.1 pool.standing),
+        λ none. pool_is_bounded (geometry m) w.0 (seen h.disk.cells) s (within m h.disk w.0 w.1 pool.standing).1 pool.has none (bounded m h.disk w.0 w.1 pool.standing),
       )
   used trees within bounded h s (inr f) = inl f.mode_is
 
   not_writable : (m : Mode) → m ≡ mode.ReadOnly → m ≢ mode.Writable
   not_writable m is other = false≢true (sym (ap is_read_only other) ∙ ap is_read_only is)
+
+  -- a device that is not there has no volume
+  no_volume : (g : Geometry) (s : PlainPool) (ds : Volumes) (id : ℕ) → volume_size s id ≡ option_map (told_sectors g) (size_of id ds) → device_of id ds ≡ None → get s.volumes id ≡ None
+  no_volume g s ds id sized none =
+      by (get s.volumes id) (sized ∙ ap (option_map (told_sectors g)) (no_size (size_of id ds) (size_changes.told id ds ∙ ap is_some none)))
+    where
+      no_size : (o : Option ℕ) → is_some o ≡ false → o ≡ None
+      no_size None e = refl
+      no_size (Some n) e = absurd (true≢false e)
+
+      by : (o : Option Volume) → option_map (λ (v : Volume). length v.sectors) o ≡ None → o ≡ None
+      by None e = refl
+      by (Some v) e = absurd (none-some (length v.sectors) (sym e))
 
   pub consistent : WithinLaw → (h : Held M) (s : PlainPool) → shows geometry stands h s → is_failed s.mode ≡ false → IsConsistent s
   consistent within h s (inl w) works =
@@ -129,6 +144,9 @@ module _ {M : Type 0} (geometry : M → Geometry) (stands : M → DiskState → 
         data_room = used_fits (geometry h.metadata) w.0 (seen h.disk.cells) s (within h.metadata h.disk w.0 w.1 pool.standing).1 pool.has;
         metadata_room = omega (arith, pool.spare, pool.has.meta_used, blocks);
         check = λ wants. not_writable s.mode (pool.mode_is ∙ pool.check (sym pool.has.needs_check ∙ wants));
+        copies = λ none id high.
+            no_volume (geometry h.metadata) s w.0.volumes id (pool.has.sizes id)
+            ((within h.metadata h.disk w.0 w.1 pool.standing).2 (sym pool.has.held_root ∙ none) id high);
       }
   consistent within h s (inr f) works = absurd (false≢true (sym works ∙ ap is_failed f.mode_is))
 
@@ -149,6 +167,7 @@ at_rest image P is = let st = is.1 in MayReopen-nothing P P (record {
   transaction_id = refl;
   needs_check = refl;
   meta_used = refl;
+  held_root = refl;
   mode = st.mode ∙ ap (λ (b : Bool). if b then mode.ReadOnly else mode.Writable) (sym st.needs_check);
   holds = st.holds;
   sectors = λ _ _. inl refl;

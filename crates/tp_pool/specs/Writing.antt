@@ -139,6 +139,10 @@ LacksBlocks least g now = g.metadata_blocks - now.meta_used < least
 abbrev pub LacksMetadata : Geometry → Contents → Type 0
 LacksMetadata = LacksBlocks 512
 
+-- A root is held, and there is no more metadata room than the removal of a volume wants then.
+abbrev pub LacksForRemoval : Geometry → Contents → Type 0
+LacksForRemoval g now = (0 < now.held_root) × LacksBlocks 256 g now
+
 -- While there is a commit, a stop leaves what the last one kept, or what stands now.
 abbrev pub IsReclaiming : Geometry → Contents → Contents → DiskState → List Sector → Type 0
 IsReclaiming g now kept old image = IsStill g kept old.cells image ⊎ (HoldsContents g now image × SameData g (seen old.cells) image)

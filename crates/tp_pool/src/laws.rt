@@ -68,11 +68,11 @@ pub fn pool_calls_are_calls<M: Metadata>()
         → Meets (served M.geometry M.stands M.marks M.room M.changed) old new call answer }
 {}
 
-/// At every moment no more metadata blocks are in use than the volumes may use: the fixed part, 1, one for every 31 volumes, and for each volume 1
-/// and one for every 63 of its mapped blocks.
+/// At every moment at which no metadata root is held, no more metadata blocks are in use than the volumes may use: the fixed part, 1, one for every 31
+/// volumes, and for each volume 1 and one for every 63 of its mapped blocks.
 pub fn images_use_bounded_metadata<M: Metadata>()
     // Of each pool that is opened from the image of a commit.
-    ensures images { (image : List Sector) (P : PlainPool) → (g : Geometry) × IsPool g image → StandsFor image P → IsBounded P }
+    ensures images { (image : List Sector) (P : PlainPool) → (g : Geometry) × IsPool g image → StandsFor image P → P.held_root ≡ 0 → IsBounded P }
 
     // Of what a pool shows that has not failed.
     ensures shown { (h : Held M) (s : PlainPool) → shows M.geometry M.stands h s → HasUse s }
@@ -80,11 +80,11 @@ pub fn images_use_bounded_metadata<M: Metadata>()
     // Of what a stop leaves at any moment of a call, whatever it answers.
     ensures in_call { (old new : Held M) (call : Call) (answer : Answer) (s : PlainPool) (image : List Sector) (P : PlainPool)
         → PoolCalled M.geometry M.stands old new call answer → shows M.geometry M.stands old s → StoppedSince (moment_of old) new.disk image
-        → StandsFor image P → IsBounded P }
+        → StandsFor image P → P.held_root ≡ 0 → IsBounded P }
 {}
 
-/// Metadata room lasts to that bound: where it leaves as many blocks as a call wants, which are 512, and 256 for a trim, the call is not refused for
-/// want of metadata room.
+/// Metadata room lasts to that bound: where no metadata root is held and it leaves as many blocks as a call wants, which are 512, and 256 for a
+/// trim, the call is not refused for want of metadata room.
 pub fn room_lasts_to_the_bound<M: Metadata>()
     // By no test of a plain pool.
     ensures tests { (s : PlainPool) (call : Call) → HasUse s → BoundLeavesRoom s call → refusal_of s call ≢ Some NoMetadataSpace }

@@ -1,22 +1,22 @@
 //! The messages to a pool: calls that each end in a commit.
-ghost use Rattle.std.specs.Prelude.{◌≡◌, ◌⊎◌, ◌+◌, ◌^◌, ◌<◌, ◌≤◌, ℕ, Err, IfErr, IfOk, IsSome, None, OnOk, Some, false, is_err, length, not};
+ghost use Rattle.std.specs.Prelude.{◌≡◌, ◌⊎◌, ◌+◌, ◌^◌, ◌<◌, ◌≤◌, ℕ, Err, IfErr, IfOk, IfSome, IsSome, None, OnOk, Some, false, is_err, not};
 ghost use Rattle.tp_model.specs.Geometry.{sectors_of_image};
 ghost use Rattle.tp_model.specs.Refusals.{is_fault};
 ghost use Rattle.tp_counts.specs.StoreErrors as errors;
-ghost use Rattle.tp_model.specs.Calls.{CreateSnap, CreateThin, Delete, Grow, SetTransactionId, is_failed};
+ghost use Rattle.tp_model.specs.Calls.{CreateSnap, CreateThin, Delete, Grow, ReleaseMetadataSnap, ReserveMetadataSnap, SetTransactionId, is_failed};
 ghost use Rattle.tp_model.specs.Disk.{after_read};
 ghost use Rattle.tp_model.specs.Pool.{PlainPool};
 ghost use Rattle.tp_model.specs.Told.{IsToldSize, told_blocks};
-ghost use Rattle.tp_sharing.specs.Volumes.{device_of, resized, size_of};
+ghost use Rattle.tp_sharing.specs.Volumes.{device_of, devices_in, resized, size_of};
 ghost use Rattle.tp_mapping.specs.Mapping.{size_for};
 ghost use Rattle.tp_stored.specs.Contents.{Contents};
 ghost use Rattle.tp_meta.specs.Metadata.{IsAltered, StandsWith};
-ghost use Rattle.tp_pool.specs.Held.{AnswersSo, IsTried, PoolAnswered, PoolTried, UsesAtMost, shows};
+ghost use Rattle.tp_pool.specs.Held.{AnswersSo, IsTried, PoolAnswered, PoolTried, UsesAtMost, UsesUnheld, UsesWhere, shows};
 ghost use Rattle.tp_pool.specs.Flushes.{FlushesSo, HasChanged, HasFlushed};
-ghost use Rattle.tp_pool.specs.Messages.{RefusesGrown, RefusesNew, RefusesOld, SizedSo, TestedSo, blocks_of_new, create_call, grown_tests, misses_origin, new_tests, old_tests, size_verdict, with_new};
+ghost use Rattle.tp_pool.specs.Messages.{CountsBlocks, RefusesGrown, RefusesNew, RefusesOld, SizedSo, TestedSo, blocks_of_new, create_call, grown_tests, misses_origin, new_tests, old_tests, size_verdict, with_new};
 
 use crate::pool::{Pool, is_failed, is_read_only};
-use crate::room::{keep, lacks_metadata, reclaim, reclaim_metadata};
+use crate::room::{holds_root, keep, lacks_for_removal, lacks_metadata, reclaim, reclaim_metadata};
 use tp_counts::StoreError;
 use tp_disk::Disk;
 use tp_holders::is_held;
@@ -39,11 +39,12 @@ fn add<D: Disk, M: Metadata>(
     requires disk { sectors_of_image (M.geometry metadata.old) ≤ (D.state disk.old).size }
     requires room { 64 ≤ M.room metadata.old }
     ensures altered { IsAltered M.geometry M.stands M.room 64 metadata.old metadata.new (D.state disk.old) (D.state disk.new) result
-        (λ P. (now kept : Contents) → M.stands metadata.old (D.state disk.old) now kept → device_of id now.volumes ≡ None → length now.volumes < 65536
+        (λ P. (now kept : Contents) → M.stands metadata.old (D.state disk.old) now kept → device_of id now.volumes ≡ None → devices_in now.volumes < 65536
         → misses_origin origin.now now ≡ false → P now kept)
         (λ done now kept. ((meta_used : ℕ) × M.stands metadata.new (D.state disk.new) (with_new now id origin.now meta_used) kept) × (M.marks metadata.new ≡ M.marks metadata.old)) }
     ensures used { OnOk result ((now kept next last : Contents) → M.stands metadata.old (D.state disk.old) now kept → M.stands metadata.new (D.state disk.new) next last
-        → device_of id now.volumes ≡ None → length now.volumes < 65536 → misses_origin origin.now now ≡ false → next.meta_used ≤ now.meta_used + blocks_of_new origin.now) }
+        → device_of id now.volumes ≡ None → devices_in now.volumes < 65536 → misses_origin origin.now now ≡ false → CountsBlocks origin.now now.held_root
+        → next.meta_used ≤ now.meta_used + blocks_of_new origin.now) }
 {
     match origin {
         Some(origin) => metadata.snapshot(disk, *origin, id),
@@ -83,7 +84,7 @@ fn enlarge<D: Disk, M: Metadata>(
         (λ done now kept. StandsWith M.stands M.marks metadata.new (D.state disk.new) now kept (resized id (size_for (M.geometry metadata.old) blocks) now.volumes) (M.marks metadata.old)) }
     ensures used { (blocks ≡ present → ⊥) → OnOk result ((now kept next last : Contents) → M.stands metadata.old (D.state disk.old) now kept → M.stands metadata.new (D.state disk.new) next last
         → IsSome (device_of id now.volumes) → IsToldSize (M.geometry metadata.old) (size_for (M.geometry metadata.old) blocks)
-        → ((size : ℕ) → size_of id now.volumes ≡ Some size → told_blocks (M.geometry metadata.old) size ≤ blocks) → next.meta_used ≤ now.meta_used + 1) }
+        → ((size : ℕ) → size_of id now.volumes ≡ Some size → told_blocks (M.geometry metadata.old) size ≤ blocks) → now.held_root ≡ 0 → next.meta_used ≤ now.meta_used + 1) }
 {
     if blocks == present {
         return Ok(());
@@ -98,6 +99,7 @@ impl<D: Disk, M: Metadata> Pool<D, M> {
         ensures told { IfOk result (λ answer. (now kept : Contents) → M.stands self.old.metadata self.old.disk now kept → misses_origin origin.now now ≡ not answer) }
         ensures wanted { IfOk result (λ answer. answer ≡ false → IsSome origin.now) }
         ensures damaged { result ≡ Err StoreError.Damaged → (now kept : Contents) → M.stands self.old.metadata self.old.disk now kept → ⊥ }
+        ensures low { IfSome origin.now (λ origin. origin < 2 ^ 24) }
     {
         match origin {
             Some(origin) => self.has(*origin),
@@ -111,6 +113,7 @@ impl<D: Disk, M: Metadata> Pool<D, M> {
         ensures told { (now kept : Contents) → M.stands self.old.metadata self.old.disk now kept → TestedSo result (new_tests id origin.now now) }
         ensures damaged { result ≡ Err Refusal.Damaged → (now kept : Contents) → M.stands self.old.metadata self.old.disk now kept → ⊥ }
         ensures only { IfErr result (λ reason. RefusesNew origin.now reason) }
+        ensures low { IfSome origin.now (λ origin. origin < 2 ^ 24) }
     {
         if !self.has_origin(origin)? {
             return Err(Refusal::NoSuchDevice);
@@ -132,7 +135,7 @@ impl<D: Disk, M: Metadata> Pool<D, M> {
         ensures tried { IsTried self.old self.new (create_call id origin.now) result }
         ensures flushes { HasFlushed M.geometry M.stands M.marks M.room self.old self.new.disk (create_call id origin.now) }
         ensures changes { HasChanged M.changed self.old.metadata self.new.metadata (create_call id origin.now) result }
-        ensures used { OnOk result (UsesAtMost M.geometry M.stands self.old self.new (blocks_of_new origin.now)) }
+        ensures used { OnOk result (UsesWhere M.geometry M.stands (CountsBlocks origin.now) self.old self.new (blocks_of_new origin.now)) }
         ensures held { self.new ≡ record self.old { disk = self.new.disk; metadata = self.new.metadata; mode = self.new.mode } }
         ensures geometry { M.geometry self.new.metadata ≡ M.geometry self.old.metadata }
     {
@@ -167,12 +170,13 @@ impl<D: Disk, M: Metadata> Pool<D, M> {
 
     /// Creates a volume with the sectors that another one has now, and shares its data blocks, and keeps it: Ok, or 21, 20, 15 (the origin),
     /// 14, 19, 18, 5. The origin may be held, and may be a snapshot itself. Where it is refused with 18, the pool wants a check from then
-    /// on and is read-only, which a commit keeps. Behind an Ok at most 3 metadata blocks more are in use, whatever the origin maps.
+    /// on and is read-only, which a commit keeps. Behind an Ok at most 3 metadata blocks more are in use, whatever the origin maps, where no
+    /// metadata root is held.
     pub fn create_snap(&mut self, id: DevId, origin: DevId) -> Result<(), Refusal>
         ensures called { PoolAnswered M.geometry M.stands self.old self.new (CreateSnap id origin) result }
         ensures answered { AnswersSo M.geometry M.stands self.old self.new (CreateSnap id origin) result }
         ensures flushes { FlushesSo M.geometry M.stands M.marks M.room M.changed self.old self.new (CreateSnap id origin) result }
-        ensures used { OnOk result (UsesAtMost M.geometry M.stands self.old self.new 3) }
+        ensures used { OnOk result (UsesUnheld M.geometry M.stands self.old self.new 3) }
         ensures held { self.new ≡ record self.old { disk = self.new.disk; metadata = self.new.metadata; mode = self.new.mode } }
         ensures geometry { M.geometry self.new.metadata ≡ M.geometry self.old.metadata }
     {
@@ -206,7 +210,7 @@ impl<D: Disk, M: Metadata> Pool<D, M> {
         ensures tried { IsTried self.old self.new (Delete id) result }
         ensures flushes { HasFlushed M.geometry M.stands M.marks M.room self.old self.new.disk (Delete id) }
         ensures changes { HasChanged M.changed self.old.metadata self.new.metadata (Delete id) result }
-        ensures used { OnOk result (UsesAtMost M.geometry M.stands self.old self.new 0) }
+        ensures used { OnOk result (UsesUnheld M.geometry M.stands self.old self.new 0) }
         ensures held { self.new ≡ record self.old { disk = self.new.disk; metadata = self.new.metadata; mode = self.new.mode } }
         ensures geometry { M.geometry self.new.metadata ≡ M.geometry self.old.metadata }
     {
@@ -214,19 +218,24 @@ impl<D: Disk, M: Metadata> Pool<D, M> {
             return Err(Refusal::ReadOnly);
         }
         self.test_old(id)?;
+        if lacks_for_removal(&self.metadata) {
+            return self.refuse_for_room();
+        }
         reclaim_metadata(&mut self.disk, &mut self.metadata)?;
         self.metadata.delete(&mut self.disk, id)?;
         keep(&mut self.disk, &mut self.metadata)
     }
 
-    /// Removes a volume that no session holds, and keeps that: Ok, or 21, 20, 15, 16, 5. Its data blocks are free again, but for those that
-    /// other volumes share with it. It is never refused for want of room, and behind an Ok no more metadata blocks are in use.
+    /// Removes a volume that no session holds, and keeps that: Ok, or 21, 20, 15, 16, 18, 5. Its data blocks are free again, but for those that
+    /// other volumes or a held copy share with it. It is refused for want of room only while a metadata root is held and fewer than 256 metadata blocks
+    /// are not in use: then the pool wants a check from then on and is read-only, which a commit keeps. Where no root is held, behind an Ok no more
+    /// metadata blocks are in use.
     pub fn delete(&mut self, id: DevId) -> Result<(), Refusal>
         ensures called { PoolAnswered M.geometry M.stands self.old self.new (Delete id) result }
         ensures answered { AnswersSo M.geometry M.stands self.old self.new (Delete id) result }
         ensures flushes { FlushesSo M.geometry M.stands M.marks M.room M.changed self.old self.new (Delete id) result }
-        ensures used { OnOk result (UsesAtMost M.geometry M.stands self.old self.new 0) }
-        ensures room { result ≡ Err Refusal.NoMetadataSpace → ⊥ }
+        ensures used { OnOk result (UsesUnheld M.geometry M.stands self.old self.new 0) }
+        ensures room { result ≡ Err Refusal.NoMetadataSpace → (s : PlainPool) → shows M.geometry M.stands self.old s → s.held_root ≡ 0 → ⊥ }
         ensures held { self.new ≡ record self.old { disk = self.new.disk; metadata = self.new.metadata; mode = self.new.mode } }
         ensures geometry { M.geometry self.new.metadata ≡ M.geometry self.old.metadata }
     {
@@ -260,7 +269,7 @@ impl<D: Disk, M: Metadata> Pool<D, M> {
         ensures tried { IsTried self.old self.new (Grow id blocks) result }
         ensures flushes { HasFlushed M.geometry M.stands M.marks M.room self.old self.new.disk (Grow id blocks) }
         ensures changes { HasChanged M.changed self.old.metadata self.new.metadata (Grow id blocks) result }
-        ensures used { OnOk result (UsesAtMost M.geometry M.stands self.old self.new 1) }
+        ensures used { OnOk result (UsesUnheld M.geometry M.stands self.old self.new 1) }
         ensures held { self.new ≡ record self.old { disk = self.new.disk; metadata = self.new.metadata; mode = self.new.mode } }
         ensures geometry { M.geometry self.new.metadata ≡ M.geometry self.old.metadata }
     {
@@ -286,12 +295,12 @@ impl<D: Disk, M: Metadata> Pool<D, M> {
 
     /// Gives a volume that nobody holds so many blocks, and keeps that: Ok, or 21, 20, 15, 16, 25 (fewer than it has, or more than 2^24), 18,
     /// 5. Those behind its old end have no data block; at its present size nothing changes. Where it is refused with 18, the pool wants a check
-    /// from then on and is read-only, which a commit keeps. Behind an Ok at most 1 metadata block more is in use.
+    /// from then on and is read-only, which a commit keeps. Behind an Ok at most 1 metadata block more is in use, where no metadata root is held.
     pub fn grow(&mut self, id: DevId, blocks: u64) -> Result<(), Refusal>
         ensures called { PoolAnswered M.geometry M.stands self.old self.new (Grow id blocks) result }
         ensures answered { AnswersSo M.geometry M.stands self.old self.new (Grow id blocks) result }
         ensures flushes { FlushesSo M.geometry M.stands M.marks M.room M.changed self.old self.new (Grow id blocks) result }
-        ensures used { OnOk result (UsesAtMost M.geometry M.stands self.old self.new 1) }
+        ensures used { OnOk result (UsesUnheld M.geometry M.stands self.old self.new 1) }
         ensures held { self.new ≡ record self.old { disk = self.new.disk; metadata = self.new.metadata; mode = self.new.mode } }
         ensures geometry { M.geometry self.new.metadata ≡ M.geometry self.old.metadata }
     {
@@ -340,6 +349,87 @@ impl<D: Disk, M: Metadata> Pool<D, M> {
             return Err(Refusal::Failed);
         }
         let answer = self.try_set_transaction_id(current, next);
+        self.settle(answer)
+    }
+
+    /// Holds the mapping of all volumes of a pool that works.
+    fn try_reserve(&mut self) -> Result<(), Refusal>
+        requires works { is_failed self.old.mode ≡ false }
+        ensures called { PoolTried M.geometry M.stands self.old self.new ReserveMetadataSnap result }
+        ensures tried { IsTried self.old self.new ReserveMetadataSnap result }
+        ensures flushes { HasFlushed M.geometry M.stands M.marks M.room self.old self.new.disk ReserveMetadataSnap }
+        ensures changes { HasChanged M.changed self.old.metadata self.new.metadata ReserveMetadataSnap result }
+        ensures used { OnOk result (UsesAtMost M.geometry M.stands self.old self.new 0) }
+        ensures held { self.new ≡ record self.old { disk = self.new.disk; metadata = self.new.metadata; mode = self.new.mode } }
+        ensures geometry { M.geometry self.new.metadata ≡ M.geometry self.old.metadata }
+    {
+        if is_read_only(self.mode) {
+            return Err(Refusal::ReadOnly);
+        }
+        if holds_root(&self.metadata) {
+            return Err(Refusal::HeldRootExists);
+        }
+        if lacks_metadata(&self.metadata) {
+            return self.refuse_for_room();
+        }
+        self.metadata.reserve()?;
+        keep(&mut self.disk, &mut self.metadata)
+    }
+
+    /// Holds the mapping of all volumes as it is now, and keeps that: Ok, or 21, 20, 26 (one is held already), 18, 5. Until it is given up, what the
+    /// volumes have now is read by `held_read`, whatever becomes of them. Where it is refused with 18, the pool wants a check from then on and
+    /// is read-only, which a commit keeps. Behind an Ok no more metadata blocks are in use.
+    pub fn reserve_metadata_snap(&mut self) -> Result<(), Refusal>
+        ensures called { PoolAnswered M.geometry M.stands self.old self.new ReserveMetadataSnap result }
+        ensures answered { AnswersSo M.geometry M.stands self.old self.new ReserveMetadataSnap result }
+        ensures flushes { FlushesSo M.geometry M.stands M.marks M.room M.changed self.old self.new ReserveMetadataSnap result }
+        ensures used { OnOk result (UsesAtMost M.geometry M.stands self.old self.new 0) }
+        ensures held { self.new ≡ record self.old { disk = self.new.disk; metadata = self.new.metadata; mode = self.new.mode } }
+        ensures geometry { M.geometry self.new.metadata ≡ M.geometry self.old.metadata }
+    {
+        if is_failed(self.mode) {
+            return Err(Refusal::Failed);
+        }
+        let answer = self.try_reserve();
+        self.settle(answer)
+    }
+
+    /// Gives up what a pool that works holds of its mapping.
+    fn try_release(&mut self) -> Result<(), Refusal>
+        requires works { is_failed self.old.mode ≡ false }
+        ensures called { PoolTried M.geometry M.stands self.old self.new ReleaseMetadataSnap result }
+        ensures tried { IsTried self.old self.new ReleaseMetadataSnap result }
+        ensures flushes { HasFlushed M.geometry M.stands M.marks M.room self.old self.new.disk ReleaseMetadataSnap }
+        ensures changes { HasChanged M.changed self.old.metadata self.new.metadata ReleaseMetadataSnap result }
+        ensures used { OnOk result (UsesAtMost M.geometry M.stands self.old self.new 0) }
+        ensures held { self.new ≡ record self.old { disk = self.new.disk; metadata = self.new.metadata; mode = self.new.mode } }
+        ensures geometry { M.geometry self.new.metadata ≡ M.geometry self.old.metadata }
+    {
+        if is_read_only(self.mode) {
+            return Err(Refusal::ReadOnly);
+        }
+        if !holds_root(&self.metadata) {
+            return Err(Refusal::NoHeldRoot);
+        }
+        self.metadata.release(&mut self.disk)?;
+        keep(&mut self.disk, &mut self.metadata)
+    }
+
+    /// Gives up the mapping that is held, and keeps that: Ok, or 21, 20, 27 (none is held), 5. What no volume has is free again. It is never
+    /// refused for want of room, and behind an Ok no more metadata blocks are in use.
+    pub fn release_metadata_snap(&mut self) -> Result<(), Refusal>
+        ensures called { PoolAnswered M.geometry M.stands self.old self.new ReleaseMetadataSnap result }
+        ensures answered { AnswersSo M.geometry M.stands self.old self.new ReleaseMetadataSnap result }
+        ensures flushes { FlushesSo M.geometry M.stands M.marks M.room M.changed self.old self.new ReleaseMetadataSnap result }
+        ensures used { OnOk result (UsesAtMost M.geometry M.stands self.old self.new 0) }
+        ensures room { result ≡ Err Refusal.NoMetadataSpace → ⊥ }
+        ensures held { self.new ≡ record self.old { disk = self.new.disk; metadata = self.new.metadata; mode = self.new.mode } }
+        ensures geometry { M.geometry self.new.metadata ≡ M.geometry self.old.metadata }
+    {
+        if is_failed(self.mode) {
+            return Err(Refusal::Failed);
+        }
+        let answer = self.try_release();
         self.settle(answer)
     }
 }

@@ -205,6 +205,7 @@ impl<D: Disk, M: Metadata> Pool<D, M> {
         ensures held { self.new ≡ record self.old { disk = after_read (not (errors.is_fault result)) self.old.disk } }
         ensures told { IfOk result (λ answer. (now kept : Contents) → M.stands self.old.metadata self.old.disk now kept → answer ≡ is_some (device_of id now.volumes)) }
         ensures damaged { result ≡ Err StoreError.Damaged → (now kept : Contents) → M.stands self.old.metadata self.old.disk now kept → ⊥ }
+        ensures low { id < 2 ^ 24 }
     {
         let mapped = self.metadata.mapped(&mut self.disk, id)?;
         Ok(mapped.is_some())
@@ -244,6 +245,7 @@ impl<D: Disk, M: Metadata> Pool<D, M> {
             &mut self.disk,
             &self.metadata,
             &self.blocks,
+            false,
             id,
             sector,
             out,

@@ -1,24 +1,32 @@
 //! Ranges of sectors of a volume are looked up by runs of blocks, and read in one call where their data blocks follow one another.
-ghost use Rattle.std.specs.Prelude.{◌≡◌, ◌+◌, ◌*◌, ◌/◌, ◌%◌, ◌<◌, ◌≤◌, ℕ, length, not, true, IfErr, IfSome, IsTrue, OnOk, Ok, is_some};
+ghost use Rattle.std.specs.Prelude.{◌≡◌, ◌+◌, ◌*◌, ◌/◌, ◌%◌, ◌^◌, ◌<◌, ◌≤◌, ℕ, length, not, true, IfErr, IfSome, IsTrue, MatchResult, None, OnOk, Ok, is_some, slice_index_or};
 ghost use Rattle.std.specs.List.{concat};
 ghost use Rattle.tp_model.specs.Geometry.{IsWithinLimits, sectors_of_image};
+ghost use Rattle.tp_model.specs.Sectors.{sectors_of};
+ghost use Rattle.tp_model.specs.Pool.{copy_id};
+ghost use Rattle.tp_model.specs.Calls.{Gave, HeldRead, Refused};
+ghost use Rattle.tp_model.specs.Clauses.{EndsInVolume, Flushes, IsAnswered};
+ghost use Rattle.tp_model.specs.Refusals as refusals;
 ghost use Rattle.tp_counts.specs.StoreErrors.{is_fault};
 ghost use Rattle.tp_model.specs.Disk.{after_read, seen};
 ghost use Rattle.tp_sharing.specs.Volumes.{Volumes, device_of};
 ghost use Rattle.tp_stored.specs.Contents.{Contents};
-ghost use Rattle.tp_meta.specs.Metadata.{LooksUp};
+ghost use Rattle.tp_meta.specs.Metadata.{AreInside, LooksUp};
 ghost use Rattle.tp_shown.specs.Shown.{values_at};
-ghost use Rattle.tp_pool.specs.Held.{Fits};
+ghost use Rattle.tp_pool.specs.Held.{Fits, PoolCalled, PoolRefused, view};
+ghost use Rattle.tp_pool.specs.Flushes.{served};
 ghost use Rattle.tp_pool.specs.Writing.{old_place};
-ghost use Rattle.tp_pool.specs.Reading.{IsRun};
+ghost use Rattle.tp_pool.specs.Reading.{ArePlaced, IsRun, copied_home, id_read};
 
+use crate::pool::{Pool, is_failed};
+use crate::room::holds_root;
 use crate::sectors::{MOST_BLOCKS, SECTOR, first_of, index_of, part_of, touched};
 use crate::together::{Purpose, together};
 use tp_blocks::Blocks;
 use tp_counts::StoreError;
 use tp_disk::{Disk, Fault};
 use tp_meta::{Home, Metadata};
-use tp_model::{DevId, Geometry};
+use tp_model::{DevId, Geometry, Pb, Refusal, Vb};
 
 /// As many sectors as are looked up at once.
 const MOST_SECTORS: u64 = 2048;
@@ -55,12 +63,84 @@ fn read_part<D: Disk>(
     }
 }
 
-/// Reads at most 2048 sectors of a volume from this one on, until `out` is full: one look-up tells where all of their blocks stand, and
-/// whether there is such a volume. Where there is none, `out` may hold anything.
+/// What is told of a block of a held copy.
+fn copied_home(place: Option<Pb>) -> Option<Home>
+    ensures { result ≡ copied_home place }
+{
+    let Some(place) = place else {
+        return None;
+    };
+    Some(Home {
+        place,
+        is_shared: true,
+        is_hot: false,
+    })
+}
+
+/// What is told of each block of a held copy.
+fn copied_homes(places: &[Option<Pb>], homes: &mut [Option<Home>])
+    requires { length homes.old ≡ length places.now }
+    ensures length { length homes.new ≡ length homes.old }
+    ensures value { (i : ℕ) → i < length homes.old → slice_index_or homes.new i None ≡ copied_home (slice_index_or places.now i None) }
+{
+    for i in 0..homes.len() {
+        homes[i] = copied_home(places[i]);
+    }
+}
+
+/// Looks up the blocks of the held copy of a volume from `first` on, one for each place. It tells whether there is such a copy.
+fn look_up_copy<D: Disk, M: Metadata>(
+    disk: &mut D,
+    metadata: &M,
+    id: DevId,
+    first: Vb,
+    homes: &mut [Option<Home>],
+) -> Result<bool, StoreError>
+    requires disk { sectors_of_image (M.geometry metadata.now) ≤ (D.state disk.old).size }
+    requires few { length homes.old ≤ 17 }
+    requires run { first + length homes.old ≤ 2 ^ 24 }
+    ensures length { length homes.new ≡ length homes.old }
+    ensures looked { LooksUp (M.stands metadata.now) (D.state disk.old) (D.state disk.new) result (λ is_there now. (is_there ≡ is_some (device_of (copy_id id) now.volumes))
+        × ArePlaced (copy_id id) first now.volumes (length homes.old) homes.new) }
+    ensures inside { OnOk result (AreInside (M.geometry metadata.now).data_blocks (length homes.old) homes.new) }
+{
+    let mut found = [None; MOST_BLOCKS];
+    let places = &mut found[..homes.len()];
+    let is_there = metadata.held_run(disk, id, first, places)?;
+    copied_homes(places, homes);
+    Ok(is_there)
+}
+
+/// Looks up the blocks of a volume from `first` on, or of its held copy, one for each place. It tells whether there is such a volume.
+fn look_up_places<D: Disk, M: Metadata>(
+    disk: &mut D,
+    metadata: &M,
+    is_copy: bool,
+    id: DevId,
+    first: Vb,
+    homes: &mut [Option<Home>],
+) -> Result<bool, StoreError>
+    requires disk { sectors_of_image (M.geometry metadata.now) ≤ (D.state disk.old).size }
+    requires few { length homes.old ≤ 17 }
+    requires run { first + length homes.old ≤ 2 ^ 24 }
+    ensures length { length homes.new ≡ length homes.old }
+    ensures looked { LooksUp (M.stands metadata.now) (D.state disk.old) (D.state disk.new) result (λ is_there now. (is_there ≡ is_some (device_of (id_read is_copy id) now.volumes))
+        × ArePlaced (id_read is_copy id) first now.volumes (length homes.old) homes.new) }
+    ensures inside { OnOk result (AreInside (M.geometry metadata.now).data_blocks (length homes.old) homes.new) }
+{
+    if is_copy {
+        return look_up_copy(disk, metadata, id, first, homes);
+    }
+    metadata.look_up_run(disk, id, first, homes)
+}
+
+/// Reads at most 2048 sectors of a volume from this one on, or of its held copy, until `out` is full: one look-up tells where all of their blocks
+/// stand, and whether there is such a volume. Where there is none, `out` may hold anything.
 fn read_piece<D: Disk, M: Metadata>(
     disk: &mut D,
     metadata: &M,
     blocks: &Blocks,
+    is_copy: bool,
     id: DevId,
     sector: u64,
     out: &mut [u8],
@@ -71,9 +151,9 @@ fn read_piece<D: Disk, M: Metadata>(
     requires most { length out.old / 512 ≤ 2048 }
     requires within { Fits (M.geometry metadata.now) (sector + length out.old / 512) }
     ensures length { length out.new ≡ length out.old }
-    ensures looked { LooksUp (M.stands metadata.now) (D.state disk.old) (D.state disk.new) result (λ is_there now. is_there ≡ is_some (device_of id now.volumes)) }
+    ensures looked { LooksUp (M.stands metadata.now) (D.state disk.old) (D.state disk.new) result (λ is_there now. is_there ≡ is_some (device_of (id_read is_copy id) now.volumes)) }
     ensures bytes { result ≡ Ok true → (now kept : Contents) → M.stands metadata.now (D.state disk.old) now kept
-        → out.new ≡ concat (values_at (M.geometry metadata.now) now.volumes (seen (D.state disk.old).cells) id sector (length out.old / 512)) }
+        → out.new ≡ concat (values_at (M.geometry metadata.now) now.volumes (seen (D.state disk.old).cells) (id_read is_copy id) sector (length out.old / 512)) }
     ensures limits { IsWithinLimits (M.geometry metadata.now) }
 {
     let geometry = metadata.geometry();
@@ -81,7 +161,7 @@ fn read_piece<D: Disk, M: Metadata>(
     let first = first_of(&geometry, sector, count);
     let mut places = [None; MOST_BLOCKS];
     let homes = &mut places[..touched(&geometry, sector, count)];
-    if !metadata.look_up_run(disk, id, first, homes)? {
+    if !look_up_places(disk, metadata, is_copy, id, first, homes)? {
         return Ok(false);
     }
     let mut done = 0;
@@ -108,12 +188,13 @@ fn read_piece<D: Disk, M: Metadata>(
     Ok(true)
 }
 
-/// Reads sectors of a volume from this one on, until `out` is full. It tells whether there is such a volume; where there is none, `out`
-/// may hold anything.
+/// Reads sectors of a volume from this one on, or of its held copy, until `out` is full. It tells whether there is such a volume; where there is
+/// none, `out` may hold anything.
 pub(crate) fn read_range<D: Disk, M: Metadata>(
     disk: &mut D,
     metadata: &M,
     blocks: &Blocks,
+    is_copy: bool,
     id: DevId,
     sector: u64,
     out: &mut [u8],
@@ -123,9 +204,9 @@ pub(crate) fn read_range<D: Disk, M: Metadata>(
     requires whole { length out.old % 512 ≡ 0 }
     requires within { Fits (M.geometry metadata.now) (sector + length out.old / 512) }
     ensures length { length out.new ≡ length out.old }
-    ensures looked { LooksUp (M.stands metadata.now) (D.state disk.old) (D.state disk.new) result (λ is_there now. is_there ≡ is_some (device_of id now.volumes)) }
+    ensures looked { LooksUp (M.stands metadata.now) (D.state disk.old) (D.state disk.new) result (λ is_there now. is_there ≡ is_some (device_of (id_read is_copy id) now.volumes)) }
     ensures bytes { result ≡ Ok true → (now kept : Contents) → M.stands metadata.now (D.state disk.old) now kept
-        → out.new ≡ concat (values_at (M.geometry metadata.now) now.volumes (seen (D.state disk.old).cells) id sector (length out.old / 512)) }
+        → out.new ≡ concat (values_at (M.geometry metadata.now) now.volumes (seen (D.state disk.old).cells) (id_read is_copy id) sector (length out.old / 512)) }
 {
     let count = out.len() as u64 / SECTOR;
     let mut done = count.min(MOST_SECTORS);
@@ -133,6 +214,7 @@ pub(crate) fn read_range<D: Disk, M: Metadata>(
         disk,
         metadata,
         blocks,
+        is_copy,
         id,
         sector,
         &mut out[..(SECTOR * done) as usize],
@@ -145,6 +227,7 @@ pub(crate) fn read_range<D: Disk, M: Metadata>(
             disk,
             metadata,
             blocks,
+            is_copy,
             id,
             sector + done,
             &mut out[from..to],
@@ -152,4 +235,45 @@ pub(crate) fn read_range<D: Disk, M: Metadata>(
         done += part;
     }
     Ok(is_there)
+}
+
+impl<D: Disk, M: Metadata> Pool<D, M> {
+    /// Reads sectors that a volume had when the mapping that is held was reserved, whatever has become of the volume since: Ok, or 21, 27 (none is
+    /// held), 15, 5, 2. The range lies in the volume as it was; where nobody knows its size, one that lies in the pool's own size will do. It writes
+    /// nothing.
+    pub fn held_read(&mut self, id: DevId, sector: u64, out: &mut [u8]) -> Result<(), Refusal>
+        requires whole { length out.old % 512 ≡ 0 }
+        requires range { EndsInVolume (view M.geometry M.stands) self.old (copy_id id) (sector + length out.old / 512) }
+        ensures called { MatchResult result
+            (λ _. PoolCalled M.geometry M.stands self.old self.new (HeldRead id sector (length out.old / 512)) (Gave (sectors_of out.new)))
+            (λ reason. PoolRefused M.geometry M.stands self.old self.new (HeldRead id sector (length out.old / 512)) reason) }
+        ensures length { length out.new ≡ length out.old }
+        ensures answered { MatchResult result
+            (λ _. IsAnswered (view M.geometry M.stands) self.old self.new (HeldRead id sector (length out.old / 512)) (Gave (sectors_of out.new)))
+            (λ reason. IsAnswered (view M.geometry M.stands) self.old self.new (HeldRead id sector (length out.old / 512)) (Refused reason)) }
+        ensures flushes { MatchResult result
+            (λ _. Flushes (served M.geometry M.stands M.marks M.room M.changed) self.old self.new (HeldRead id sector (length out.old / 512)) (Gave (sectors_of out.new)))
+            (λ reason. Flushes (served M.geometry M.stands M.marks M.room M.changed) self.old self.new (HeldRead id sector (length out.old / 512)) (Refused reason)) }
+        ensures held { self.new ≡ record self.old { disk = after_read (not (refusals.is_fault result)) self.old.disk } }
+    {
+        if is_failed(self.mode) {
+            return Err(Refusal::Failed);
+        }
+        if !holds_root(&self.metadata) {
+            return Err(Refusal::NoHeldRoot);
+        }
+        let is_there = read_range(
+            &mut self.disk,
+            &self.metadata,
+            &self.blocks,
+            true,
+            id,
+            sector,
+            out,
+        )?;
+        if !is_there {
+            return Err(Refusal::NoSuchDevice);
+        }
+        Ok(())
+    }
 }

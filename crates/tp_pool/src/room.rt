@@ -1,5 +1,5 @@
 //! The room that a write takes, and the commit that frees some.
-ghost use Rattle.std.specs.Prelude.{◌≡◌, ◌⊎◌, ◌+◌, ◌/◌, ◌<◌, ◌≤◌, ◌^◌, ◌↔◌, ◌&&◌, nat_le, nat_lt, ℕ, Bool, List, IsTrue, length, Err, IfErr, IfOk, Ok, OnOk, if◌then◌else◌, false, is_err, true};
+ghost use Rattle.std.specs.Prelude.{◌≡◌, ◌⊎◌, ◌+◌, ◌/◌, ◌<◌, ◌≤◌, ◌^◌, ◌↔◌, ◌&&◌, ◌==◌, nat_le, nat_lt, not, ℕ, Bool, List, IsTrue, length, Err, IfErr, IfOk, Ok, OnOk, if◌then◌else◌, false, is_err, true};
 ghost use Rattle.tp_model.specs.Geometry.{Geometry, sectors_of_image};
 ghost use Rattle.tp_model.specs.Calls.{WriteZeroes};
 ghost use Rattle.tp_model.specs.Refusals.{is_fault};
@@ -11,7 +11,7 @@ ghost use Rattle.tp_meta.specs.Metadata.{AreInside, AreTold, IsLater, RanWithFlu
 ghost use Rattle.tp_stored.specs.Contents.{Contents};
 ghost use Rattle.tp_shown.specs.Shown.{blocks_touched, blocks_wanted, blocks_wanted_by};
 ghost use Rattle.tp_pool.specs.Held.{Fits, most_sectors};
-ghost use Rattle.tp_pool.specs.Writing.{IsAsBefore, IsKept, IsReclaiming, LacksBlocks, LacksMetadata, blocks_taken, blocks_taken_by, told_taken, told_wanted};
+ghost use Rattle.tp_pool.specs.Writing.{IsAsBefore, IsKept, IsReclaiming, LacksBlocks, LacksForRemoval, LacksMetadata, blocks_taken, blocks_taken_by, told_taken, told_wanted};
 ghost use Rattle.tp_pool.specs.Zeroing.{told_owned};
 
 use crate::sectors::{block_of, covered};
@@ -27,6 +27,9 @@ const DELETE_ROOM: u32 = 16;
 
 /// A trim wants so many.
 pub(crate) const TRIM_ROOM: u32 = 256;
+
+/// The removal of a volume wants so many while a metadata root is held, since it copies nodes that the held one shares.
+const REMOVAL_ROOM: u32 = 256;
 
 /// How many of the blocks of a request have no data block of their own, and how many are to be written to a new one.
 #[derive(Clone, Copy)]
@@ -53,6 +56,23 @@ pub(crate) fn lacks_metadata<M: Metadata>(metadata: &M) -> bool
         → IsTrue result ↔ LacksMetadata (M.geometry metadata.now) now }
 {
     lacks(metadata, METADATA_ROOM)
+}
+
+/// Whether a metadata root is held.
+pub(crate) fn holds_root<M: Metadata>(metadata: &M) -> bool
+    ensures { (disk : DiskState) (now kept : Contents) → M.stands metadata.now disk now kept → result ≡ not (now.held_root == 0) }
+{
+    metadata.held_root() != 0
+}
+
+/// Whether a metadata root is held, and fewer metadata blocks are not in use than the removal of a volume wants then.
+pub(crate) fn lacks_for_removal<M: Metadata>(metadata: &M) -> bool
+    ensures { (disk : DiskState) (now kept : Contents) → M.stands metadata.now disk now kept
+        → IsTrue result ↔ LacksForRemoval (M.geometry metadata.now) now }
+{
+    let is_held = holds_root(metadata);
+    let is_short = lacks(metadata, REMOVAL_ROOM);
+    is_held && is_short
 }
 
 fn wants_block(home: &Option<Home>) -> bool

@@ -39,7 +39,7 @@ fn read_parts<D: SharedDisk, M: Metadata>(
         return false;
     }
     let mut reader = SharedReader::new(disk);
-    read_range(&mut reader, metadata, blocks, id, sector, out).unwrap_or(false)
+    read_range(&mut reader, metadata, blocks, false, id, sector, out).unwrap_or(false)
 }
 
 impl<M: Metadata> Besides<M> {

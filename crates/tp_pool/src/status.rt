@@ -50,6 +50,7 @@ impl<D: Disk, M: Metadata> Pool<D, M> {
             data_blocks: geometry.data_blocks(),
             mode: self.mode,
             needs_check: self.metadata.needs_check(),
+            held_root: self.metadata.held_root(),
         }
     }
 

@@ -6,8 +6,8 @@ use tp_model::{DevId, Geometry, Refusal};
 use tp_msg::{Message, read_message};
 use tp_samples::{
     MemPool, SECTOR, Stop, byte_at, create_snap, create_thin, delete, example, grow, has_line,
-    has_volume_line, set_transaction_id, told_of_empty, told_of_example, told_of_restarted,
-    volume_blocks, write,
+    has_volume_line, held_byte_at, release, reserve, set_transaction_id, told_of_empty,
+    told_of_example, told_of_restarted, volume_blocks, write,
 };
 
 const FRESH: &[u8] = b"0 9/2048 0/4 - rw no_discard_passdown error_if_no_space - 512";
@@ -20,6 +20,14 @@ const BOTH_WRITTEN: &[u8] =
 const FIRST_KEPT: &[u8] = b"0 10/2048 1/4 - rw no_discard_passdown error_if_no_space - 512";
 
 const TWICE_COPIED: &[u8] = b"0 11/2048 2/4 - rw no_discard_passdown error_if_no_space - 512";
+
+const HELD_EMPTY: &[u8] = b"0 9/2048 0/4 8 rw no_discard_passdown error_if_no_space - 512";
+
+const HELD_AND_CREATED: &[u8] = b"0 11/2048 0/4 8 rw no_discard_passdown error_if_no_space - 512";
+
+const HELD_AND_WRITTEN: &[u8] = b"0 12/2048 2/4 11 rw no_discard_passdown error_if_no_space - 512";
+
+const HELD_AND_DELETED: &[u8] = b"0 11/2048 1/4 11 rw no_discard_passdown error_if_no_space - 512";
 
 const FULL: &[u8] =
     b"0 10/2048 4/4 - out_of_data_space no_discard_passdown error_if_no_space - 512";
@@ -83,6 +91,8 @@ fn obey(pool: &mut MemPool, line: &[u8]) -> Result<(), Refusal> {
         Message::Delete { id } => delete(pool, id),
         Message::SetTransactionId { current, next } => set_transaction_id(pool, current, next),
         Message::Grow { id, blocks } => grow(pool, id, blocks),
+        Message::ReserveMetadataSnap => reserve(pool),
+        Message::ReleaseMetadataSnap => release(pool),
     }
 }
 
@@ -358,5 +368,109 @@ fn a_volume_grows_alone(rt: HostRuntime) -> Result<(), Fail> {
     ];
     let sizes = [Ok(32), Ok(16), Err(Refusal::NoSuchDevice)];
     assert_eq!(rt; told_of_growing(rt.alloc())?, (answers, sizes));
+    Ok(())
+}
+
+/// What holding a root, which the pool does or not, is answered twice, and whether the status line is right behind it.
+type Held = (Result<(), Refusal>, Result<(), Refusal>, bool);
+
+/// What holding a root and giving it up are answered, each twice, in a pool that gets a volume between.
+fn told_of_a_held_root(pool: &mut MemPool) -> Result<(Held, bool, Held), Refusal> {
+    let first = reserve(pool);
+    let reserved = (first, reserve(pool), has_line(pool, HELD_EMPTY));
+    create_thin(pool, DevId::new(0))?;
+    let created = has_line(pool, HELD_AND_CREATED);
+    let last = release(pool);
+    let released = (last, release(pool), has_line(pool, ONE_VOLUME));
+    Ok((reserved, created, released))
+}
+
+#[test]
+fn reserve_and_release(rt: HostRuntime) -> Result<(), Fail> {
+    let told = told_of_empty(rt.alloc(), sizes(4)?, told_of_a_held_root);
+    let reserved = (Ok(()), Err(Refusal::HeldRootExists), true);
+    let released = (Ok(()), Err(Refusal::NoHeldRoot), true);
+    assert_eq!(rt; told, Ok(Ok((reserved, true, released))));
+    Ok(())
+}
+
+/// Writes a byte, holds a root, and writes another byte at the same place.
+fn write_about_a_held_root(pool: &mut MemPool) -> Result<(), Refusal> {
+    fill_first(pool, DevId::new(0), 65)?;
+    reserve(pool)?;
+    fill_first(pool, DevId::new(0), 66)
+}
+
+/// What sector 0 of the held copy of volume 0, and of the volume, hold behind that, and whether the status line is right, and behind a release.
+fn told_of_a_held_block(
+    pool: &mut MemPool,
+) -> Result<(Option<u8>, Option<u8>, bool, bool), Refusal> {
+    write_about_a_held_root(pool)?;
+    let held = held_byte_at(pool, DevId::new(0), 0)?;
+    let now = byte_at(pool, DevId::new(0), 0)?;
+    let before = has_line(pool, HELD_AND_WRITTEN);
+    release(pool)?;
+    Ok((held, now, before, has_line(pool, FIRST_KEPT)))
+}
+
+#[test]
+fn held_copy_keeps_its_block(rt: HostRuntime) -> Result<(), Fail> {
+    let told = told_of_example(rt.alloc(), told_of_a_held_block);
+    assert_eq!(rt; told, Ok(Ok((Some(65), Some(66), true, true))));
+    Ok(())
+}
+
+/// What removing a volume of which a copy is held is answered, what sector 0 of the copy holds then, and whether the status line is right, and behind
+/// a release.
+fn told_of_a_removed_volume(
+    pool: &mut MemPool,
+) -> Result<(Result<(), Refusal>, Option<u8>, bool, bool), Refusal> {
+    fill_first(pool, DevId::new(0), 65)?;
+    reserve(pool)?;
+    let answer = delete(pool, DevId::new(0));
+    let held = held_byte_at(pool, DevId::new(0), 0)?;
+    let before = has_line(pool, HELD_AND_DELETED);
+    release(pool)?;
+    Ok((answer, held, before, has_line(pool, FRESH)))
+}
+
+#[test]
+fn held_copy_of_a_deleted_volume(rt: HostRuntime) -> Result<(), Fail> {
+    let told = told_of_example(rt.alloc(), told_of_a_removed_volume);
+    assert_eq!(rt; told, Ok(Ok((Ok(()), Some(65), true, true))));
+    Ok(())
+}
+
+/// What sector 0 of the held copies of volumes 0 and 1 is answered, and of volume 0.
+type Copies = (
+    Result<Option<u8>, Refusal>,
+    Result<Option<u8>, Refusal>,
+    Result<Option<u8>, Refusal>,
+);
+
+fn told_of_copies(pool: &mut MemPool) -> Copies {
+    (
+        held_byte_at(pool, DevId::new(0), 0),
+        held_byte_at(pool, DevId::new(1), 0),
+        byte_at(pool, DevId::new(0), 0),
+    )
+}
+
+/// What copies are told before a root is held, and, behind a write that is not flushed, by what a stop leaves with the oldest sectors.
+fn copies_about_a_stop(alloc: Global, pool: &mut MemPool) -> Result<(Copies, Copies), Fail> {
+    let before = told_of_copies(pool);
+    write_about_a_held_root(pool)?;
+    let left = told_of_restarted(alloc, pool.disk(), &Stop::Oldest, told_of_copies)?;
+    Ok((before, left))
+}
+
+#[test]
+fn stop_behind_a_held_root(rt: HostRuntime) -> Result<(), Fail> {
+    let alloc = rt.alloc();
+    let told = told_of_example(alloc, |pool| copies_about_a_stop(alloc, pool))??;
+    let none = Err(Refusal::NoHeldRoot);
+    let before = (none, none, Ok(Some(0)));
+    let left = (Ok(Some(65)), Err(Refusal::NoSuchDevice), Ok(Some(65)));
+    assert_eq!(rt; told, (before, left));
     Ok(())
 }

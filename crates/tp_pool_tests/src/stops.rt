@@ -7,8 +7,8 @@ use tp_check::check;
 use tp_disk::{Disk, MemDisk};
 use tp_model::{DevId, Geometry, Refusal};
 use tp_samples::{
-    MemPool, SECTOR, Stop, close, create_thin, fill_of, flush, formatted, opened, read, stopped,
-    write,
+    MemPool, SECTOR, Stop, close, create_thin, fill_of, flush, formatted, opened, read, release,
+    reserve, stopped, write,
 };
 
 /// Sectors of a volume, which has four blocks, and of both.
@@ -29,6 +29,9 @@ enum Step {
         count: usize,
         value: u8,
     },
+    /// A copy of the volumes is held, and given up.
+    Reserve,
+    Release,
     Flush,
 }
 
@@ -179,6 +182,14 @@ fn perform(pool: &mut MemPool, step: &Step, expected: &mut Expected) -> Result<(
             expected.try_write(volume, sector, count, value);
             fill_sectors(pool, volume, sector, count, value)?;
             expected.write(volume, sector, count, value);
+        }
+        Step::Reserve => {
+            reserve(pool)?;
+            expected.keep();
+        }
+        Step::Release => {
+            release(pool)?;
+            expected.keep();
         }
         Step::Flush => {
             flush(pool)?;
@@ -383,6 +394,30 @@ fn first_not_kept(alloc: Global, begin: &Run, steps: &[Step]) -> Result<Option<u
         }
     }
     Ok(None)
+}
+
+#[test]
+fn a_stop_about_a_held_root(rt: HostRuntime) -> Result<(), Fail> {
+    // Between the two messages a write in a mapped block gets another one.
+    let steps = [
+        Step::Reserve,
+        fill(5, 2),
+        fill(200, 3),
+        Step::Flush,
+        fill(5, 4),
+        Step::Release,
+        fill(5, 6),
+    ];
+    let stops = [
+        Stop::Oldest,
+        Stop::Newest,
+        Stop::NewestSlots,
+        Stop::OldestSlots,
+        Stop::Mixed(1),
+    ];
+    let wrong = first_wrong(rt.alloc(), &begun(rt.alloc())?, &steps, &stops)?;
+    assert_eq!(rt; wrong, None);
+    Ok(())
 }
 
 #[test]

@@ -5,14 +5,13 @@ use Rattle.tp_model.specs.declared.refusal.Refusal.{Refusal}
 use Rattle.tp_model.specs.declared.refusal.Refusal.TheVariants.{BadGeometry, Fault, Memory}
 use Rattle.tp_model.specs.Geometry.{Geometry, IsWithinLimits, sectors_of_image}
 use Rattle.tp_model.specs.Pool.{PlainPool}
-use Rattle.tp_model.specs.Calls.{Answer, Call, CreateSnap, CreateThin, Delete, Done, Grow, Line, Refused, SetTransactionId, Status, ThinStatus}
+use Rattle.tp_model.specs.Calls.{Answer, Call, Done, Line, Refused, Status, ThinStatus}
 use Rattle.tp_model.specs.Clauses.{IsOpened, Meets, View}
 use Rattle.tp_model.specs.Refusals.{is_fault as has_failed}
 use Rattle.tp_model.specs.Disk.{DiskState, FaultHasCause, IsSameDisk, IsSettled, after_read, seen}
 use Rattle.tp_model.specs.DiskStops.{LeavesOnly}
-use Rattle.tp_msg.specs.declared.message.Message.{Message}
-use Rattle.tp_msg.specs.declared.message.Message.TheVariants as message
 use Rattle.tp_msg.specs.Messages.{reading}
+use Rattle.tp_hub.specs.Runs.{call_of}
 use Rattle.tp_disk.specs.declared.file.FileDisk.{FileDisk}
 use Rattle.tp_disk.specs.File.{IsUntouched, file_state}
 use Rattle.tp_image.specs.Clean.{IsClean}
@@ -59,18 +58,10 @@ module _ {D : Type 0} (view : View D) where
   abbrev pub DoesNothing : D → D → Option (List ℕ) → Option (List ℕ) → Result (Unit {0}) Refusal → Refusal → Type 0
   DoesNothing old new told told' result reason = (result ≡ Err reason) × (new ≡ old) × Keeps told told'
 
-  -- A message is a call of the pool.
-  abbrev pub IsGiven : D → D → Message → Option (List ℕ) → Option (List ℕ) → Result (Unit {0}) Refusal → Type 0
-  IsGiven old new (message.CreateThin id) told told' result = PrintsCall old new (CreateThin id) told told' result
-  IsGiven old new (message.CreateSnap id origin) told told' result = PrintsCall old new (CreateSnap id origin) told told' result
-  IsGiven old new (message.SetTransactionId current next) told told' result = PrintsCall old new (SetTransactionId current next) told told' result
-  IsGiven old new (message.Delete id) told told' result = PrintsCall old new (Delete id) told told' result
-  IsGiven old new (message.Grow id blocks) told told' result = PrintsCall old new (Grow id blocks) told told' result
-
-  -- one message, from a line
+  -- one message, from a line: it is a call of the pool
   abbrev pub IsLineGiven : D → D → List ℕ → Option (List ℕ) → Option (List ℕ) → Result (Unit {0}) Refusal → Type 0
   IsLineGiven old new line told told' result = MatchResult (reading line)
-      (λ m. IsGiven old new m told told' result)
+      (λ m. PrintsCall old new (call_of m) told told' result)
       (λ reason. DoesNothing old new told told' result reason)
 
 -- the call that tells a status: the pool's, or a volume's

@@ -228,7 +228,7 @@ fn explain_message<W: fmt::Write>(
         Refusal::BadSyntax =>
             "its words are too many or too few, or one that should be a number is none",
         Refusal::UnknownMessage => {
-            "it begins with none of create_thin, create_snap, delete, grow and set_transaction_id"
+            "it begins with no message's name; `thinpool message --help` has them all"
         }
         Refusal::BadDeviceId => "a volume's id is at most 16777215",
         Refusal::Exists => "a volume of that id exists",
@@ -238,6 +238,8 @@ fn explain_message<W: fmt::Write>(
             "the pool's transaction id is another one; `thinpool status` tells it first"
         }
         Refusal::BadSize => "a volume never shrinks, and has at most 16777216 blocks",
+        Refusal::HeldRootExists => "a mapping is held already; release_metadata_snap gives it up",
+        Refusal::NoHeldRoot => "no mapping is held",
         Refusal::NoMetadataSpace => {
             "too few metadata blocks are free; delete a volume or a snapshot"
         }

@@ -1,14 +1,16 @@
 //! What the programs print: status lines, the answers to messages, and what a check finds.
 
 ghost use Rattle.std.specs.Prelude.{◌≡◌, ◌+◌, ◌++◌, ◌≤◌, length, take};
-ghost use Rattle.tp_model.specs.Calls.{CreateSnap, CreateThin, Delete, Grow, SetTransactionId, Status, ThinStatus};
+ghost use Rattle.tp_model.specs.Calls.{Status, ThinStatus};
+ghost use Rattle.tp_hub.specs.Runs.{call_of};
 ghost use Rattle.tp_served.specs.Served.{cached};
-ghost use Rattle.tp_program.specs.Images.{IsGiven, IsLineGiven, Prints, PrintsCall, PrintsCheck, newline, status_call};
+ghost use Rattle.tp_program.specs.Images.{IsLineGiven, Prints, PrintsCall, PrintsCheck, newline, status_call};
 
 use std::alloc::Global;
 use std::io::Write;
 use tp_check::check;
 use tp_disk::Disk;
+use tp_hub::apply;
 use tp_lines::send;
 use tp_meta::Metadata;
 use tp_model::{DevId, Refusal};
@@ -105,95 +107,17 @@ pub fn tell_status<D: Disk + Drop, M: Metadata + Drop, W: Write>(
     }
 }
 
-/// Creates a volume, and prints `ok`.
-fn create_thin<D: Disk + Drop, M: Metadata + Drop, W: Write>(
-    pool: &mut Served<D, M>,
-    id: DevId,
-    output: &mut W,
-) -> Result<(), Refusal>
-    ensures { PrintsCall (cached M.geometry M.stands M.marks M.room M.changed) pool.old pool.new (CreateThin id) (W.contents output.old) (W.contents output.new) result }
-{
-    match pool.create_thin(id) {
-        Ok(()) => print_line(output, b"ok"),
-        Err(reason) => Err(reason),
-    }
-}
-
-/// Creates a volume with what its origin has now, and prints `ok`.
-fn create_snap<D: Disk + Drop, M: Metadata + Drop, W: Write>(
-    pool: &mut Served<D, M>,
-    id: DevId,
-    origin: DevId,
-    output: &mut W,
-) -> Result<(), Refusal>
-    ensures { PrintsCall (cached M.geometry M.stands M.marks M.room M.changed) pool.old pool.new (CreateSnap id origin) (W.contents output.old) (W.contents output.new) result }
-{
-    match pool.create_snap(id, origin) {
-        Ok(()) => print_line(output, b"ok"),
-        Err(reason) => Err(reason),
-    }
-}
-
-/// Removes a volume, and prints `ok`.
-fn delete<D: Disk + Drop, M: Metadata + Drop, W: Write>(
-    pool: &mut Served<D, M>,
-    id: DevId,
-    output: &mut W,
-) -> Result<(), Refusal>
-    ensures { PrintsCall (cached M.geometry M.stands M.marks M.room M.changed) pool.old pool.new (Delete id) (W.contents output.old) (W.contents output.new) result }
-{
-    match pool.delete(id) {
-        Ok(()) => print_line(output, b"ok"),
-        Err(reason) => Err(reason),
-    }
-}
-
-/// Gives a volume this many blocks, and prints `ok`.
-fn grow<D: Disk + Drop, M: Metadata + Drop, W: Write>(
-    pool: &mut Served<D, M>,
-    id: DevId,
-    blocks: u64,
-    output: &mut W,
-) -> Result<(), Refusal>
-    ensures { PrintsCall (cached M.geometry M.stands M.marks M.room M.changed) pool.old pool.new (Grow id blocks) (W.contents output.old) (W.contents output.new) result }
-{
-    match pool.grow(id, blocks) {
-        Ok(()) => print_line(output, b"ok"),
-        Err(reason) => Err(reason),
-    }
-}
-
-/// Sets the transaction id, where it is `current`, and prints `ok`.
-fn set_transaction_id<D: Disk + Drop, M: Metadata + Drop, W: Write>(
-    pool: &mut Served<D, M>,
-    current: u64,
-    next: u64,
-    output: &mut W,
-) -> Result<(), Refusal>
-    ensures { PrintsCall (cached M.geometry M.stands M.marks M.room M.changed) pool.old pool.new (SetTransactionId current next) (W.contents output.old) (W.contents output.new) result }
-{
-    match pool.set_transaction_id(current, next) {
-        Ok(()) => print_line(output, b"ok"),
-        Err(reason) => Err(reason),
-    }
-}
-
-/// Gives a pool one message.
+/// Gives a pool one message, and prints `ok` where it is accepted.
 fn give<D: Disk + Drop, M: Metadata + Drop, W: Write>(
     pool: &mut Served<D, M>,
-    message: Message,
+    message: &Message,
     output: &mut W,
 ) -> Result<(), Refusal>
-    ensures { IsGiven (cached M.geometry M.stands M.marks M.room M.changed) pool.old pool.new message (W.contents output.old) (W.contents output.new) result }
+    ensures { PrintsCall (cached M.geometry M.stands M.marks M.room M.changed) pool.old pool.new (call_of message.now) (W.contents output.old) (W.contents output.new) result }
 {
-    match message {
-        Message::CreateThin { id } => create_thin(pool, id, output),
-        Message::CreateSnap { id, origin } => create_snap(pool, id, origin, output),
-        Message::SetTransactionId { current, next } => {
-            set_transaction_id(pool, current, next, output)
-        }
-        Message::Delete { id } => delete(pool, id, output),
-        Message::Grow { id, blocks } => grow(pool, id, blocks, output),
+    match apply(pool, message) {
+        Ok(()) => print_line(output, b"ok"),
+        Err(reason) => Err(reason),
     }
 }
 
@@ -206,7 +130,7 @@ pub fn give_line<D: Disk + Drop, M: Metadata + Drop, W: Write>(
     ensures { IsLineGiven (cached M.geometry M.stands M.marks M.room M.changed) pool.old pool.new line.now (W.contents output.old) (W.contents output.new) result }
 {
     match read_message(line.as_bytes()) {
-        Ok(message) => give(pool, message, output),
+        Ok(message) => give(pool, &message, output),
         Err(reason) => Err(reason),
     }
 }

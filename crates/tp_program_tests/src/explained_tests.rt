@@ -191,7 +191,15 @@ const POOL: &[Wrong] = &[
     ),
     (
         &["thinpool", "message", "told.img", "make_thin 1"],
-        "thinpool: 12 UnknownMessage\nthinpool: 'make_thin 1': it begins with none of create_thin, create_snap, delete, grow and set_transaction_id\n",
+        "thinpool: 12 UnknownMessage\nthinpool: 'make_thin 1': it begins with no message's name; `thinpool message --help` has them all\n",
+    ),
+    (
+        &["thinpool", "message", "told.img", "reserve_metadata_snap 1"],
+        "thinpool: 11 BadSyntax\nthinpool: 'reserve_metadata_snap 1': its words are too many or too few, or one that should be a number is none\n",
+    ),
+    (
+        &["thinpool", "message", "told.img", "release_metadata_snap"],
+        "thinpool: 27 NoHeldRoot\nthinpool: 'release_metadata_snap': no mapping is held\n",
     ),
     (
         &["thinpool", "message", "told.img", "grow 9 1"],

@@ -29,6 +29,14 @@ pub fn set_transaction_id(pool: &mut MemPool, current: u64, next: u64) -> Result
     pool.set_transaction_id(current, next)
 }
 
+pub fn reserve(pool: &mut MemPool) -> Result<(), Refusal> {
+    pool.reserve_metadata_snap()
+}
+
+pub fn release(pool: &mut MemPool) -> Result<(), Refusal> {
+    pool.release_metadata_snap()
+}
+
 pub fn flush(pool: &mut MemPool) -> Result<(), Refusal> {
     pool.flush()
 }

@@ -83,6 +83,16 @@ pub fn byte_at(pool: &mut MemPool, id: DevId, sector: u64) -> Result<Option<u8>,
     Ok(fill_of(&out))
 }
 
+/// The byte that fills a sector of the held copy of a volume, if one does.
+pub fn held_byte_at(pool: &mut MemPool, id: DevId, sector: u64) -> Result<Option<u8>, Refusal> {
+    let mut out = [255; SECTOR];
+    if sector >= pool.geometry().volume_sectors() {
+        return Err(Refusal::BadGeometry);
+    }
+    pool.held_read(id, sector, &mut out)?;
+    Ok(fill_of(&out))
+}
+
 /// Writes whole sectors of a volume, where it has them.
 pub fn write(pool: &mut MemPool, id: DevId, sector: u64, bytes: &[u8]) -> Result<(), Refusal> {
     let count = bytes.len() as u64 / 512;

@@ -99,6 +99,7 @@ same_opened g c p a b same o =
         transaction_id = h.transaction_id;
         needs_check = h.needs_check;
         meta_used = h.meta_used;
+        held_root = h.held_root;
         sizes = h.sizes;
         slots = h.slots;
         sectors = same_sectors g p a b same h.sectors;

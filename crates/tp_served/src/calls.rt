@@ -1,9 +1,9 @@
 //! The calls of a pool on a cache since a moment that the caller picks.
 ghost use Rattle.std.specs.Prelude.{◌≡◌, ◌≢◌, ◌/◌, ◌%◌, ◌+◌, ◌⊎◌, ◌<◌, ◌≤◌, length, IfErr, IfOk, MatchResult, OnOk, take};
 ghost use Rattle.tp_model.specs.Sectors.{sectors_of};
-ghost use Rattle.tp_model.specs.Pool.{PlainPool, hold_count, hold_total};
+ghost use Rattle.tp_model.specs.Pool.{PlainPool, copy_id, hold_count, hold_total};
 ghost use Rattle.tp_model.specs.declared.mode.Mode.TheVariants as mode;
-ghost use Rattle.tp_model.specs.Calls.{CreateSnap, CreateThin, Delete, Done, Flush, Found, Gave, Grow, Hold, LetGo, Line, NextId, Read, Refused, SetTransactionId, Sized, Status, ThinStatus, Trim, VolumeBlocks, Write, WriteZeroes};
+ghost use Rattle.tp_model.specs.Calls.{CreateSnap, CreateThin, Delete, Done, Flush, Found, Gave, Grow, HeldRead, Hold, LetGo, Line, NextId, Read, Refused, ReleaseMetadataSnap, ReserveMetadataSnap, SetTransactionId, Sized, Status, ThinStatus, Trim, VolumeBlocks, Write, WriteZeroes};
 ghost use Rattle.tp_model.specs.Clauses.{EndsInVolume, Meets};
 ghost use Rattle.tp_holders.specs.Holders.{holds_of};
 ghost use Rattle.tp_model.specs.Disk.{IsSettled};
@@ -51,6 +51,28 @@ pub(crate) fn read_on<D: Disk, M: Metadata, K: Start>(
     inside.facts();
     let mut pool = inside.begin::<K>();
     let answer = pool.read(id, sector, out);
+    let after = end(pool);
+    after.facts();
+    (after, answer)
+}
+
+pub(crate) fn held_read_on<D: Disk, M: Metadata, K: Start>(
+    inside: Inside<D, M>,
+    id: DevId,
+    sector: u64,
+    out: &mut [u8],
+) -> (Inside<D, M>, Result<(), Refusal>)
+    requires now { K.start ≡ inside.cache }
+    requires whole { length out.old % 512 ≡ 0 }
+    requires range { EndsInVolume (cached M.geometry M.stands M.marks M.room M.changed) inside (copy_id id) (sector + length out.old / 512) }
+    ensures length { length out.new ≡ length out.old }
+    ensures met { MatchResult result.1
+        (λ _. Meets (cached M.geometry M.stands M.marks M.room M.changed) inside result.0 (HeldRead id sector (length out.old / 512)) (Gave (sectors_of out.new)))
+        (λ reason. Meets (cached M.geometry M.stands M.marks M.room M.changed) inside result.0 (HeldRead id sector (length out.old / 512)) (Refused reason)) }
+{
+    inside.facts();
+    let mut pool = inside.begin::<K>();
+    let answer = pool.held_read(id, sector, out);
     let after = end(pool);
     after.facts();
     (after, answer)
@@ -296,6 +318,38 @@ pub(crate) fn grow_on<D: Disk, M: Metadata, K: Start>(
     inside.facts();
     let mut pool = inside.begin::<K>();
     let answer = pool.grow(id, blocks);
+    let after = end(pool);
+    after.facts();
+    (after, answer)
+}
+
+pub(crate) fn reserve_metadata_snap_on<D: Disk, M: Metadata, K: Start>(
+    inside: Inside<D, M>,
+) -> (Inside<D, M>, Result<(), Refusal>)
+    requires { K.start ≡ inside.cache }
+    ensures { MatchResult result.1
+        (λ _. Meets (cached M.geometry M.stands M.marks M.room M.changed) inside result.0 ReserveMetadataSnap Done)
+        (λ reason. Meets (cached M.geometry M.stands M.marks M.room M.changed) inside result.0 ReserveMetadataSnap (Refused reason)) }
+{
+    inside.facts();
+    let mut pool = inside.begin::<K>();
+    let answer = pool.reserve_metadata_snap();
+    let after = end(pool);
+    after.facts();
+    (after, answer)
+}
+
+pub(crate) fn release_metadata_snap_on<D: Disk, M: Metadata, K: Start>(
+    inside: Inside<D, M>,
+) -> (Inside<D, M>, Result<(), Refusal>)
+    requires { K.start ≡ inside.cache }
+    ensures { MatchResult result.1
+        (λ _. Meets (cached M.geometry M.stands M.marks M.room M.changed) inside result.0 ReleaseMetadataSnap Done)
+        (λ reason. Meets (cached M.geometry M.stands M.marks M.room M.changed) inside result.0 ReleaseMetadataSnap (Refused reason)) }
+{
+    inside.facts();
+    let mut pool = inside.begin::<K>();
+    let answer = pool.release_metadata_snap();
     let after = end(pool);
     after.facts();
     (after, answer)

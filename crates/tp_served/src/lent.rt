@@ -1,19 +1,20 @@
 //! A pool and the cache that it stands on, which are away for the time of a call.
 ghost use Rattle.std.specs.Prelude.{◌≡◌, ◌≢◌, ◌⊎◌, ◌+◌, ◌/◌, ◌%◌, ◌<◌, ◌≤◌, IfErr, IfOk, IsSome, IsTrue, MatchResult, OnOk, length, take};
 ghost use Rattle.tp_model.specs.Sectors.{sectors_of};
-ghost use Rattle.tp_model.specs.Pool.{PlainPool, hold_count, hold_total};
+ghost use Rattle.tp_model.specs.Pool.{PlainPool, copy_id, hold_count, hold_total};
 ghost use Rattle.tp_model.specs.Disk.{IsSettled};
 ghost use Rattle.tp_pool.specs.Held.{shows};
 ghost use Rattle.tp_holders.specs.Holders.{holds_of};
 ghost use Rattle.tp_model.specs.declared.mode.Mode.TheVariants as mode;
-ghost use Rattle.tp_model.specs.Calls.{CreateSnap, CreateThin, Delete, Done, Flush, Found, Gave, Grow, Hold, LetGo, Line, NextId, Read, Refused, SetTransactionId, Sized, Status, ThinStatus, Trim, VolumeBlocks, Write, WriteZeroes};
+ghost use Rattle.tp_model.specs.Calls.{CreateSnap, CreateThin, Delete, Done, Flush, Found, Gave, Grow, HeldRead, Hold, LetGo, Line, NextId, Read, Refused, ReleaseMetadataSnap, ReserveMetadataSnap, SetTransactionId, Sized, Status, ThinStatus, Trim, VolumeBlocks, Write, WriteZeroes};
 ghost use Rattle.tp_model.specs.Clauses.{EndsInVolume, Meets};
 ghost use Rattle.tp_served.specs.Served.{IsClosed, IsKnown, IsUnwritten, StaysInPlace, cached, disk_of, got, on_cache};
 
 use crate::calls::{
-    close_on, create_snap_on, create_thin_on, delete_on, flush_on, grow_on, hold_on, let_go_on,
-    next_id_on, read_on, set_transaction_id_on, status_on, thin_status_on, trim_on,
-    volume_blocks_on, write_on, write_zeroes_on,
+    close_on, create_snap_on, create_thin_on, delete_on, flush_on, grow_on, held_read_on, hold_on,
+    let_go_on, next_id_on, read_on, release_metadata_snap_on, reserve_metadata_snap_on,
+    set_transaction_id_on, status_on, thin_status_on, trim_on, volume_blocks_on, write_on,
+    write_zeroes_on,
 };
 use crate::inside::Inside;
 use std::marker::Brand;
@@ -60,6 +61,25 @@ impl<D: Disk + Drop, M: Metadata + Drop> Lent<D, M> {
     {
         let inside = self.inside.take().unwrap();
         let (after, answer) = read_on::<D, M, Brand>(inside, id, sector, out);
+        self.inside = Some(after);
+        answer
+    }
+
+    pub(crate) fn held_read(
+        &mut self,
+        id: DevId,
+        sector: u64,
+        out: &mut [u8],
+    ) -> Result<(), Refusal>
+        requires whole { length out.old % 512 ≡ 0 }
+        requires range { EndsInVolume (cached M.geometry M.stands M.marks M.room M.changed) (got self.old.inside self.old.there) (copy_id id) (sector + length out.old / 512) }
+        ensures length { length out.new ≡ length out.old }
+        ensures met { MatchResult result
+            (λ _. Meets (cached M.geometry M.stands M.marks M.room M.changed) (got self.old.inside self.old.there) (got self.new.inside self.new.there) (HeldRead id sector (length out.old / 512)) (Gave (sectors_of out.new)))
+            (λ reason. Meets (cached M.geometry M.stands M.marks M.room M.changed) (got self.old.inside self.old.there) (got self.new.inside self.new.there) (HeldRead id sector (length out.old / 512)) (Refused reason)) }
+    {
+        let inside = self.inside.take().unwrap();
+        let (after, answer) = held_read_on::<D, M, Brand>(inside, id, sector, out);
         self.inside = Some(after);
         answer
     }
@@ -234,6 +254,28 @@ impl<D: Disk + Drop, M: Metadata + Drop> Lent<D, M> {
     {
         let inside = self.inside.take().unwrap();
         let (after, answer) = grow_on::<D, M, Brand>(inside, id, blocks);
+        self.inside = Some(after);
+        answer
+    }
+
+    pub(crate) fn reserve_metadata_snap(&mut self) -> Result<(), Refusal>
+        ensures { MatchResult result
+            (λ _. Meets (cached M.geometry M.stands M.marks M.room M.changed) (got self.old.inside self.old.there) (got self.new.inside self.new.there) ReserveMetadataSnap Done)
+            (λ reason. Meets (cached M.geometry M.stands M.marks M.room M.changed) (got self.old.inside self.old.there) (got self.new.inside self.new.there) ReserveMetadataSnap (Refused reason)) }
+    {
+        let inside = self.inside.take().unwrap();
+        let (after, answer) = reserve_metadata_snap_on::<D, M, Brand>(inside);
+        self.inside = Some(after);
+        answer
+    }
+
+    pub(crate) fn release_metadata_snap(&mut self) -> Result<(), Refusal>
+        ensures { MatchResult result
+            (λ _. Meets (cached M.geometry M.stands M.marks M.room M.changed) (got self.old.inside self.old.there) (got self.new.inside self.new.there) ReleaseMetadataSnap Done)
+            (λ reason. Meets (cached M.geometry M.stands M.marks M.room M.changed) (got self.old.inside self.old.there) (got self.new.inside self.new.there) ReleaseMetadataSnap (Refused reason)) }
+    {
+        let inside = self.inside.take().unwrap();
+        let (after, answer) = release_metadata_snap_on::<D, M, Brand>(inside);
         self.inside = Some(after);
         answer
     }

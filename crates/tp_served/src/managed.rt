@@ -22,6 +22,14 @@ impl<D: Disk + Drop, M: Metadata + Drop> Managed for Served<D, M> {
         self.grow(id, blocks)
     }
 
+    fn reserve_metadata_snap(&mut self) -> Result<(), Refusal> {
+        self.reserve_metadata_snap()
+    }
+
+    fn release_metadata_snap(&mut self) -> Result<(), Refusal> {
+        self.release_metadata_snap()
+    }
+
     fn set_transaction_id(&mut self, current: u64, next: u64) -> Result<(), Refusal> {
         self.set_transaction_id(current, next)
     }

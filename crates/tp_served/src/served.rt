@@ -1,12 +1,12 @@
 //! The pool as programs use it.
 ghost use Rattle.std.specs.Prelude.{◌≡◌, ◌≢◌, ◌⊎◌, ◌+◌, ◌/◌, ◌%◌, ◌<◌, ◌≤◌, IfErr, IfOk, IsTrue, MatchResult, OnOk, length, take};
 ghost use Rattle.tp_model.specs.Sectors.{sectors_of};
-ghost use Rattle.tp_model.specs.Pool.{PlainPool, hold_count, hold_total};
+ghost use Rattle.tp_model.specs.Pool.{PlainPool, copy_id, hold_count, hold_total};
 ghost use Rattle.tp_model.specs.Disk.{IsSettled};
 ghost use Rattle.tp_pool.specs.Held.{shows};
 ghost use Rattle.tp_holders.specs.Holders.{holds_of};
 ghost use Rattle.tp_model.specs.declared.mode.Mode.TheVariants as mode;
-ghost use Rattle.tp_model.specs.Calls.{CreateSnap, CreateThin, Delete, Done, Flush, Found, Gave, Grow, Hold, LetGo, Line, NextId, Read, Refused, SetTransactionId, Sized, Status, ThinStatus, Trim, VolumeBlocks, Write, WriteZeroes};
+ghost use Rattle.tp_model.specs.Calls.{CreateSnap, CreateThin, Delete, Done, Flush, Found, Gave, Grow, HeldRead, Hold, LetGo, Line, NextId, Read, Refused, ReleaseMetadataSnap, ReserveMetadataSnap, SetTransactionId, Sized, Status, ThinStatus, Trim, VolumeBlocks, Write, WriteZeroes};
 ghost use Rattle.tp_model.specs.Clauses.{EndsInVolume, Meets};
 ghost use Rattle.tp_served.specs.Served.{IsClosed, IsKnown, IsUnwritten, StaysInPlace, cached, disk_of, on_cache};
 
@@ -63,6 +63,20 @@ impl<D: Disk + Drop, M: Metadata + Drop> Served<D, M> {
             (λ reason. Meets (cached M.geometry M.stands M.marks M.room M.changed) self.old self.new (Read id sector (length out.old / 512)) (Refused reason)) }
     {
         self.lent.read(id, sector, out)
+    }
+
+    /// Reads sectors that a volume had when the mapping that is held was reserved, whatever has become of the volume since: Ok, or 21,
+    /// 27 (none is held), 15, 5, 2. The range lies in the volume as it was; where nobody knows its size, one that lies in the pool's own size will
+    /// do. It writes nothing.
+    pub fn held_read(&mut self, id: DevId, sector: u64, out: &mut [u8]) -> Result<(), Refusal>
+        requires whole { length out.old % 512 ≡ 0 }
+        requires range { EndsInVolume (cached M.geometry M.stands M.marks M.room M.changed) self.old (copy_id id) (sector + length out.old / 512) }
+        ensures length { length out.new ≡ length out.old }
+        ensures met { MatchResult result
+            (λ _. Meets (cached M.geometry M.stands M.marks M.room M.changed) self.old self.new (HeldRead id sector (length out.old / 512)) (Gave (sectors_of out.new)))
+            (λ reason. Meets (cached M.geometry M.stands M.marks M.room M.changed) self.old self.new (HeldRead id sector (length out.old / 512)) (Refused reason)) }
+    {
+        self.lent.held_read(id, sector, out)
     }
 
     /// Writes at most 2048 sectors of a volume, and with `fua` keeps them: Ok, or 21, 15, 20, 18, 24, 5. The range lies in the
@@ -200,8 +214,9 @@ impl<D: Disk + Drop, M: Metadata + Drop> Served<D, M> {
         self.lent.create_snap(id, origin)
     }
 
-    /// Removes a volume that no session holds, and keeps that: Ok, or 21, 20, 15, 16, 5. Its data blocks are free again, but for those that
-    /// other volumes share with it. It is never refused for want of room.
+    /// Removes a volume that no session holds, and keeps that: Ok, or 21, 20, 15, 16, 18, 5. Its data blocks are free again, but for those that
+    /// other volumes or a held copy share with it. It is refused for want of room only while a metadata root is held: then the pool wants a check
+    /// from then on and is read-only, which a commit keeps.
     pub fn delete(&mut self, id: DevId) -> Result<(), Refusal>
         ensures { MatchResult result
             (λ _. Meets (cached M.geometry M.stands M.marks M.room M.changed) self.old self.new (Delete id) Done)
@@ -219,6 +234,27 @@ impl<D: Disk + Drop, M: Metadata + Drop> Served<D, M> {
             (λ reason. Meets (cached M.geometry M.stands M.marks M.room M.changed) self.old self.new (Grow id blocks) (Refused reason)) }
     {
         self.lent.grow(id, blocks)
+    }
+
+    /// Holds the mapping of all volumes as it is now, and keeps that: Ok, or 21, 20, 26 (one is held already), 18, 5. Until it is given up, what the
+    /// volumes have now is read by `held_read`, whatever becomes of them. Where it is refused with 18, the pool wants a check from then on and
+    /// is read-only, which a commit keeps.
+    pub fn reserve_metadata_snap(&mut self) -> Result<(), Refusal>
+        ensures { MatchResult result
+            (λ _. Meets (cached M.geometry M.stands M.marks M.room M.changed) self.old self.new ReserveMetadataSnap Done)
+            (λ reason. Meets (cached M.geometry M.stands M.marks M.room M.changed) self.old self.new ReserveMetadataSnap (Refused reason)) }
+    {
+        self.lent.reserve_metadata_snap()
+    }
+
+    /// Gives up the mapping that is held, and keeps that: Ok, or 21, 20, 27 (none is held), 5, 2. The data blocks that only it had are free again. It
+    /// is never refused for want of room.
+    pub fn release_metadata_snap(&mut self) -> Result<(), Refusal>
+        ensures { MatchResult result
+            (λ _. Meets (cached M.geometry M.stands M.marks M.room M.changed) self.old self.new ReleaseMetadataSnap Done)
+            (λ reason. Meets (cached M.geometry M.stands M.marks M.room M.changed) self.old self.new ReleaseMetadataSnap (Refused reason)) }
+    {
+        self.lent.release_metadata_snap()
     }
 
     /// Sets the transaction id, where it is `current`, and keeps it: Ok, or 21, 20, 17, 5.

@@ -60,7 +60,7 @@ impl<D: Disk + Drop, M: Metadata + Drop> Volumes for Served<D, M> {
         self.let_go(id);
     }
 
-    ghost laws = { served.laws M.geometry M.stands M.marks M.room M.changed M.trees (λ m disk now kept st. ((M.within m disk now kept st).limits, (M.within m disk now kept st).volumes_now)) M.bounded M.one };
+    ghost laws = { served.laws M.geometry M.stands M.marks M.room M.changed M.trees (λ m disk now kept st. ((M.within m disk now kept st).limits, (M.within m disk now kept st).volumes_now, (M.within m disk now kept st).copies)) M.bounded M.one };
 }
 
 impl<D: SharedDisk + Drop, M: Metadata + Drop> SharedVolumes for Served<D, M> {

@@ -33,6 +33,14 @@ pub(crate) fn set_transaction_id(
     pool.set_transaction_id(current, next)
 }
 
+pub(crate) fn reserve(pool: &mut MemServed) -> Result<(), Refusal> {
+    pool.reserve_metadata_snap()
+}
+
+pub(crate) fn release(pool: &mut MemServed) -> Result<(), Refusal> {
+    pool.release_metadata_snap()
+}
+
 pub(crate) fn flush(pool: &mut MemServed) -> Result<(), Refusal> {
     pool.flush()
 }

@@ -120,6 +120,19 @@ pub(crate) fn byte_at(pool: &mut MemServed, id: DevId, sector: u64) -> Result<u8
     Ok(out[0])
 }
 
+/// The byte that fills a sector of the held copy of a volume.
+pub(crate) fn held_byte_at(pool: &mut MemServed, id: DevId, sector: u64) -> Result<u8, Refusal> {
+    let mut out = [255; SECTOR];
+    if sector >= pool.geometry().volume_sectors() {
+        return Err(Refusal::BadGeometry);
+    }
+    pool.held_read(id, sector, &mut out)?;
+    if out != [out[0]; SECTOR] {
+        return Err(Refusal::Damaged);
+    }
+    Ok(out[0])
+}
+
 /// The byte that fills a sector of a volume, where a shared read gives it.
 pub(crate) fn shared_byte_at(pool: &MemServed, id: DevId, sector: u64) -> Option<u8> {
     let mut out = [255; SECTOR];

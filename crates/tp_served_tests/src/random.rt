@@ -1,28 +1,34 @@
-//! Random writes, trims, zeros, messages, flushes, stops and reopenings of a pool of up to twelve volumes in chains of snapshots, of which some grow, with
-//! few places for changed blocks, against plain arrays.
+//! Random writes, trims, zeros, messages, flushes, stops and reopenings of a pool of up to twelve volumes in chains of snapshots, of which some grow and
+//! all are held now and then, with few places for changed blocks, against plain arrays.
 
 ghost use Rattle.std.specs.Prelude.{◌<◌};
 
 use crate::calls::{
-    create_snap, create_thin, delete, flush, grow, set_transaction_id, volume_blocks,
+    create_snap, create_thin, delete, flush, grow, release, reserve, set_transaction_id,
+    volume_blocks,
 };
 use crate::pools::{
-    FEW, MemServed, SECTOR, byte_at, closed, formatted, is_clean, opened, trim, write, write_zeroes,
+    FEW, MemServed, SECTOR, byte_at, closed, formatted, held_byte_at, is_clean, opened, trim,
+    write, write_zeroes,
 };
 use crate::stops::stopped;
 use std::alloc::Global;
 use std::test::Fail;
 use tp_model::{DevId, Geometry, Refusal};
 
-/// Volumes; slots of them all, four of each; and sectors that are looked at, eight of each block.
+/// Volumes, and with the held copies of them, which stand behind; slots of them all, four of each; and sectors that are looked at, eight of each block.
 const VOLUMES: usize = 12;
 
-const SLOTS: usize = 48;
+const BOTH: usize = 24;
 
-const SEEN: usize = 384;
+const SLOTS: usize = 96;
 
-/// Data blocks of the pool.
+const SEEN: usize = 768;
+
+/// Data blocks of the pool, and their labels, with that of none.
 const ROOM: usize = 20;
+
+const LABELS: usize = 21;
 
 /// So many sectors of a volume from one on, and the value below 64 that fills them.
 #[derive(Clone, Copy)]
@@ -55,6 +61,8 @@ enum Step {
         current: u64,
         next: u64,
     },
+    Reserve,
+    Release,
     Flush,
     /// The pool is closed, and opened again.
     Reopen,
@@ -136,16 +144,19 @@ fn is_first(labels: &[u32; SLOTS], slot: usize) -> bool {
     label != 0
 }
 
-/// What is expected of a pool. A label names a data block; 0 is none.
+/// What is expected of a pool. A label is that of a data block, from 1 on; 0 is none.
 #[derive(Drop)]
 struct Expected {
-    exists: [bool; VOLUMES],
+    exists: [bool; BOTH],
     /// The blocks of each volume that there is.
-    sizes: [u32; VOLUMES],
+    sizes: [u32; BOTH],
+    /// Whether the volumes are held.
+    is_held: bool,
     /// The labels of the slots now and at the last commit.
     labels: [u32; SLOTS],
     kept: [u32; SLOTS],
-    last_label: u32,
+    /// Whether a slot lost the data block of a label since the last commit.
+    lost: [bool; LABELS],
     /// What the sectors hold that are looked at.
     now: [u8; SEEN],
     /// The values that a stop may leave of them, a bit each: the one at the last commit, and those written in its place since.
@@ -156,11 +167,12 @@ struct Expected {
 impl Expected {
     fn blank() -> Expected {
         Expected {
-            exists: [false; VOLUMES],
-            sizes: [4; VOLUMES],
+            exists: [false; BOTH],
+            sizes: [4; BOTH],
+            is_held: false,
             labels: [0; SLOTS],
             kept: [0; SLOTS],
-            last_label: 0,
+            lost: [false; LABELS],
             now: [0; SEEN],
             allowed: [1; SEEN],
             transaction_id: 0,
@@ -168,12 +180,13 @@ impl Expected {
     }
 
     fn has(&self, volume: usize) -> bool {
-        self.exists[volume % VOLUMES]
+        self.exists[volume % BOTH]
     }
 
     /// A commit.
     fn keep(&mut self) {
         self.kept = self.labels;
+        self.lost = [false; LABELS];
         for seen in 0..SEEN {
             self.allowed[seen] = bit(self.now[seen]);
         }
@@ -207,15 +220,27 @@ impl Expected {
         label == 0 || count_of(&self.labels, label) > 1
     }
 
-    /// Whether another slot had its data block at the last commit, and has it no more.
+    /// Whether a slot lost its data block since the last commit, which may be another one.
     fn is_hot(&self, slot: usize) -> bool {
-        let label = self.labels[slot % SLOTS];
-        for other in 0..SLOTS {
-            if self.kept[other] == label && self.labels[other] != label {
-                return true;
+        self.lost[self.labels[slot % SLOTS] as usize % LABELS]
+    }
+
+    /// The first data block that no slot has, nor had at the last commit.
+    fn least_free(&self) -> u32 {
+        for label in 1..LABELS {
+            let label = label as u32;
+            if count_of(&self.labels, label) == 0 && count_of(&self.kept, label) == 0 {
+                return label;
             }
         }
-        false
+        0
+    }
+
+    /// Gives a slot this data block in place of the one that it has.
+    fn put(&mut self, slot: usize, label: u32) {
+        let slot = slot % SLOTS;
+        self.lost[self.labels[slot] as usize % LABELS] = self.labels[slot] != 0;
+        self.labels[slot] = label;
     }
 
     /// Whether a request leaves a block with a data block of its own: one that makes holes does it where it has a part of a mapped block.
@@ -248,8 +273,8 @@ impl Expected {
     fn own(&mut self, slot: usize) -> bool {
         let slot = slot % SLOTS;
         if self.wants_block(slot) || self.is_hot(slot) {
-            self.last_label = self.last_label.wrapping_add(1);
-            self.labels[slot] = self.last_label;
+            let label = self.least_free();
+            self.put(slot, label);
         }
         self.labels[slot] == self.kept[slot]
     }
@@ -279,7 +304,7 @@ impl Expected {
     /// Takes the slot of a block, which reads zero then.
     fn unmap(&mut self, slot: usize) {
         let slot = slot % SLOTS;
-        self.labels[slot] = 0;
+        self.put(slot, 0);
         for place in 0..8 {
             self.now[8 * slot + place] = 0;
         }
@@ -326,10 +351,12 @@ impl Expected {
         Ok(())
     }
 
-    /// Gives a volume the slots and the sectors of another one.
+    /// Makes a volume with the size, the slots and the sectors of another one.
     fn copy(&mut self, volume: usize, origin: usize) {
-        let volume = volume % VOLUMES;
-        let origin = origin % VOLUMES;
+        let volume = volume % BOTH;
+        let origin = origin % BOTH;
+        self.exists[volume] = self.exists[origin];
+        self.sizes[volume] = self.sizes[origin];
         for block in 0..4 {
             self.labels[4 * volume + block] = self.labels[4 * origin + block];
         }
@@ -355,16 +382,15 @@ impl Expected {
         if self.has(volume) {
             return Err(Refusal::Exists);
         }
-        self.exists[volume % VOLUMES] = true;
-        self.sizes[volume % VOLUMES] = self.sizes[origin % VOLUMES];
-        self.copy(volume, origin);
+        self.copy(volume % VOLUMES, origin);
         self.keep();
         Ok(())
     }
 
-    /// Takes a volume's slots.
+    /// Removes a volume, and takes its slots.
     fn clear(&mut self, volume: usize) {
-        let volume = volume % VOLUMES;
+        let volume = volume % BOTH;
+        self.exists[volume] = false;
         for block in 0..4 {
             self.labels[4 * volume + block] = 0;
         }
@@ -377,8 +403,31 @@ impl Expected {
         if !self.has(volume) {
             return Err(Refusal::NoSuchDevice);
         }
-        self.exists[volume % VOLUMES] = false;
-        self.clear(volume);
+        self.clear(volume % VOLUMES);
+        self.keep();
+        Ok(())
+    }
+
+    fn reserve(&mut self) -> Result<(), Refusal> {
+        if self.is_held {
+            return Err(Refusal::HeldRootExists);
+        }
+        self.is_held = true;
+        for volume in 0..VOLUMES {
+            self.copy(VOLUMES + volume, volume);
+        }
+        self.keep();
+        Ok(())
+    }
+
+    fn release(&mut self) -> Result<(), Refusal> {
+        if !self.is_held {
+            return Err(Refusal::NoHeldRoot);
+        }
+        self.is_held = false;
+        for volume in 0..VOLUMES {
+            self.clear(VOLUMES + volume);
+        }
         self.keep();
         Ok(())
     }
@@ -413,8 +462,11 @@ impl Expected {
     /// What reading a sector gives that is looked at.
     fn read(&self, seen: usize) -> Result<u8, Refusal> {
         let seen = seen % SEEN;
-        if self.has(seen / 32) {
+        let volume = seen / 32;
+        if self.has(volume) {
             Ok(self.now[seen])
+        } else if volume >= VOLUMES && !self.is_held {
+            Err(Refusal::NoHeldRoot)
         } else {
             Err(Refusal::NoSuchDevice)
         }
@@ -453,7 +505,13 @@ fn used_by(pool: &mut MemServed) -> usize {
 }
 
 fn read(pool: &mut MemServed, seen: usize) -> Result<u8, Refusal> {
-    byte_at(pool, id_of(seen / 32), sector_of(seen) as u64)
+    let volume = seen / 32;
+    let sector = sector_of(seen) as u64;
+    if volume < VOLUMES {
+        byte_at(pool, id_of(volume), sector)
+    } else {
+        held_byte_at(pool, id_of(volume), sector)
+    }
 }
 
 fn fill(alloc: Global, pool: &mut MemServed, filling: &Filling) -> Result<(), Refusal> {
@@ -500,6 +558,8 @@ fn is_answered(alloc: Global, pool: &mut MemServed, step: &Step, expected: &mut 
         Step::SetTransactionId { current, next } => {
             set_transaction_id(pool, current, next) == expected.set_transaction_id(current, next)
         }
+        Step::Reserve => reserve(pool) == expected.reserve(),
+        Step::Release => release(pool) == expected.release(),
         Step::Flush => {
             expected.keep();
             flush(pool).is_ok()
@@ -525,6 +585,7 @@ fn restarted(
     expected: &mut Expected,
 ) -> Result<(MemServed, bool), Fail> {
     expected.labels = expected.kept;
+    expected.lost = [false; LABELS];
     let mut left = stopped(alloc, pool.disk().inner(), slots, others)?;
     let is_clean = is_clean(alloc, &mut left);
     let mut pool = opened(alloc, left, pool.geometry(), FEW)?;
@@ -543,10 +604,10 @@ fn is_left(pool: &mut MemServed, expected: &mut Expected) -> bool {
     true
 }
 
-/// Whether the sectors of a volume read as they should.
+/// Whether the sectors of a volume, or of a held copy, read as they should.
 fn is_read(pool: &mut MemServed, volume: usize, expected: &Expected) -> bool {
     for place in 0..32 {
-        let seen = 32 * (volume % VOLUMES) + place;
+        let seen = 32 * (volume % BOTH) + place;
         if read(pool, seen) != expected.read(seen) {
             return false;
         }
@@ -633,7 +694,9 @@ fn step_of(number: usize, seed: u64) -> Step {
     }
     let volume = ((seed >> 32) % 12) as usize;
     match (seed >> 50) % 128 {
-        0..=79 => Step::Write(filling_of(seed, volume)),
+        0..=76 => Step::Write(filling_of(seed, volume)),
+        77 => Step::Reserve,
+        78..=79 => Step::Release,
         80..=91 => Step::Trim(filling_of(seed, volume)),
         92..=103 => zeros_of(seed, volume),
         104..=111 => snapshot_of(seed, volume),
@@ -661,11 +724,12 @@ fn empty(alloc: Global) -> Result<MemServed, Fail> {
     Ok(formatted(alloc, Geometry::new(128, 4, 1032, 20)?, FEW)?)
 }
 
-/// Whether the data blocks in use, and the size and the sectors of a volume, are as they should be.
+/// Whether the data blocks in use, and the size and the sectors of a volume and of its held copy, are as they should be.
 fn is_as_expected(pool: &mut MemServed, volume: usize, expected: &Expected) -> bool {
     let is_used = used_by(pool) == expected.used();
     let is_sized = volume_blocks(pool, id_of(volume)) == expected.size(volume);
-    is_used && is_sized && is_read(pool, volume, expected)
+    let is_now = is_read(pool, volume, expected);
+    is_used && is_sized && is_now && is_read(pool, VOLUMES + volume % VOLUMES, expected)
 }
 
 /// The first of so many random steps behind which something is not as it should be: its answer, the data blocks in use, a volume, or what a

@@ -1,5 +1,5 @@
 -- A volume was changed while the path to its device's entry was open: the forest stands again.
-use Rattle.std.proofs.Common.{◌≡◌, ◌≢◌, ℕ, ◌-◌, ◌<◌, ◌≤◌, List, length, refl, sym, ap, subst, ◌∙◌, arith, inl, inr, Some}
+use Rattle.std.proofs.Common.{◌≡◌, ◌≢◌, ℕ, ◌-◌, ◌<◌, List, length, refl, sym, ap, subst, ◌∙◌, arith, inl, inr, Some}
 use Rattle.std.specs.Prelude.{◌^◌}
 use Rattle.std.proofs.lemmas.Bool.{cases_eq}
 use Rattle.tp_layout.specs.declared.entry.Entry.{Entry}
@@ -13,7 +13,6 @@ use Rattle.tp_trees.specs.Altering.{Altered}
 use Rattle.tp_trees.proofs.Trees.{ascend_tree, tree_rank}
 use Rattle.tp_sharing.specs.Forest.{Forest, IsVolume, content}
 use Rattle.tp_sharing.specs.Changes.{OthersStay}
-use Rattle.tp_sharing.specs.Later.{VolumeStays}
 use Rattle.tp_sharing.proofs.Later.{content_is_pairs, forest_after, volume_kept}
 use Rattle.tp_sharing.proofs.Lists.{found_within, value_from}
 

@@ -12,7 +12,7 @@ use Rattle.tp_sharing.specs.Volumes.{BlockSlot, DeviceSlots, DevicesAscend, Volu
 use Rattle.tp_sharing.specs.Later.{SlotsOfDevice}
 use Rattle.tp_sharing.specs.Changes.{OthersStay, VolumesWithDevice, VolumesWithSlot, VolumesWithoutDevice, VolumesWithoutSlot}
 use Rattle.tp_sharing.proofs.Changes.{changed_here, changed_later, device_below, with_device_first, with_device_here, with_device_later, with_place_first, with_place_here, with_place_later, without_device_here, without_device_later, without_place_here, without_place_later}
-use Rattle.tp_sharing.proofs.Slots.{device_found, device_here, device_later, lists_ascend, size_found, size_here, size_later, slots_from}
+use Rattle.tp_sharing.proofs.Slots.{device_found, device_here, device_later, lists_ascend_below, size_found, size_here, size_later, slots_from}
 
 -- ---- the slots of a volume's tree
 
@@ -157,7 +157,7 @@ module _ (m : ℕ) (s t : Store) (root next : ℕ) (fixed : List ℕ) (top : ℕ
       → with_device (device_from m t new) (volumes_below m s root) ≡ changed_at new.key g (volumes_below m s root)
   own_slots g old new h size same =
       ap (λ (xs : List BlockSlot). with_device (device_at new.key new.size xs) (volumes_below m s root)) same
-      ∙ with_is_changed 0 new.key new.size g (slots_from m s old) (volumes_below m s root) (lists_ascend m s root fixed top f)
+      ∙ with_is_changed 0 new.key new.size g (slots_from m s old) (volumes_below m s root) (lists_ascend_below m s root fixed top f)
       (device_found m s new.key (content 5 s root) ∙ ap (option_map (slots_from m s)) h)
       (size_found m s new.key (content 5 s root) ∙ (ap (option_map (λ (e : Entry). e.size)) h ∙ ap Some (sym size)))
 

@@ -1,21 +1,25 @@
 -- The data blocks with a count are those of the slots.
-use Rattle.std.proofs.Common.{◌≡◌, ℕ, suc, ◌+◌, ◌-◌, ◌<◌, ◌≤◌, ◌==◌, ◌||◌, List, [], ◌∷◌, length, map, refl, sym, ap, subst, ◌∙◌, arith, ◌⊎◌, inl, inr, Some, Bool, true, false, ◌&&◌}
-use Rattle.std.specs.Prelude.{nat_lt, ◌^◌, ◌↔◌}
+use Rattle.std.proofs.Common.{◌≡◌, ℕ, zero, suc, ◌+◌, ◌-◌, ◌<◌, ◌≤◌, ◌==◌, ◌||◌, List, [], ◌∷◌, ◌++◌, length, map, get_or, refl, sym, ap, subst, ◌∙◌, arith, ◌⊎◌, inl, inr, Some, Bool, true, false, ◌&&◌}
+use Rattle.std.specs.Prelude.{nat_lt, ◌^◌, ◌↔◌, IsTrue}
 use Rattle.std.specs.List.{list_all, list_any}
 use Rattle.std.proofs.lemmas.Bool.{cases_eq, cases_lt, eq-eqb, ne_eqb, lt-ltb, ltb-true, false≢true, or_left, or_right}
 use Rattle.std.proofs.lemmas.List.Folds.{list_any-append}
 use Rattle.tp_model.proofs.Counting.{counts_agree, different_counts}
+use Rattle.tp_layout.specs.declared.entry.Entry.{Entry}
+use Rattle.tp_layout.specs.Entries.{found}
 use Rattle.tp_refs.specs.Store.{Store, count_of, node_at}
-use Rattle.tp_refs.specs.Balance.{Balanced}
-use Rattle.tp_refs.proofs.Steps.{live_below}
+use Rattle.tp_refs.specs.Balance.{Balanced, occurrences}
+use Rattle.tp_refs.proofs.Steps.{live_below, one_other, one_same}
+use Rattle.tp_trees.specs.Tree.{is_shared_path}
 use Rattle.tp_trees.proofs.Trees.{ascend_tree, rank_inside, tree_rank}
-use Rattle.tp_sharing.specs.Forest.{Forest, Slot, content}
-use Rattle.tp_sharing.specs.Volumes.{BlockSlot, DevicesAscend, FreeIsUnused, SharedIsOther, SlotsAreWithin, SlotsAscend, Unused, UsedIsDifferent, Volumes, data_in_use, place_in, place_or_none, places, slot_of, used, volumes_below}
-use Rattle.tp_sharing.proofs.Grove.{grove_of}
-use Rattle.tp_sharing.proofs.Lists.{found_within, some_eq}
+use Rattle.tp_sharing.specs.Forest.{Forest, Forests, SharedSlot, Slot, content, held_refs}
+use Rattle.tp_sharing.specs.Volumes.{BlockSlot, DevicesAscend, FreeIsUnused, OtherSlot, SharedIsOther, SlotsAreWithin, SlotsAscend, Unused, UsedIsDifferent, Volumes, copy_id, data_in_use, place_in, place_or_none, places, slot_of, used, volumes_below, volumes_of}
+use Rattle.tp_sharing.proofs.Copies.{Whose, copies_are_listed, lists_ascend, of_copy, of_now, whose}
+use Rattle.tp_sharing.proofs.Grove.{Grove, grove_of}
+use Rattle.tp_sharing.proofs.Lists.{found_within, some_eq, value_from}
 use Rattle.tp_sharing.proofs.Places.{Place, data_block, device_node, fixed_block, place_live, volume_node}
 use Rattle.tp_sharing.proofs.Sharing.{shared_exactly, slot_live}
-use Rattle.tp_sharing.proofs.Slots.{device_here, device_later, listed_slot, lists_ascend, place_here, place_later, slot_listed}
+use Rattle.tp_sharing.proofs.Slots.{device_here, device_later, listed_slot, place_here, place_later, slot_listed}
 
 -- whether a number stands in a list
 abbrev has : ℕ → List ℕ → Bool
@@ -85,42 +89,103 @@ same_test true b f g = sym (f refl)
 same_test false true f g = g refl
 same_test false false f g = refl
 
-module _ (m : ℕ) (s : Store) (root : ℕ) (fixed : List ℕ) (top : ℕ) (bal : Balanced s [] (root ∷ fixed)) (f : Forest s root fixed top) (is : length s.nodes ≡ m) where
-  slot_there : (b : ℕ) → length s.nodes ≤ b → Place s root fixed (2 ^ 24) top b → (device block : ℕ) × Slot s root device block b
-  slot_there b far (fixed_block h) = absurd (omega (arith, f.inside b h))
-  slot_there b far (device_node n j from to st) = absurd (omega (arith, rank_inside s b (omega (arith, tree_rank 5 j s from to b st.tree))))
-  slot_there b far (volume_node device r n j from to g st) = absurd (omega (arith, rank_inside s b (omega (arith, tree_rank 1 j s from to b st.tree))))
-  slot_there b far (data_block device r block g h) = (device, block, (r, g, h))
+-- the root of a held copy
+held_root : (held r : ℕ) → 0 < occurrences r (held_refs held) → (n : ℕ) × (held ≡ suc n) × (r ≡ suc n)
+held_root zero r h = absurd (omega arith)
+held_root (suc n) r h =
+    elim (cases_eq (suc n) r) [
+      | inl e ↦ (n, refl, sym e)
+      | inr d ↦ absurd (omega (arith, h, one_other (suc n) r d))
+    ]
+
+held_there : (held n : ℕ) → held ≡ suc n → 0 < occurrences (suc n) (held_refs held)
+held_there zero n e = absurd (omega (arith, e))
+held_there (suc k) n e = omega (arith, one_same (suc k) (suc n) e)
+
+module _ (m : ℕ) (s : Store) (root held : ℕ) (fixed : List ℕ) (top : ℕ) (bal : Balanced s [] (root ∷ (held_refs held ++ fixed))) (f : Forests s (root ∷ held_refs held) fixed top) (is : length s.nodes ≡ m) where
+  abbrev roots : List ℕ
+  roots = root ∷ held_refs held
+
+  abbrev all : Volumes
+  all = volumes_of m s root held
+
+  pub root_here : 0 < occurrences root roots
+  root_here = omega (arith, one_same root root refl)
+
+  pub held_here : (n : ℕ) → held ≡ suc n → 0 < occurrences (suc n) roots
+  held_here n e = omega (arith, held_there held n e)
+
+  pub now : Forest s root fixed top
+  now = f root root_here
+
+  pub groves : (r : ℕ) → 0 < occurrences r roots → Grove s r fixed (2 ^ 24) top
+  groves r h = grove_of s r fixed top (f r h)
+
+  -- a slot below one of the roots stands in the lists
+  pub now_in_all : (device block p : ℕ) → Slot s root device block (m + p) → slot_of device block all ≡ Some p
+  now_in_all device block p slot =
+      let l = (found_within 0 (2 ^ 24) device slot.0 (content 5 s root) (ascend_tree 5 ((node_at s root).rank - 5) s 0 (2 ^ 24) root now.devices.tree) slot.1).1 in
+      ap (place_or_none block) (copies_are_listed.now m s root held device l) ∙ slot_listed m s root fixed top now is device block p slot
+
+  pub held_in_all : (n : ℕ) → held ≡ suc n → (device block p : ℕ) → Slot s (suc n) device block (m + p) → slot_of (copy_id device) block all ≡ Some p
+  held_in_all n e device block p slot =
+      subst (λ x. slot_of (copy_id device) block (volumes_of m s root x) ≡ Some p) (sym e)
+      (ap (place_or_none block) (copies_are_listed.copy m s root n fixed top device now) ∙ slot_listed m s (suc n) fixed top (f (suc n) (held_here n e)) is device block p slot)
+
+  pub slot_in_all : (r : ℕ) → 0 < occurrences r roots → (device block p : ℕ) → Slot s r device block (m + p) → (id : ℕ) × (slot_of id block all ≡ Some p)
+  slot_in_all r h device block p slot =
+      elim (cases_eq root r) [
+        | inl e ↦ (device, now_in_all device block p (subst (λ x. Slot s x device block (m + p)) (sym e) slot))
+        | inr d ↦
+            let n = held_root held r (omega (arith, h, one_other root r d)) in
+            (copy_id device, held_in_all n.0 n.1 device block p (subst (λ x. Slot s x device block (m + p)) n.2 slot))
+      ]
+
+  -- and a slot of the lists below one of the roots
+  pub all_is_slot : (id block p : ℕ) → slot_of id block all ≡ Some p → (r : ℕ) × (0 < occurrences r roots) × ((device : ℕ) × Slot s r device block (m + p))
+  all_is_slot id block p h = go (whose m s root held fixed top id block p now h) where
+    go : Whose m s root held id block p → (r : ℕ) × (0 < occurrences r roots) × ((device : ℕ) × Slot s r device block (m + p))
+    go (of_now l k) = (root, root_here, (id, listed_slot m s root fixed top now is id block p k))
+    go (of_copy n device e q k) = (suc n, held_here n e, (device, listed_slot m s (suc n) fixed top (f (suc n) (held_here n e)) is device block p k))
+
+  slot_there : (r b : ℕ) → 0 < occurrences r roots → length s.nodes ≤ b → Place s r fixed (2 ^ 24) top b → (device block : ℕ) × Slot s r device block b
+  slot_there r b h far (fixed_block k) = absurd (omega (arith, now.inside b k))
+  slot_there r b h far (device_node n j from to st) = absurd (omega (arith, rank_inside s b (omega (arith, tree_rank 5 j s from to b st.tree))))
+  slot_there r b h far (volume_node device v n j from to g st) = absurd (omega (arith, rank_inside s b (omega (arith, tree_rank 1 j s from to b st.tree))))
+  slot_there r b h far (data_block device v block g k) = (device, block, (v, g, k))
 
   -- a live data block is a slot's
-  pub live_listed : (p : ℕ) → 0 < count_of s (m + p) → (device block : ℕ) × (slot_of device block (volumes_below m s root) ≡ Some p)
+  pub live_listed : (p : ℕ) → 0 < count_of s (m + p) → (device block : ℕ) × (slot_of device block all ≡ Some p)
   live_listed p live =
-      let t = slot_there (m + p) (omega (arith, is)) (place_live s root fixed (2 ^ 24) top bal (grove_of s root fixed top f) (m + p) live) in
-      (t.0, t.1, slot_listed m s root fixed top f is t.0 t.1 p t.2)
+      let w = place_live s roots fixed (2 ^ 24) top bal groves root root_here (m + p) live in
+      let t = slot_there w.0 (m + p) w.1 (omega (arith, is)) w.2 in
+      let r = slot_in_all w.0 w.1 t.0 t.1 p t.2 in
+      (r.0, t.1, r.1)
 
   -- a slot's data block is live
-  pub listed_live : (device block p : ℕ) → slot_of device block (volumes_below m s root) ≡ Some p → 0 < count_of s (m + p)
+  pub listed_live : (device block p : ℕ) → slot_of device block all ≡ Some p → 0 < count_of s (m + p)
   listed_live device block p h =
-      let t = listed_slot m s root fixed top f is device block p h in
-      slot_live s root fixed (2 ^ 24) top bal (grove_of s root fixed top f) device t.0 t.1 block (m + p) t.2
+      let w = all_is_slot device block p h in
+      let t = w.2.1 in
+      slot_live s roots fixed (2 ^ 24) top bal groves w.0 w.1 w.2.0 t.0 t.1 block (m + p) t.2
 
-  has_live : (p : ℕ) → has p (places (volumes_below m s root)) ≡ true → 0 < count_of s (m + p)
+  has_live : (p : ℕ) → has p (places all) ≡ true → 0 < count_of s (m + p)
   has_live p h =
-      let r = has_place p 0 (volumes_below m s root) (lists_ascend m s root fixed top f) h in
+      let r = has_place p 0 all (lists_ascend m s root held fixed top f) h in
       listed_live r.0 r.1 p r.3
 
-  live_has : (p : ℕ) → 0 < count_of s (m + p) → has p (places (volumes_below m s root)) ≡ true
-  live_has p live = let r = live_listed p live in place_has r.0 r.1 p (volumes_below m s root) r.2
+  live_has : (p : ℕ) → 0 < count_of s (m + p) → has p (places all) ≡ true
+  live_has p live = let r = live_listed p live in place_has r.0 r.1 p all r.2
 
-  pub used_different : data_in_use m s ≡ used (volumes_below m s root)
+  pub used_different : data_in_use m s ≡ used all
   used_different =
       let n = length s.counts - m in
-      let xs = places (volumes_below m s root) in
+      let xs = places all in
       counts_agree (λ p. nat_lt 0 (count_of s (m + p))) (λ p. has p xs) n
       (λ p _. same_test (nat_lt 0 (count_of s (m + p))) (has p xs) (λ t. live_has p (ltb-true 0 (count_of s (m + p)) t)) (λ t. lt-ltb 0 (count_of s (m + p)) (has_live p t)))
       ∙ sym (different_counts xs n (all_below n xs (λ p t. omega (arith, live_below s (m + p) (has_live p t)))))
 
-  pub free_unused : (p : ℕ) → (count_of s (m + p) ≡ 0) ↔ (Unused p (volumes_below m s root))
+  pub free_unused : (p : ℕ) → (count_of s (m + p) ≡ 0) ↔ (Unused p all)
   free_unused p = (
     λ z device block h. absurd (omega (arith, listed_live device block p h)),
     λ none. elim (cases_lt 0 (count_of s (m + p))) [
@@ -129,30 +194,78 @@ module _ (m : ℕ) (s : Store) (root : ℕ) (fixed : List ℕ) (top : ℕ) (bal 
     ],
   )
 
+  -- ---- sharing
+
+  -- by place of a root: the first is that of now, another one that of a held copy
+  root_by_place : (j : ℕ) → j < length roots → ((j ≡ 0) × (get_or roots j 0 ≡ root)) ⊎ ((n : ℕ) × (held ≡ suc n) × (j ≡ 1) × (get_or roots j 0 ≡ suc n))
+  root_by_place zero l = inl (refl, refl)
+  root_by_place (suc j) l = inr (behind held refl j (omega (arith, l))) where
+    behind : (x : ℕ) → held ≡ x → (i : ℕ) → i < length (held_refs held) → (n : ℕ) × (held ≡ suc n) × (suc i ≡ 1) × (get_or (held_refs held) i 0 ≡ suc n)
+    behind zero e i k = let none : length (held_refs held) ≡ 0 = ap (λ y. length (held_refs y)) e in absurd (omega (arith, none, k))
+    behind (suc n) e zero k = (n, e, refl, ap (λ y. get_or (held_refs y) 0 0) e)
+    behind (suc n) e (suc i) k = let one : length (held_refs held) ≡ 1 = ap (λ y. length (held_refs y)) e in absurd (omega (arith, one, k))
+
+  held_place : (n : ℕ) → held ≡ suc n → (1 < length roots) × (get_or roots 1 0 ≡ suc n)
+  held_place n e =
+      let one : length (held_refs held) ≡ 1 = ap (λ y. length (held_refs y)) e in
+      (omega (arith, one), ap (λ y. get_or (held_refs y) 0 0) e)
+
+  shared_other : (device block p : ℕ) → device < 2 ^ 24 → SharedSlot s roots 0 device block (m + p) → OtherSlot device block p all
+  shared_other device block p low (j, other, at, l, slot, apart) =
+      elim (root_by_place j l) [
+        | inl e ↦ (other, at, now_in_all other at p (subst (λ x. Slot s x other at (m + p)) e.1 slot), λ q. apart (e.0, q.0, q.1))
+        | inr e ↦ (
+          copy_id other,
+          at,
+          held_in_all e.0 e.1 other at p (subst (λ x. Slot s x other at (m + p)) e.3 slot),
+          λ q. absurd (omega (arith, q.0, low)),
+        )
+      ]
+
+  other_shared : (device block p : ℕ) → device < 2 ^ 24 → OtherSlot device block p all → SharedSlot s roots 0 device block (m + p)
+  other_shared device block p low (other, at, here, apart) = go (whose m s root held fixed top other at p now here) where
+    go : Whose m s root held other at p → SharedSlot s roots 0 device block (m + p)
+    go (of_now l k) = (0, other, at, omega arith, listed_slot m s root fixed top now is other at p k, λ q. apart (q.1, q.2))
+    go (of_copy n id e q k) =
+        let h = held_place n e in
+        (1, id, at, h.0, subst (λ x. Slot s x id at (m + p)) (sym h.1) (listed_slot m s (suc n) fixed top (f (suc n) (held_here n e)) is id at p k), λ z. absurd (omega (arith, z.0)))
+
+  pub shared_both : (device block : ℕ) (volume slot : Entry) → found device (content 5 s root) ≡ Some volume → found block (content 1 s volume.value) ≡ Some slot
+      → (IsTrue (is_shared_path ((node_at s root).rank - 5) s device root || is_shared_path ((node_at s volume.value).rank - 1) s block volume.value)) ↔ (OtherSlot device block (slot.value - m) all)
+  shared_both device block volume slot fd fv =
+      let both = shared_exactly s roots fixed top bal f 0 (omega arith) device block volume slot fd fv in
+      let far : length s.nodes ≤ slot.value = (now.volumes device volume fd).data_blocks block slot fv in
+      let e : m + (slot.value - m) ≡ slot.value = omega (arith, is, far) in
+      let low = (found_within 0 (2 ^ 24) device volume.value (content 5 s root) (ascend_tree 5 ((node_at s root).rank - 5) s 0 (2 ^ 24) root now.devices.tree) (value_from device volume (content 5 s root) fd)).1 in (
+        λ t. shared_other device block (slot.value - m) low (subst (SharedSlot s roots 0 device block) (sym e) (both.0 t)),
+        λ o. both.1 (subst (SharedSlot s roots 0 device block) e (other_shared device block (slot.value - m) low o)),
+      )
+
 pub used_is_different : UsedIsDifferent
-used_is_different m s root fixed top bal f is = used_different m s root fixed top bal f is
+used_is_different m s root held fixed top bal f is = used_different m s root held fixed top bal f is
 
 pub free_is_unused : FreeIsUnused
-free_is_unused m s root fixed top bal f is place = free_unused m s root fixed top bal f is place
+free_is_unused m s root held fixed top bal f is place = free_unused m s root held fixed top bal f is place
 
 pub slots_are_within : SlotsAreWithin
-slots_are_within m s root fixed top bal f is device block place h =
-    let g = grove_of s root fixed top f in
-    let t = listed_slot m s root fixed top f is device block place h in (
-      (found_within 0 (2 ^ 24) device t.0 (content 5 s root) (ascend_tree 5 ((node_at s root).rank - 5) s 0 (2 ^ 24) root g.devices) t.1).1,
-      (found_within 0 top block (m + place) (content 1 s t.0) (ascend_tree 1 ((node_at s t.0).rank - 1) s 0 top t.0 (g.volumes device t.0 t.1)) t.2).1,
-      live_below s (m + place) (listed_live m s root fixed top bal f is device block place h),
-    )
+slots_are_within m s root held fixed top bal f is device block place h = go (whose m s root held fixed top device block place (f root here) h) where
+  here : 0 < occurrences root (root ∷ held_refs held)
+  here = root_here m s root held fixed top bal f is
 
--- ---- sharing
+  live : m + place < length s.counts
+  live = live_below s (m + place) (listed_live m s root held fixed top bal f is device block place h)
+
+  below : (r id : ℕ) → 0 < occurrences r (root ∷ held_refs held) → slot_of id block (volumes_below m s r) ≡ Some place → (id < 2 ^ 24) × (block < top)
+  below r id k slot =
+      let g = grove_of s r fixed top (f r k) in
+      let t = listed_slot m s r fixed top (f r k) is id block place slot in (
+        (found_within 0 (2 ^ 24) id t.0 (content 5 s r) (ascend_tree 5 ((node_at s r).rank - 5) s 0 (2 ^ 24) r g.devices) t.1).1,
+        (found_within 0 top block (m + place) (content 1 s t.0) (ascend_tree 1 ((node_at s t.0).rank - 1) s 0 top t.0 (g.volumes id t.0 t.1)) t.2).1,
+      )
+
+  go : Whose m s root held device block place → (device < 2 ^ 25) × (block < top) × (m + place < length s.counts)
+  go (of_now l k) = let w = below root device here k in (omega (arith, l), w.1, live)
+  go (of_copy n id e q k) = let w = below (suc n) id (held_here m s root held fixed top bal f is n e) k in (omega (arith, q, w.0), w.1, live)
 
 pub shared_is_other : SharedIsOther
-shared_is_other m s root fixed top bal f is device block volume slot fd fv =
-    let both = shared_exactly s root fixed top bal f device block volume slot fd fv in
-    let far : length s.nodes ≤ slot.value = (f.volumes device volume fd).data_blocks block slot fv in
-    let e : m + (slot.value - m) ≡ slot.value = omega (arith, is, far) in (
-      λ t.
-          let o = both.0 t in
-          (o.0, o.1, slot_listed m s root fixed top f is o.0 o.1 (slot.value - m) (subst (Slot s root o.0 o.1) (sym e) o.2), o.3),
-      λ o. both.1 (o.0, o.1, subst (Slot s root o.0 o.1) e (listed_slot m s root fixed top f is o.0 o.1 (slot.value - m) o.2), o.3),
-    )
+shared_is_other m s root held fixed top bal f is device block volume slot fd fv = shared_both m s root held fixed top bal f is device block volume slot fd fv

@@ -5,6 +5,7 @@ pub mod Grove
 pub mod Places
 pub mod Sharing
 pub mod Slots
+pub mod Copies
 pub mod InUse
 pub mod Walks
 pub mod Changes
@@ -12,6 +13,7 @@ pub mod Told
 pub mod Sized
 pub mod Changed
 pub mod Later
+pub mod Held
 pub mod Altered
 pub mod Sizes
 pub mod Use

@@ -1,12 +1,12 @@
 -- What each live block is: a fixed block, a node of the device tree or of a volume's tree, or a data block.
-use Rattle.std.proofs.Common.{◌≡◌, ℕ, zero, suc, ◌+◌, ◌-◌, ◌<◌, ◌≤◌, List, [], ◌∷◌, length, get_or, ap, subst, ◌∙◌, arith, inl, inr, Some}
-use Rattle.std.proofs.lemmas.Bool.{cases_eq, cases_lt}
+use Rattle.std.proofs.Common.{◌≡◌, ℕ, zero, suc, ◌+◌, ◌-◌, ◌<◌, ◌≤◌, List, [], ◌∷◌, ◌++◌, length, get_or, ap, subst, ◌∙◌, arith, inl, inr, Some}
+use Rattle.std.proofs.lemmas.Bool.{cases_lt}
 use Rattle.tp_refs.specs.Store.{Node, Store, count_of, node_at, children, no_node}
-use Rattle.tp_refs.specs.Balance.{occurrences, one_if_same, times_named, Balanced}
+use Rattle.tp_refs.specs.Balance.{occurrences, times_named, Balanced}
 use Rattle.tp_refs.specs.Reach.{Reached, root, below}
 use Rattle.tp_layout.specs.Entries.{rank_of}
 use Rattle.tp_refs.proofs.Reach.{live_is_reached, namer, reached_live}
-use Rattle.tp_refs.proofs.Steps.{one_other}
+use Rattle.tp_refs.proofs.Steps.{occurrences-append}
 use Rattle.tp_trees.specs.Tree.{pairs}
 use Rattle.tp_trees.proofs.Trees.{rank_inside, tree_rank}
 use Rattle.tp_sharing.specs.Forest.{content, down, value_at}
@@ -23,7 +23,8 @@ pub data Place (s : Store) (top_root : ℕ) (fixed : List ℕ) (ids top b : ℕ)
 
 -- how the entry at place i of c, which names x, stands on the paths
 pub data Via (s : Store) (top_root ids top c i x : ℕ) : Type 0 where
-  via_devices : (n j from to : ℕ) → Stands 5 ((node_at s top_root).rank - 5) s ids top_root x n j from to → Via s top_root ids top c i x
+  via_devices : (n j from to : ℕ) → Stands 5 ((node_at s top_root).rank - 5) s ids top_root x (suc n) j from to
+      → ((q : ℕ) → from ≤ q → q < to → (down s q top_root n ≡ c) × (rank_of q (node_at s c).entries ≡ suc i)) → Via s top_root ids top c i x
   via_device : (device : ℕ) → value_at device (content 5 s top_root) ≡ Some x → down s device top_root ((node_at s top_root).rank - 5) ≡ c → rank_of device (node_at s c).entries ≡ suc i → Via s top_root ids top c i x
   via_node : (device r n j from to : ℕ) → value_at device (content 5 s top_root) ≡ Some r → Stands 1 ((node_at s r).rank - 1) s top r x (suc n) j from to
       → ((q : ℕ) → from ≤ q → q < to → (down s q r n ≡ c) × (rank_of q (node_at s c).entries ≡ suc i)) → Via s top_root ids top c i x
@@ -54,7 +55,9 @@ via s r0 fixed ids top c i x f (device_node n zero from to st) m =
     let e = leaf_end 5 ((node_at s r0).rank - 5) s ids r0 c n from to i st m.within in
     subst (Via s r0 ids top c i) m.is (via_device (begin s c i) e.0 e.1 e.2)
 via s r0 fixed ids top c i x f (device_node n (suc j) from to st) m =
-    subst (Via s r0 ids top c i) m.is (via_devices (suc n) j (begin s c i) (end s c i to) (child_stands 5 ((node_at s r0).rank - 5) s ids r0 c n j from to i st m.within))
+    let e = child_entry 5 j s from to c i st.tree m.within in
+    subst (Via s r0 ids top c i) m.is (via_devices n j (begin s c i) (end s c i to) (child_stands 5 ((node_at s r0).rank - 5) s ids r0 c n j from to i st m.within)
+    (λ q l u. (st.leads q (omega (arith, e.lower)) (omega (arith, e.upper)), e.at q l u)))
 via s r0 fixed ids top c i x f (volume_node device r n zero from to g st) m =
     let e = leaf_end 1 ((node_at s r).rank - 1) s top r c n from to i st m.within in
     subst (Via s r0 ids top c i) m.is (via_leaf device r (begin s c i) g e.0 e.1 e.2)
@@ -65,7 +68,7 @@ via s r0 fixed ids top c i x f (volume_node device r n (suc j) from to g st) m =
 via s r0 fixed ids top c i x f (data_block device r block g h) m = absurd (m.inner (data_rank s c (f.data_blocks device r block c g h)))
 
 pub place_child : (s : Store) (r0 : ℕ) (fixed : List ℕ) (ids top c i x : ℕ) → Grove s r0 fixed ids top → Via s r0 ids top c i x → Place s r0 fixed ids top x
-place_child s r0 fixed ids top c i x f (via_devices n j from to st) = device_node n j from to st
+place_child s r0 fixed ids top c i x f (via_devices n j from to st a) = device_node (suc n) j from to st
 place_child s r0 fixed ids top c i x f (via_device device g a b) = volume_node device x 0 ((node_at s x).rank - 1) 0 top g (top_stands 1 ((node_at s x).rank - 1) s top x (f.volumes device x g))
 place_child s r0 fixed ids top c i x f (via_node device r n j from to g st a) = volume_node device r (suc n) j from to g st
 place_child s r0 fixed ids top c i x f (via_leaf device r block g h a b) = data_block device r block g h
@@ -78,36 +81,46 @@ bound (n ∷ ns) = let r = bound ns in (suc (n.rank + r.0), each n ns r.0 r.1)
     each n ns t h zero = omega arith
     each n ns t h (suc b) = omega (arith, h b)
 
-module _ (s : Store) (r0 : ℕ) (fixed : List ℕ) (ids top : ℕ) (bal : Balanced s [] (r0 ∷ fixed)) (f : Grove s r0 fixed ids top) where
-  pub place_reached : (b : ℕ) → Reached s (r0 ∷ fixed) b → Place s r0 fixed ids top b
+-- Every live block has its place below one of the roots. The trees below different roots may share nodes.
+module _ (s : Store) (roots fixed : List ℕ) (ids top : ℕ) (bal : Balanced s [] (roots ++ fixed)) (f : (r : ℕ) → 0 < occurrences r roots → Grove s r fixed ids top)
+    (r0 : ℕ) (h0 : 0 < occurrences r0 roots) where
+  pub place_reached : (b : ℕ) → Reached s (roots ++ fixed) b → (r : ℕ) × (0 < occurrences r roots) × Place s r fixed ids top b
   place_reached _ (root b p) =
-      elim (cases_eq r0 b) [
-        | inl e ↦ subst (Place s r0 fixed ids top) e (device_node 0 ((node_at s r0).rank - 5) 0 ids (top_stands 5 ((node_at s r0).rank - 5) s ids r0 f.devices))
-        | inr d ↦ fixed_block (omega (arith, one_other r0 b d))
+      elim (cases_lt 0 (occurrences b roots)) [
+        | inl h ↦ (b, h, device_node 0 ((node_at s b).rank - 5) 0 ids (top_stands 5 ((node_at s b).rank - 5) s ids b (f b h).devices))
+        | inr z ↦ (r0, h0, fixed_block (omega (arith, p, z, occurrences-append b roots fixed)))
       ]
   place_reached _ (below b c r here) =
       let p = place_reached b r in
-      let n = child_place s b c (reached_live s (r0 ∷ fixed) bal b r) here in
-      place_child s r0 fixed ids top b n.0 c f (via s r0 fixed ids top b n.0 c f p n.1)
+      let g = f p.0 p.1 in
+      let n = child_place s b c (reached_live s (roots ++ fixed) bal b r) here in
+      (p.0, p.1, place_child s p.0 fixed ids top b n.0 c g (via s p.0 fixed ids top b n.0 c g p.2 n.1))
 
-  pub place_live : (b : ℕ) → 0 < count_of s b → Place s r0 fixed ids top b
-  place_live b live = let t = bound s.nodes in place_reached b ((live_is_reached s (r0 ∷ fixed) t.0 bal t.1 b).0 live)
+  pub place_live : (b : ℕ) → 0 < count_of s b → (r : ℕ) × (0 < occurrences r roots) × Place s r fixed ids top b
+  place_live b live = let t = bound s.nodes in place_reached b ((live_is_reached s (roots ++ fixed) t.0 bal t.1 b).0 live)
 
   -- nothing names a fixed block but what holds it
-  unnamed : (b c i : ℕ) → 0 < occurrences b fixed → Via s r0 ids top c i b → ⊥
-  unnamed b c i h (via_devices n j from to st) = absurd (omega (arith, f.bare b h, tree_rank 5 j s from to b st.tree))
-  unnamed b c i h (via_device device g a e) = absurd (omega (arith, f.bare b h, tree_rank 1 ((node_at s b).rank - 1) s 0 top b (f.volumes device b g)))
-  unnamed b c i h (via_node device r n j from to g st a) = absurd (omega (arith, f.bare b h, tree_rank 1 j s from to b st.tree))
-  unnamed b c i h (via_leaf device r block g k a e) = absurd (omega (arith, f.inside b h, f.data_blocks device r block b g k))
+  unnamed : (r : ℕ) → Grove s r fixed ids top → (b c i : ℕ) → 0 < occurrences b fixed → Via s r ids top c i b → ⊥
+  unnamed r g b c i h (via_devices n j from to st a) = absurd (omega (arith, g.bare b h, tree_rank 5 j s from to b st.tree))
+  unnamed r g b c i h (via_device device d a e) = absurd (omega (arith, g.bare b h, tree_rank 1 ((node_at s b).rank - 1) s 0 top b (g.volumes device b d)))
+  unnamed r g b c i h (via_node device v n j from to d st a) = absurd (omega (arith, g.bare b h, tree_rank 1 j s from to b st.tree))
+  unnamed r g b c i h (via_leaf device v block d k a e) = absurd (omega (arith, g.inside b h, g.data_blocks device v block b d k))
+
+  -- no fixed block is a root
+  pub fixed_no_root : (b : ℕ) → 0 < occurrences b fixed → occurrences b roots ≡ 0
+  fixed_no_root b h =
+      elim (cases_lt 0 (occurrences b roots)) [
+        | inl p ↦ absurd (omega (arith, (f r0 h0).bare b h, tree_rank 5 ((node_at s b).rank - 5) s 0 ids b (f b p).devices))
+        | inr z ↦ omega arith
+      ]
 
   pub fixed_once : (b : ℕ) → 0 < occurrences b fixed → count_of s b ≡ 1
   fixed_once b h =
-      let root_rank : (node_at s r0).rank ≡ 5 + ((node_at s r0).rank - 5) = tree_rank 5 ((node_at s r0).rank - 5) s 0 ids r0 f.devices in
-      let a : one_if_same r0 b ≡ 0 = one_other r0 b (λ e. let g : (node_at s r0).rank ≡ (node_at s b).rank = ap (λ x. (node_at s x).rank) e in absurd (omega (arith, f.bare b h))) in
       elim (cases_lt 0 (times_named s [] b)) [
         | inl p ↦
             let c = namer s b p in
             let n = child_place s c.0 b c.1.0 c.1.1 in
-            absurd (unnamed b c.0 n.0 h (via s r0 fixed ids top c.0 n.0 b f (place_live c.0 c.1.0) n.1))
-        | inr z ↦ omega (arith, bal.true b, f.once b)
+            let w = place_live c.0 c.1.0 in
+            absurd (unnamed w.0 (f w.0 w.1) b c.0 n.0 h (via s w.0 fixed ids top c.0 n.0 b (f w.0 w.1) w.2 n.1))
+        | inr z ↦ omega (arith, bal.true b, (f r0 h0).once b, fixed_no_root b h, occurrences-append b roots fixed, z)
       ]

@@ -10,7 +10,7 @@ use Rattle.tp_layout.proofs.Ordered.{found_below, found_here, found_later}
 use Rattle.tp_refs.specs.Store.{Store, node_at}
 use Rattle.tp_trees.proofs.Trees.{ascend_tree}
 use Rattle.tp_sharing.specs.Forest.{Forest, Slot, content, value_at}
-use Rattle.tp_sharing.specs.Volumes.{BlockSlot, DeviceSlots, DevicesAscend, ListsAscend, LookupsAreListed, MappedIsTold, SlotsAreListed, SlotsAscend, Volumes, device_from, device_of, mapped_of, size_of, place_in, place_or_none, slot_from, slot_of, volumes_below}
+use Rattle.tp_sharing.specs.Volumes.{BlockSlot, DeviceSlots, DevicesAscend, LookupsAreListed, MappedIsTold, SlotsAreListed, SlotsAscend, Volumes, device_from, device_of, mapped_of, size_of, place_in, place_or_none, slot_from, slot_of, volumes_below}
 use Rattle.tp_sharing.proofs.Lists.{entry_of, some_eq, value_from}
 
 pub device_here : (id : ℕ) (d : DeviceSlots) (ds : Volumes) → d.id ≡ id → device_of id (d ∷ ds) ≡ Some d.slots
@@ -118,8 +118,8 @@ devices_ascend m s low high top (e ∷ es) h each = (
     apart : (id : ℕ) (x : Entry) → e.key ≡ id → found id es ≡ Some x → ⊥
     apart id x p g = let n : found id es ≡ None = found_below (suc e.key) high id es h.1 (omega (arith, p)) in absurd (cc)
 
-pub lists_ascend : ListsAscend
-lists_ascend m s root fixed top f =
+pub lists_ascend_below : (m : ℕ) (s : Store) (root : ℕ) (fixed : List ℕ) (top : ℕ) → Forest s root fixed top → DevicesAscend 0 (volumes_below m s root)
+lists_ascend_below m s root fixed top f =
     devices_ascend m s 0 (2 ^ 24) top (content 5 s root) (ascend_tree 5 ((node_at s root).rank - 5) s 0 (2 ^ 24) root f.devices.tree)
     (λ id e h. ascend_tree 1 ((node_at s e.value).rank - 1) s 0 top e.value (f.volumes id e h).tree.tree)
 

@@ -10,11 +10,12 @@ use Rattle.tp_trees.specs.Tree.{IsTree, blank}
 use Rattle.tp_trees.proofs.Frames.{Below}
 use Rattle.tp_trees.proofs.Trees.{choose, led_by_place}
 use Rattle.tp_trees.proofs.Walks.{value_found}
-use Rattle.tp_sharing.specs.Forest.{content, down}
+use Rattle.tp_refs.specs.Balance.{occurrences}
+use Rattle.tp_sharing.specs.Forest.{Forest, content, down, value_at}
 use Rattle.tp_sharing.specs.Paths.{OnPath, PathsAreDown, SharedByPaths}
-use Rattle.tp_sharing.proofs.Grove.{grove_of}
+use Rattle.tp_sharing.proofs.Grove.{Grove, grove_of}
 use Rattle.tp_sharing.proofs.Lists.{value_from}
-use Rattle.tp_sharing.proofs.Sharing.{down_cons, path_slot, slot_end, slot_path, volume_rank}
+use Rattle.tp_sharing.proofs.Sharing.{SharedDevices, down_cons, root_there, slot_end, slot_way, volume_rank, way_slot}
 use Rattle.tp_sharing.proofs.Ways.{child_entry}
 
 -- the entry that a path goes through, by its place
@@ -54,29 +55,42 @@ pub paths_are_down : PathsAreDown
 paths_are_down base k s low high b q x t l u = (on_down base k s low high b q x t, λ h. down_on base k s low high b q x h.0 t l u h.1 h.2)
 
 pub shared_by_paths : SharedByPaths
-shared_by_paths s root fixed top bal f device block volume slot dl bl hd hb =
-    let g = grove_of s root fixed top f in
+shared_by_paths s roots fixed top bal f i root here root_is device block volume slot dl bl hd hb =
+    let there : 0 < occurrences root roots = subst (λ x. 0 < occurrences x roots) root_is (root_there roots i here) in
+    let fr : Forest s root fixed top = f root there in
+    let g : (r : ℕ) → 0 < occurrences r roots → Grove s r fixed (2 ^ 24) top = λ x h. grove_of s x fixed top (f x h) in
     let r = volume.value in
     let p = slot.value in
+    let d = (node_at s root).rank - 5 in
     let k = (node_at s r).rank - 1 in
-    let fd : found device (content 5 s root) ≡ Some volume = value_found 5 ((node_at s root).rank - 5) s 0 (2 ^ 24) root device volume f.devices.tree (omega arith) dl hd in
-    let t : IsTree 1 k s 0 top r = (f.volumes device volume fd).tree.tree in
+    let fd : found device (content 5 s root) ≡ Some volume = value_found 5 d s 0 (2 ^ 24) root device volume fr.devices.tree (omega arith) dl hd in
+    let t : IsTree 1 k s 0 top r = (fr.volumes device volume fd).tree.tree in
     let fb : found block (content 1 s r) ≡ Some slot = value_found 1 k s 0 top r block slot t (omega arith) bl hb in
     let vd = value_from device volume (content 5 s root) fd in
     let vb = value_from block slot (content 1 s r) fb in
-    let rank : (node_at s r).rank ≡ 1 + k = volume_rank s root fixed (2 ^ 24) top bal g device r vd in
-    let last : down s block r (suc k) ≡ p = slot_end s root fixed (2 ^ 24) top bal g device r vd block p vb (suc k) refl in (
-      λ h. path_slot s root fixed (2 ^ 24) top bal g device r vd block p vb (elim h.1 [
-        | inl o ↦ let d = on_down 1 k s 0 top r block h.0 t o in (d.0, omega (arith, d.1), subst (λ y. 2 ≤ count_of s y) (sym d.2) h.2)
-        | inr e ↦ (suc k, omega arith, subst (λ y. 2 ≤ count_of s y) (sym (last ∙ e)) h.2)
+    let vr : value_at device (content 5 s (get_or roots i 0)) ≡ Some r = subst (λ x. value_at device (content 5 s x) ≡ Some r) (sym root_is) vd in
+    let rank : (node_at s r).rank ≡ 1 + k = volume_rank s roots fixed (2 ^ 24) top bal g root there device r vd in
+    let last : down s block r (suc k) ≡ p = slot_end s roots fixed (2 ^ 24) top bal g root there device r vd block p vb (suc k) refl in (
+      λ h. way_slot s roots fixed (2 ^ 24) top bal g i here device r block p vr vb (elim h.1 [
+        | inl o ↦
+            let z = on_down 5 d s 0 (2 ^ 24) root device h.0 fr.devices.tree o in
+            inl (subst (λ x. SharedDevices s x device) (sym root_is) (z.0, z.1, subst (λ y. 2 ≤ count_of s y) (sym z.2) h.2))
+        | inr low ↦ elim low [
+          | inl o ↦ let z = on_down 1 k s 0 top r block h.0 t o in inr (z.0, omega (arith, z.1), subst (λ y. 2 ≤ count_of s y) (sym z.2) h.2)
+          | inr e ↦ inr (suc k, omega (arith, rank), subst (λ y. 2 ≤ count_of s y) (sym (last ∙ e)) h.2)
+        ]
       ]),
-      λ o.
-          let w = slot_path s root fixed (2 ^ 24) top bal g device r block p vd vb o.0 o.2.0 o.1 o.2.1 o.2.2 o.3 in (
-            down s block r w.0,
-            elim (cases_lt w.0 (node_at s r).rank) [
-              | inl l ↦ inl (down_on 1 k s 0 top r block (down s block r w.0) w.0 t (omega arith) bl (omega arith) refl)
-              | inr n ↦ let e : suc k ≡ w.0 = omega (arith, w.1) in inr (sym last ∙ ap (down s block r) e)
-            ],
-            w.2,
-          ),
+      λ o. elim (slot_way s roots fixed (2 ^ 24) top bal g i here device r block p vr vb o) [
+        | inl z ↦
+            let w = subst (λ x. SharedDevices s x device) root_is z in
+            (down s device root w.0, inl (down_on 5 d s 0 (2 ^ 24) root device (down s device root w.0) w.0 fr.devices.tree (omega arith) dl w.1 refl), w.2)
+        | inr w ↦ (
+          down s block r w.0,
+          inr (elim (cases_lt w.0 (node_at s r).rank) [
+            | inl l ↦ inl (down_on 1 k s 0 top r block (down s block r w.0) w.0 t (omega arith) bl (omega (arith, l, rank)) refl)
+            | inr n ↦ let e : suc k ≡ w.0 = omega (arith, w.1, n, rank) in inr (sym last ∙ ap (down s block r) e)
+          ]),
+          w.2,
+        )
+      ],
     )

@@ -1,9 +1,10 @@
 -- Internal: the trees of the volumes below the device tree, and which virtual blocks share a data block (own, in the manner of the kernel's
 -- thin-provisioning.rst: "internal snapshots").
-use Rattle.std.specs.Prelude.{◌≡◌, ℕ, zero, suc, ◌-◌, ◌<◌, ◌≤◌, ◌^◌, ◌↔◌, List, [], ◌∷◌, length, Option, Some, IsTrue}
+use Rattle.std.specs.Prelude.{◌≡◌, ℕ, zero, suc, ◌-◌, ◌<◌, ◌≤◌, ◌^◌, ◌↔◌, ◌||◌, List, [], ◌++◌, length, slice_index, Option, Some, IsTrue}
 use Rattle.std.specs.Option.{option_map}
 use Rattle.tp_layout.specs.declared.entry.Entry.{Entry}
 use Rattle.tp_layout.specs.Entries.{found}
+pub use Rattle.tp_layout.specs.Super.{held_refs}
 use Rattle.tp_refs.specs.Store.{Store, count_of, node_at}
 use Rattle.tp_refs.specs.Balance.{Balanced, occurrences}
 use Rattle.tp_trees.specs.Tree.{IsWhole, is_shared_path, led_to, pairs}
@@ -35,16 +36,28 @@ pub record Forest (s : Store) (root : ℕ) (fixed : List ℕ) (top : ℕ) : Type
 abbrev pub Slot : Store → ℕ → ℕ → ℕ → ℕ → Type 0
 Slot s root device block p = (volume : ℕ) × (value_at device (content 5 s root) ≡ Some volume) × (value_at block (content 1 s volume) ≡ Some p)
 
--- another slot has the data block
-abbrev pub SharedSlot : Store → ℕ → ℕ → ℕ → ℕ → Type 0
-SharedSlot s root device block p = (other at : ℕ) × Slot s root other at p × (((other ≡ device) × (at ≡ block)) → ⊥)
+-- ---- several roots: that of the device tree, and that of a held copy of it
 
--- A look-up's test of the path from a volume's root down to a data block is true exactly where another slot has the data block.
+-- Below each of these roots stands a forest. Their trees may share nodes.
+abbrev pub Forests : Store → List ℕ → List ℕ → ℕ → Type 0
+Forests s roots fixed top = (root : ℕ) → 0 < occurrences root roots → Forest s root fixed top
+
+-- below the root of a held copy, where there is one, stands a forest
+abbrev pub HeldForest : Store → ℕ → List ℕ → ℕ → Type 0
+HeldForest s zero fixed top = Unit {0}
+HeldForest s (suc n) fixed top = Forest s (suc n) fixed top
+
+-- another slot has the data block, below the root at this place of the list or another one
+abbrev pub SharedSlot : Store → List ℕ → ℕ → ℕ → ℕ → ℕ → Type 0
+SharedSlot s roots i device block p = (j other at : ℕ) × (j < length roots) × Slot s (slice_index roots j) other at p × (((j ≡ i) × (other ≡ device) × (at ≡ block)) → ⊥)
+
+-- A look-up's test of the path from a root down to a data block, through a volume's root, is true exactly where another slot has the data block.
 abbrev pub SharedExactly : Type 0
 SharedExactly =
-    (s : Store) (root : ℕ) (fixed : List ℕ) (top : ℕ) → Balanced s [] (root ∷ fixed) → Forest s root fixed top
-    → (device block : ℕ) (volume slot : Entry) → found device (content 5 s root) ≡ Some volume → found block (content 1 s volume.value) ≡ Some slot
-    → (IsTrue (is_shared_path ((node_at s volume.value).rank - 1) s block volume.value)) ↔ (SharedSlot s root device block slot.value)
+    (s : Store) (roots fixed : List ℕ) (top : ℕ) → Balanced s [] (roots ++ fixed) → Forests s roots fixed top → (i : ℕ) → i < length roots
+    → (device block : ℕ) (volume slot : Entry) → found device (content 5 s (slice_index roots i)) ≡ Some volume → found block (content 1 s volume.value) ≡ Some slot
+    → (IsTrue (is_shared_path ((node_at s (slice_index roots i)).rank - 5) s device (slice_index roots i) || is_shared_path ((node_at s volume.value).rank - 1) s block volume.value))
+    ↔ (SharedSlot s roots i device block slot.value)
 
 -- ---- the blocks on a path
 

@@ -1,12 +1,12 @@
 -- Internal: what stays of the volumes while the trees are changed (own).
-use Rattle.std.specs.Prelude.{◌≡◌, ℕ, ◌+◌, ◌-◌, ◌<◌, ◌≤◌, ◌^◌, ◌⊎◌, List, [], ◌∷◌, length, Option, None, Some}
+use Rattle.std.specs.Prelude.{◌≡◌, ℕ, ◌+◌, ◌-◌, ◌<◌, ◌≤◌, ◌^◌, ◌⊎◌, List, [], ◌∷◌, ◌++◌, length, Option, None, Some}
 use Rattle.tp_layout.specs.declared.entry.Entry.{Entry}
 use Rattle.tp_layout.specs.Entries.{found, with_entry, without_key}
 use Rattle.tp_refs.specs.Store.{Store, count_of, node_at}
 use Rattle.tp_refs.specs.Balance.{Balanced, Frame, LowerStay, SameBelow, occurrences}
 use Rattle.tp_trees.specs.Tree.{IsTree, IsWhole, pairs}
-use Rattle.tp_sharing.specs.Forest.{Forest, IsVolume, content}
-use Rattle.tp_sharing.specs.Volumes.{device_from, slot_from, volumes_below, with_device, with_slot, without_device, without_slot}
+use Rattle.tp_sharing.specs.Forest.{Forest, Forests, HeldForest, IsVolume, content, held_refs}
+use Rattle.tp_sharing.specs.Volumes.{BlockSlot, DeviceSlots, Volumes, changed_at, copies_below, device_from, resized, slot_from, volumes_below, with_device, with_slot, without_device, without_slot}
 
 -- The entry tells of a volume that was there, under some id, and whose nodes are as they were.
 pub record VolumeStays (s t : Store) (root : ℕ) (e : Entry) : Type 0 where
@@ -70,6 +70,26 @@ abbrev pub ForestStays : Type 0
 ForestStays =
     (s t : Store) (root : ℕ) (fixed : List ℕ) (top : ℕ) → Forest s root fixed top → length t.nodes ≡ length s.nodes → Frame s t (root ∷ fixed)
     → SameForest s t root fixed top
+
+-- ---- a held copy
+
+-- The forests of both roots are those of each.
+abbrev pub ForestsOfBoth : Type 0
+ForestsOfBoth = (s : Store) (root held : ℕ) (fixed : List ℕ) (top : ℕ) → Forest s root fixed top → HeldForest s held fixed top → Forests s (root ∷ held_refs held) fixed top
+
+-- Where what stands under the held root and the fixed blocks is as it was, so are the held copy and its lists, whatever became of the other trees.
+abbrev pub HeldStays : Type 0
+HeldStays =
+    (s t : Store) (held : ℕ) (fixed : List ℕ) (top : ℕ) → HeldForest s held fixed top → length t.nodes ≡ length s.nodes → Frame s t (held_refs held ++ fixed)
+    → HeldForest t held fixed top × ((m : ℕ) → copies_below m t held ≡ copies_below m s held)
+
+-- A change of the volumes of now leaves the copies behind them.
+pub record CopiesStay : Type 0 where
+  pub with_one : (x : DeviceSlots) (now : Volumes) (m : ℕ) (s : Store) (held : ℕ) → x.id < 2 ^ 24 → with_device x (now ++ copies_below m s held) ≡ with_device x now ++ copies_below m s held
+  pub without_one : (id : ℕ) (now : Volumes) (m : ℕ) (s : Store) (held : ℕ) → id < 2 ^ 24 → without_device id (now ++ copies_below m s held) ≡ without_device id now ++ copies_below m s held
+  pub changed : (id : ℕ) (f : List BlockSlot → List BlockSlot) (now : Volumes) (m : ℕ) (s : Store) (held : ℕ) → id < 2 ^ 24
+      → changed_at id f (now ++ copies_below m s held) ≡ changed_at id f now ++ copies_below m s held
+  pub grown : (id size : ℕ) (now : Volumes) (m : ℕ) (s : Store) (held : ℕ) → id < 2 ^ 24 → resized id size (now ++ copies_below m s held) ≡ resized id size now ++ copies_below m s held
 
 -- ---- changes of the device tree
 

@@ -1,16 +1,17 @@
 -- Internal: what the trees stand for as lists, for the layers above: the devices, their virtual blocks, and the data blocks of these (own).
-use Rattle.std.specs.Prelude.{◌≡◌, ℕ, suc, ◌+◌, ◌-◌, ◌<◌, ◌≤◌, ◌==◌, ◌^◌, nat_lt, if◌then◌else◌, List, [], ◌∷◌, ◌++◌, length, map, Option, None, Some, ◌↔◌, ⊤, IsTrue}
+use Rattle.std.specs.Prelude.{◌≡◌, ℕ, zero, suc, ◌+◌, ◌-◌, ◌<◌, ◌≤◌, ◌==◌, ◌||◌, ◌^◌, nat_lt, if◌then◌else◌, List, [], ◌∷◌, ◌++◌, length, map, Option, None, Some, ◌↔◌, ⊤, IsTrue}
 use Rattle.std.specs.Option.{option_map}
 use Rattle.std.specs.List.{count_by, range_with_len}
 use Rattle.tp_model.specs.Geometry.{Geometry}
 use Rattle.tp_model.specs.Told.{IsToldSize, told_blocks}
-use Rattle.tp_model.specs.Pool.{different}
+use Rattle.tp_model.specs.Pool.{different, is_now}
+pub use Rattle.tp_model.specs.Pool.{copy_id}
 use Rattle.tp_layout.specs.declared.entry.Entry.{Entry}
 use Rattle.tp_layout.specs.Entries.{found}
 use Rattle.tp_refs.specs.Store.{Store, count_of, node_at}
 use Rattle.tp_refs.specs.Balance.{Balanced}
 use Rattle.tp_trees.specs.Tree.{is_shared_path}
-use Rattle.tp_sharing.specs.Forest.{Forest, Slot, content}
+use Rattle.tp_sharing.specs.Forest.{Forest, Forests, Slot, content, held_refs}
 
 -- a virtual block, and the number of its data block
 pub record BlockSlot : Type 0 where
@@ -51,6 +52,10 @@ place_or_none block (Some xs) = place_in block xs
 -- the data block of a virtual block of a device
 abbrev pub slot_of : ℕ → ℕ → Volumes → Option ℕ
 slot_of id block volumes = place_or_none block (device_of id volumes)
+
+-- how many devices there are; a held copy of one is none
+abbrev pub devices_in : Volumes → ℕ
+devices_in volumes = count_by (λ d. is_now d.id) volumes
 
 -- how many virtual blocks of a device have a data block
 abbrev pub mapped_of : ℕ → Volumes → Option ℕ
@@ -138,6 +143,19 @@ device_from m s e = record { id = e.key; size = e.size; slots = map (slot_from m
 abbrev pub volumes_below : ℕ → Store → ℕ → Volumes
 volumes_below m s root = map (device_from m s) (content 5 s root)
 
+-- In a list of volumes those of a held copy stand behind all others, each under the id of a copy, which no device has.
+abbrev pub as_copy : DeviceSlots → DeviceSlots
+as_copy d = record d { id = copy_id d.id }
+
+-- the copies of the volumes below the root of a held copy, if there is one
+abbrev pub copies_below : ℕ → Store → ℕ → Volumes
+copies_below m s zero = []
+copies_below m s (suc n) = map as_copy (volumes_below m s (suc n))
+
+-- what the trees below both roots stand for
+abbrev pub volumes_of : ℕ → Store → ℕ → ℕ → Volumes
+volumes_of m s root held = volumes_below m s root ++ copies_below m s held
+
 -- how many data blocks have a count over 0
 abbrev pub data_in_use : ℕ → Store → ℕ
 data_in_use m s = count_by (λ place. nat_lt 0 (count_of s (m + place))) (range_with_len 0 (length s.counts - m))
@@ -155,28 +173,37 @@ pub record LookupsAreListed : Type 0 where
   pub slots : (m : ℕ) (s : Store) (root device block : ℕ) (volume : Entry) → found device (content 5 s root) ≡ Some volume
       → slot_of device block (volumes_below m s root) ≡ option_map (λ x. x.value - m) (found block (content 1 s volume.value))
 
--- Ids have 24 bits, virtual blocks are below `top`, and data blocks are of the store, among m metadata blocks.
+-- Of both roots, a device finds its own volume and its size, and the copy of a device those below the held root.
+pub record CopiesAreListed : Type 0 where
+  pub now : (m : ℕ) (s : Store) (root held device : ℕ) → device < 2 ^ 24 → device_of device (volumes_of m s root held) ≡ device_of device (volumes_below m s root)
+  pub copy : (m : ℕ) (s : Store) (root n : ℕ) (fixed : List ℕ) (top device : ℕ) → Forest s root fixed top → device_of (copy_id device) (volumes_of m s root (suc n)) ≡ device_of device (volumes_below m s (suc n))
+  pub none : (m : ℕ) (s : Store) (root : ℕ) (fixed : List ℕ) (top device : ℕ) → Forest s root fixed top → device_of (copy_id device) (volumes_of m s root 0) ≡ None
+  pub now_size : (m : ℕ) (s : Store) (root held device : ℕ) → device < 2 ^ 24 → size_of device (volumes_of m s root held) ≡ size_of device (volumes_below m s root)
+  pub copy_size : (m : ℕ) (s : Store) (root n : ℕ) (fixed : List ℕ) (top device : ℕ) → Forest s root fixed top → size_of (copy_id device) (volumes_of m s root (suc n)) ≡ size_of device (volumes_below m s (suc n))
+  pub none_size : (m : ℕ) (s : Store) (root : ℕ) (fixed : List ℕ) (top device : ℕ) → Forest s root fixed top → size_of (copy_id device) (volumes_of m s root 0) ≡ None
+
+-- Ids have 24 bits, and one more for a copy, virtual blocks are below `top`, and data blocks are of the store, among m metadata blocks.
 abbrev pub SlotsAreWithin : Type 0
 SlotsAreWithin =
-    (m : ℕ) (s : Store) (root : ℕ) (fixed : List ℕ) (top : ℕ) → Balanced s [] (root ∷ fixed) → Forest s root fixed top → length s.nodes ≡ m
-    → (device block place : ℕ) → slot_of device block (volumes_below m s root) ≡ Some place
-    → (device < 2 ^ 24) × (block < top) × (m + place < length s.counts)
+    (m : ℕ) (s : Store) (root held : ℕ) (fixed : List ℕ) (top : ℕ) → Balanced s [] (root ∷ (held_refs held ++ fixed)) → Forests s (root ∷ held_refs held) fixed top → length s.nodes ≡ m
+    → (device block place : ℕ) → slot_of device block (volumes_of m s root held) ≡ Some place
+    → (device < 2 ^ 25) × (block < top) × (m + place < length s.counts)
 
 -- The lists are in order.
 abbrev pub ListsAscend : Type 0
-ListsAscend = (m : ℕ) (s : Store) (root : ℕ) (fixed : List ℕ) (top : ℕ) → Forest s root fixed top → DevicesAscend 0 (volumes_below m s root)
+ListsAscend = (m : ℕ) (s : Store) (root held : ℕ) (fixed : List ℕ) (top : ℕ) → Forests s (root ∷ held_refs held) fixed top → DevicesAscend 0 (volumes_of m s root held)
 
 -- The data blocks in use are the different ones of the slots.
 abbrev pub UsedIsDifferent : Type 0
 UsedIsDifferent =
-    (m : ℕ) (s : Store) (root : ℕ) (fixed : List ℕ) (top : ℕ) → Balanced s [] (root ∷ fixed) → Forest s root fixed top → length s.nodes ≡ m
-    → data_in_use m s ≡ used (volumes_below m s root)
+    (m : ℕ) (s : Store) (root held : ℕ) (fixed : List ℕ) (top : ℕ) → Balanced s [] (root ∷ (held_refs held ++ fixed)) → Forests s (root ∷ held_refs held) fixed top → length s.nodes ≡ m
+    → data_in_use m s ≡ used (volumes_of m s root held)
 
 -- A data block's count is 0 exactly where no slot has it.
 abbrev pub FreeIsUnused : Type 0
 FreeIsUnused =
-    (m : ℕ) (s : Store) (root : ℕ) (fixed : List ℕ) (top : ℕ) → Balanced s [] (root ∷ fixed) → Forest s root fixed top → length s.nodes ≡ m
-    → (place : ℕ) → (count_of s (m + place) ≡ 0) ↔ (Unused place (volumes_below m s root))
+    (m : ℕ) (s : Store) (root held : ℕ) (fixed : List ℕ) (top : ℕ) → Balanced s [] (root ∷ (held_refs held ++ fixed)) → Forests s (root ∷ held_refs held) fixed top → length s.nodes ≡ m
+    → (place : ℕ) → (count_of s (m + place) ≡ 0) ↔ (Unused place (volumes_of m s root held))
 
 -- What a device's entry tells of mapped blocks is the number of its slots.
 abbrev pub MappedIsTold : Type 0
@@ -184,9 +211,10 @@ MappedIsTold =
     (m : ℕ) (s : Store) (root : ℕ) (fixed : List ℕ) (top : ℕ) → Forest s root fixed top
     → (device : ℕ) → option_map (λ (e : Entry). e.mapped) (found device (content 5 s root)) ≡ mapped_of device (volumes_below m s root)
 
--- A look-up's test of a volume's path is true exactly where another slot of the lists has the data block.
+-- A look-up's test of the path from the root through a volume's root is true exactly where another slot of the lists, held or not, has the data block.
 abbrev pub SharedIsOther : Type 0
 SharedIsOther =
-    (m : ℕ) (s : Store) (root : ℕ) (fixed : List ℕ) (top : ℕ) → Balanced s [] (root ∷ fixed) → Forest s root fixed top → length s.nodes ≡ m
+    (m : ℕ) (s : Store) (root held : ℕ) (fixed : List ℕ) (top : ℕ) → Balanced s [] (root ∷ (held_refs held ++ fixed)) → Forests s (root ∷ held_refs held) fixed top → length s.nodes ≡ m
     → (device block : ℕ) (volume slot : Entry) → found device (content 5 s root) ≡ Some volume → found block (content 1 s volume.value) ≡ Some slot
-    → (IsTrue (is_shared_path ((node_at s volume.value).rank - 1) s block volume.value)) ↔ (OtherSlot device block (slot.value - m) (volumes_below m s root))
+    → (IsTrue (is_shared_path ((node_at s root).rank - 5) s device root || is_shared_path ((node_at s volume.value).rank - 1) s block volume.value))
+    ↔ (OtherSlot device block (slot.value - m) (volumes_of m s root held))

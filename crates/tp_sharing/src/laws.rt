@@ -2,13 +2,13 @@
 
 ghost use Rattle.tp_sharing.specs.Changes.{DeviceChanges, SizeChanges, SlotChanges, VolumesWithDevice, VolumesWithSlot, VolumesWithoutDevice, VolumesWithoutSlot};
 ghost use Rattle.tp_sharing.specs.Forest.{SharedExactly, TestIsWithin};
-ghost use Rattle.tp_sharing.specs.Later.{ContentIsPairs, ContentStays, DevicePut, DeviceTaken, EmptyForest, ForestAfter, ForestStays, LowBlocksStay, NewVolume, SlotsOfDevice, VolumeKept, VolumeWithEntry, VolumeWithoutEntry, VolumesAreLive, VolumesStay};
+ghost use Rattle.tp_sharing.specs.Later.{ForestsOfBoth, HeldStays, CopiesStay, ContentIsPairs, ContentStays, DevicePut, DeviceTaken, EmptyForest, ForestAfter, ForestStays, LowBlocksStay, NewVolume, SlotsOfDevice, VolumeKept, VolumeWithEntry, VolumeWithoutEntry, VolumesAreLive, VolumesStay};
 ghost use Rattle.tp_sharing.specs.Paths.{PathsAreDown, SharedByPaths};
 ghost use Rattle.tp_sharing.specs.Sizes.{NodesAreFew, UseByDevices};
-ghost use Rattle.tp_sharing.specs.Volumes.{FreeIsUnused, ListsAscend, LookupsAreListed, MappedIsTold, SharedIsOther, SlotsAreListed, SlotsAreWithin, UsedIsDifferent};
+ghost use Rattle.tp_sharing.specs.Volumes.{CopiesAreListed, FreeIsUnused, ListsAscend, LookupsAreListed, MappedIsTold, SharedIsOther, SlotsAreListed, SlotsAreWithin, UsedIsDifferent};
 
-/// A look-up's test of the path from a volume's root to a data block is true exactly where another slot has the data block,
-/// and exactly where some block on that path has a count of 2 or more. The path is the one whose intervals hold the key.
+/// A look-up's test of the path from a root through a volume's root to a data block is true exactly where another slot has the data block, below that root or
+/// another one, and exactly where some block on that path has a count of 2 or more. The path is the one whose intervals hold the keys.
 pub fn shared_slots_have_shared_paths()
     ensures exactly { SharedExactly }
     ensures within { TestIsWithin }
@@ -21,6 +21,7 @@ pub fn shared_slots_have_shared_paths()
 pub fn trees_stand_for_lists()
     ensures slots { SlotsAreListed }
     ensures lookups { LookupsAreListed }
+    ensures copies { CopiesAreListed }
     ensures within { SlotsAreWithin }
     ensures ascend { ListsAscend }
     ensures shared { SharedIsOther }
@@ -55,6 +56,13 @@ pub fn volumes_stay_or_are_new()
     ensures volumes { VolumesStay }
     ensures after { ForestAfter }
     ensures all { ForestStays }
+{}
+
+/// A held copy stands beside the device tree, and stays with its lists while what stands under its root does.
+pub fn held_copies_stay()
+    ensures both { ForestsOfBoth }
+    ensures stays { HeldStays }
+    ensures copies { CopiesStay }
 {}
 
 /// What an operation on the device tree makes of the forest and its lists. A device whose entry names a changed copy of its

@@ -9,6 +9,6 @@ mod laws;
 
 pub use laws::{
     changed_trees_are_volumes, changes_are_those_of_lists, counts_tell_data_in_use,
-    device_trees_can_change, shared_slots_have_shared_paths, trees_stand_for_lists,
-    trees_use_few_blocks, volumes_stay_or_are_new,
+    device_trees_can_change, held_copies_stay, shared_slots_have_shared_paths,
+    trees_stand_for_lists, trees_use_few_blocks, volumes_stay_or_are_new,
 };

@@ -143,6 +143,14 @@ impl Managed for FailingShelf {
         Err(self.reason(Refusal::StaleTransactionId))
     }
 
+    fn reserve_metadata_snap(&mut self) -> Result<(), Refusal> {
+        Err(self.reason(Refusal::HeldRootExists))
+    }
+
+    fn release_metadata_snap(&mut self) -> Result<(), Refusal> {
+        Err(self.reason(Refusal::NoHeldRoot))
+    }
+
     fn status(&mut self, _out: &mut LineBuffer) -> usize {
         0
     }

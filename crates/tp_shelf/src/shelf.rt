@@ -53,14 +53,15 @@ impl Company {
     }
 }
 
-/// Two volumes with the ids 0 and 1, which are always there: their bytes, one behind the other, who holds them, and the transaction id. A write that is done
-/// is kept. Each flush is noted as one of a stream.
+/// Two volumes with the ids 0 and 1, which are always there: their bytes, one behind the other, who holds them, the transaction id, and the number of the root
+/// that is held (0: none), below which nothing is kept. A write that is done is kept. Each flush is noted as one of a stream.
 #[derive(Drop)]
 pub struct Shelf {
     company: Company,
     geometry: Geometry,
     flushes: Log,
     transaction_id: u64,
+    held_root: u32,
     holders: Holders,
     bytes: Vec<u8>,
 }
@@ -84,6 +85,7 @@ impl Shelf {
             geometry,
             flushes: Log::new(),
             transaction_id: 0,
+            held_root: 0,
             holders: ArrayVec::new(),
             bytes,
         }
@@ -273,6 +275,22 @@ impl Managed for Shelf {
         Ok(())
     }
 
+    fn reserve_metadata_snap(&mut self) -> Result<(), Refusal> {
+        if self.held_root != 0 {
+            return Err(Refusal::HeldRootExists);
+        }
+        self.held_root = 9;
+        Ok(())
+    }
+
+    fn release_metadata_snap(&mut self) -> Result<(), Refusal> {
+        if self.held_root == 0 {
+            return Err(Refusal::NoHeldRoot);
+        }
+        self.held_root = 0;
+        Ok(())
+    }
+
     fn status(&mut self, out: &mut LineBuffer) -> usize {
         let status = PoolStatus {
             transaction_id: self.transaction_id,
@@ -282,6 +300,7 @@ impl Managed for Shelf {
             data_blocks: 4,
             mode: Mode::Writable,
             needs_check: false,
+            held_root: self.held_root,
         };
         print_status(&status, out)
     }

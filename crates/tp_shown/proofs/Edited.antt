@@ -5,7 +5,7 @@ use Rattle.std.specs.List.{enumerate_from}
 use Rattle.std.specs.Ordering.{nat_cmp}
 use Rattle.std.specs.FinMap.{FinMap, empty, get, insert}
 use Rattle.std.proofs.Math.Nat.{mod-lt}
-use Rattle.std.proofs.lemmas.Bool.{cases_eq, false≢true}
+use Rattle.std.proofs.lemmas.Bool.{cases_eq}
 use Rattle.std.proofs.lemmas.Nat.{div-add-mod'}
 use Rattle.std.proofs.lemmas.List.{length-map}
 use Rattle.std.proofs.lemmas.List.FromFn.{length-enumerate_from}
@@ -178,6 +178,7 @@ module _ (g : Geometry) (c : Contents) (image seen : List Sector) (p : PlainPool
     transaction_id = h.transaction_id;
     needs_check = h.needs_check;
     meta_used = refl;
+    held_root = h.held_root;
     sizes = sizes_are;
     slots = slots_are;
     sectors = record {

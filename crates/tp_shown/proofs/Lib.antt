@@ -2,6 +2,7 @@ pub mod Values
 pub mod Blocks
 pub mod Partly
 pub mod Made
+pub mod Reserved
 pub mod Edited
 pub mod Overwritten
 pub mod Tests

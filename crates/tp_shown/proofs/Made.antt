@@ -1,5 +1,5 @@
 -- Pools that have given contents.
-use Rattle.std.proofs.Common.{◌≡◌, ◌≢◌, ℕ, zero, suc, ◌+◌, ◌-◌, ◌*◌, ◌/◌, ◌%◌, ◌<◌, ◌≤◌, ◌++◌, cond, List, [], ◌∷◌, length, map, replicate, Option, Some, None, ◌⊎◌, inl, inr, refl, sym, ap, subst, ◌∙◌, arith}
+use Rattle.std.proofs.Common.{◌≡◌, ◌≢◌, ℕ, zero, suc, ◌+◌, ◌-◌, ◌*◌, ◌/◌, ◌%◌, ◌<◌, ◌≤◌, cond, List, [], ◌∷◌, length, map, replicate, Option, Some, None, ◌⊎◌, inl, inr, refl, sym, ap, subst, ◌∙◌, arith}
 use Rattle.std.specs.Prelude.{slice_get}
 use Rattle.std.specs.Option.{IsSome, option_map, option_map_or}
 use Rattle.std.specs.List.{range_with_len}
@@ -79,6 +79,7 @@ module _ (g : Geometry) (image : List Sector) where
     opened = record {
       geometry = g;
       volumes = volumes_map c.volumes;
+      held_root = c.held_root;
       transaction_id = c.transaction_id;
       needs_check = c.needs_check;
       mode = cond c.needs_check ReadOnly Writable;
@@ -119,6 +120,7 @@ module _ (g : Geometry) (image : List Sector) where
       transaction_id = refl;
       needs_check = refl;
       meta_used = refl;
+      held_root = refl;
       sizes = sizes_are;
       slots = slots_are;
       sectors = record {
@@ -144,6 +146,7 @@ unnamed_may_change g c image seen p h same = record {
   transaction_id = h.transaction_id;
   needs_check = h.needs_check;
   meta_used = h.meta_used;
+  held_root = h.held_root;
   sizes = h.sizes;
   slots = h.slots;
   sectors = record {
@@ -254,6 +257,7 @@ module _ (g : Geometry) (c : Contents) (image : List Sector) (p : PlainPool) (h 
     transaction_id = h.transaction_id;
     needs_check = h.needs_check;
     meta_used = refl;
+    held_root = h.held_root;
     sizes = λ i. new_sizes i (cases_eq i id);
     slots = λ i block. new_slots i block (cases_eq i id);
     sectors = record {
@@ -431,6 +435,7 @@ module _ (g : Geometry) (c : Contents) (image : List Sector) (p : PlainPool) (wi
     transaction_id = h.transaction_id;
     needs_check = h.needs_check;
     meta_used = refl;
+    held_root = h.held_root;
     sizes = λ i. less_sizes i (cases_eq i id);
     slots = λ i block. less_slots i block (cases_eq i id);
     sectors = record {

@@ -1,10 +1,9 @@
 -- How many blocks of each volume are mapped, in words of lists.
-use Rattle.std.proofs.Common.{◌≡◌, ◌≢◌, ℕ, suc, ◌<◌, ◌≤◌, ◌==◌, cond, List, [], ◌∷◌, length, map, Option, Some, None, Less, Equal, Greater, ◌⊎◌, inl, inr, refl, sym, ap, subst, ◌∙◌, arith}
+use Rattle.std.proofs.Common.{◌≡◌, ◌≢◌, ℕ, suc, ◌<◌, cond, List, [], ◌∷◌, length, map, Option, Some, None, ◌⊎◌, inl, inr, refl, sym, ap, subst, ◌∙◌, arith}
 use Rattle.std.specs.Option.{option_map, option_map_or}
 use Rattle.std.specs.Ordering.{nat_cmp}
 use Rattle.std.specs.FinMap.{FinMap, empty, entries, get, len, len-empty, remove}
-use Rattle.std.specs.FinMap.Entries.{by_order, put}
-use Rattle.std.proofs.lemmas.Bool.{cases_eq, eq-eqb, lt-ltb, ne_eqb}
+use Rattle.std.proofs.lemmas.Bool.{cases_eq, eq-eqb, ne_eqb}
 use Rattle.std.proofs.lemmas.Option.{none-some}
 use Rattle.tp_image.specs.Bound.{mapped_in, metadata_bound}
 use Rattle.tp_model.specs.Geometry.{Geometry}
@@ -19,7 +18,7 @@ use Rattle.tp_mapping.specs.Mapping.{IsWithin}
 use Rattle.tp_stored.specs.Contents.{Contents, HasContents}
 use Rattle.tp_shown.proofs.Values.{own_sizes}
 use Rattle.tp_shown.specs.Laws.{MappedIsListed, PoolIsBounded}
-use Rattle.tp_shown.proofs.Tests.{one_less, with_key}
+use Rattle.tp_shown.proofs.Tests.{From, one_less, put_first, with_key}
 
 module _ {X : Type 0} where
   removed_same : (m : FinMap nat_cmp X) (k q : ℕ) → q ≡ k → get (remove m k) q ≡ None
@@ -35,16 +34,6 @@ module _ {X : Type 0} where
   some_of : {Y : Type 0} (f : X → Y) (o : Option X) (y : Y) → option_map f o ≡ Some y → (x : X) × (o ≡ Some x) × (Some (f x) ≡ Some y)
   some_of f None y e = absurd (none-some y e)
   some_of f (Some x) y e = (x, refl, e)
-
-  -- the first key is this one or a greater one
-  abbrev From : ℕ → List (ℕ × X) → Type 0
-  From low [] = Unit {0}
-  From low (e ∷ es) = low ≤ e.0
-
-  put_first : (k : ℕ) (x : X) (es : List (ℕ × X)) → From (suc k) es → put nat_cmp k x es ≡ (k, x) ∷ es
-  put_first k x [] h = refl
-  put_first k x (e ∷ es) h =
-      ap (λ b. by_order (cond b Less (cond (k == e.0) Equal Greater)) ((k, x) ∷ (e ∷ es)) ((e.0, x) ∷ es) (e ∷ put nat_cmp k x es)) (lt-ltb k e.0 (omega (arith, h)))
 
   -- a map with the ids of devices in order has its entries in that order
   module _ (f : X → ℕ) (size : List BlockSlot → ℕ) where
@@ -114,6 +103,7 @@ pub mapped_is_listed : MappedIsListed
 mapped_is_listed g c image p within h = mapped g c image p within h
 
 pub pool_is_bounded : PoolIsBounded
-pool_is_bounded g c image p within h bound =
+pool_is_bounded g c image p within h none bound =
+    let few = bound (sym h.held_root ∙ none) in
     let same : metadata_bound p.geometry (mapped_in p) ≡ metadata_bound g (mapped_counts c.volumes) = λ i. metadata_bound (h.geometry i) (mapped g c image p within h i) in
-    omega (arith, bound, h.meta_used, same)
+    omega (arith, few, h.meta_used, same)

@@ -1,5 +1,5 @@
 -- The slots of a volume in the order of their blocks.
-use Rattle.std.proofs.Common.{◌≡◌, ℕ, suc, ◌<◌, ◌==◌, Bool, true, cond, List, [], ◌∷◌, length, map, Option, Some, None, Less, Equal, Greater, inl, inr, refl, sym, ap, subst, ◌∙◌, arith}
+use Rattle.std.proofs.Common.{◌≡◌, ℕ, suc, ◌<◌, ◌==◌, true, cond, List, [], ◌∷◌, length, map, Option, Some, None, Less, Equal, Greater, inl, inr, refl, sym, ap, subst, ◌∙◌, arith}
 use Rattle.std.specs.Prelude.{T}
 use Rattle.std.specs.List.{last_or}
 use Rattle.std.specs.Ordering.{is_lt, nat_cmp}

@@ -10,7 +10,7 @@ use Rattle.tp_model.specs.declared.mode.Mode.TheVariants as mode
 use Rattle.tp_model.specs.Geometry.{Geometry, data_sector}
 use Rattle.tp_model.specs.Sectors.{Sector, sector_at}
 use Rattle.tp_model.specs.Pool.{IsExclusive, PlainPool, volume_sector}
-use Rattle.tp_model.specs.Calls.{Call, Read, Write, Trim, WriteZeroes, Flush, CreateThin, CreateSnap, Delete, SetTransactionId, Hold, LetGo, Status, ThinStatus, NextId, Close, effect_at, slot_effect, volume_asked, Grow, VolumeBlocks}
+use Rattle.tp_model.specs.Calls.{Call, Read, Write, Trim, WriteZeroes, Flush, CreateThin, CreateSnap, Delete, SetTransactionId, Hold, LetGo, Status, ThinStatus, NextId, Close, effect_at, slot_effect, volume_asked, Grow, HeldRead, ReleaseMetadataSnap, ReserveMetadataSnap, VolumeBlocks}
 use Rattle.tp_model.specs.PoolStops.{Given, MayReopen}
 use Rattle.tp_sharing.specs.Volumes.{Volumes, device_of, slot_of}
 use Rattle.tp_stored.specs.Contents.{Contents, HasContents, IsOpened}
@@ -97,6 +97,7 @@ module _ (g : Geometry) (kept : Contents) (before image : List Sector) (S P : Pl
     transaction_id = o.has.transaction_id ∙ sym s.has.transaction_id;
     needs_check = o.has.needs_check ∙ sym s.has.needs_check;
     meta_used = o.has.meta_used ∙ sym s.has.meta_used;
+    held_root = o.has.held_root ∙ sym s.has.held_root;
     mode = o.mode ∙ ap (λ b. cond b mode.ReadOnly mode.Writable) (sym s.has.needs_check);
     holds = o.holds;
     sectors = found;
@@ -132,6 +133,9 @@ module _ (g : Geometry) (c : Contents) (image : List Sector) (p : PlainPool) (h 
   values_by (NextId i) asked = (λ v. v, λ v. v)
   values_by (VolumeBlocks i) asked = (λ v. v, λ v. v)
   values_by Close asked = (λ v. v, λ v. v)
+  values_by (HeldRead i sector count) asked = (λ v. v, λ v. v)
+  values_by ReserveMetadataSnap asked = (λ v. v, λ v. v)
+  values_by ReleaseMetadataSnap asked = (λ v. v, λ v. v)
 
 pub values_are_listed : ValuesAreListed
 values_are_listed g c image p h call id k x asked = values_by g c image p h id k x call asked

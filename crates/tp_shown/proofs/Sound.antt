@@ -11,7 +11,7 @@ use Rattle.tp_model.specs.Geometry.{Geometry, IsWithinLimits, data_sector, secto
 use Rattle.tp_model.specs.Sectors.{Sector, sector_at, zero_sector}
 use Rattle.tp_model.specs.Pool.{IsShapedVolume, IsSound, PlainPool, Volume, slot_at, volume_sector}
 use Rattle.tp_model.proofs.Shape.{length-zero_sector}
-use Rattle.tp_sharing.specs.Volumes.{BlockSlot, device_of, slot_of}
+use Rattle.tp_sharing.specs.Volumes.{device_of, slot_of}
 use Rattle.tp_mapping.specs.Mapping.{IsWithin}
 use Rattle.tp_stored.specs.Contents.{Contents, HasContents}
 use Rattle.tp_shown.specs.Laws.{ContentsAreSound}

@@ -1,22 +1,24 @@
 -- What the tests of calls ask of a pool, in words of its lists.
-use Rattle.std.proofs.Common.{◌≡◌, ◌≢◌, ℕ, suc, ◌+◌, ◌/◌, ◌<◌, ◌≤◌, ◌&&◌, Bool, true, false, not, cond, List, [], ◌∷◌, length, Option, Some, None, ◌⊎◌, inl, inr, refl, sym, ap, ◌∙◌, arith}
+use Rattle.std.proofs.Common.{◌≡◌, ◌≢◌, ℕ, suc, ◌+◌, ◌/◌, ◌==◌, ◌<◌, ◌≤◌, ◌&&◌, Bool, true, false, not, cond, List, [], ◌∷◌, length, map, Option, Some, None, Less, Equal, Greater, ◌⊎◌, inl, inr, refl, sym, ap, subst, ◌∙◌, arith}
+use Rattle.std.specs.Prelude.{◌^◌, if◌then◌else◌}
 use Rattle.std.specs.Option.{IsSome, is_some, option_map, option_map_or}
 use Rattle.std.specs.List.{count_by, range_with_len}
 use Rattle.std.specs.Ordering.{nat_cmp}
 use Rattle.std.specs.Cmp.{nat_cmp_total}
-use Rattle.std.specs.FinMap.{FinMap, empty, get, insert, len, len-empty, len-insert, remove}
-use Rattle.std.proofs.lemmas.Bool.{cases_eq, eq-eqb, false≢true, ne_eqb, true≢false}
+use Rattle.std.specs.FinMap.{FinMap, empty, entries, get, insert, len, len-insert, remove}
+use Rattle.std.specs.FinMap.Entries.{by_order, put}
+use Rattle.std.proofs.lemmas.Bool.{cases_eq, eq-eqb, false≢true, lt-ltb, ne_eqb, true≢false}
 use Rattle.std.proofs.lemmas.List.FromFn.{length-range_with_len}
-use Rattle.std.proofs.lemmas.List.Sums.{count_by-le-length}
+use Rattle.std.proofs.lemmas.List.Sums.{count_by-le-length, sum_by-cons}
 use Rattle.std.proofs.lemmas.Option.{none-some}
 use Rattle.tp_model.specs.Geometry.{Geometry, IsWithinLimits}
 use Rattle.tp_model.specs.Sectors.{Sector}
-use Rattle.tp_model.specs.Pool.{PlainPool, Volume, is_exclusive, slot_at, used, volume_sectors}
+use Rattle.tp_model.specs.Pool.{PlainPool, Volume, copy_id, is_exclusive, is_now, slot_at, used, volume_sectors}
 use Rattle.tp_model.specs.Calls.{Call, Keeps, Loses, Owns, Write, WriteZeroes, covers, effect_at, is_owning, need, slot_effect, touches}
 use Rattle.tp_model.proofs.Counting.{count_agree_from, count_part, used-counts}
-use Rattle.tp_model.proofs.Maps.{get_empty, get_insert, get_remove, same_nat_map}
+use Rattle.tp_model.proofs.Maps.{entries_empty, entries_insert, get_empty, get_insert, get_remove, same_nat_map}
 use Rattle.tp_model.proofs.Sharing.{Decides-is_exclusive}
-use Rattle.tp_sharing.specs.Volumes.{BlockSlot, DevicesAscend, Volumes, device_of, slot_of}
+use Rattle.tp_sharing.specs.Volumes.{BlockSlot, DeviceSlots, DevicesAscend, Volumes, device_of, slot_of}
 use Rattle.tp_sharing.proofs.Changes.{device_below}
 use Rattle.tp_sharing.proofs.Slots.{device_here, device_later}
 use Rattle.tp_mapping.specs.List.{is_used_elsewhere}
@@ -25,8 +27,8 @@ use Rattle.tp_mapping.specs.Mapping.{IsWithin}
 use Rattle.tp_mapping.proofs.Used.{below_counts, below_is_used}
 use Rattle.tp_mapping.proofs.Uses.{elsewhere_from_slot, slot_from_elsewhere, slot_from_used, used_from_slot}
 use Rattle.tp_stored.specs.Contents.{Contents, HasContents}
-use Rattle.tp_shown.specs.Laws.{CountIsListed, ExistsIsListed, NeedIsWanted, NeedZeroes, UsedFits, UsedIsListed}
-use Rattle.tp_shown.specs.Shown.{blocks_touched, blocks_wanted, blocks_wanted_by, first_block, owns_block, wants_block, own_blocks, own_sectors}
+use Rattle.tp_shown.specs.Laws.{CopyIsListed, CountIsListed, ExistsIsListed, NeedIsWanted, NeedZeroes, UsedFits, UsedIsListed}
+use Rattle.tp_shown.specs.Shown.{blocks_touched, blocks_wanted_by, first_block, owns_block, wants_block, own_blocks, own_sectors}
 use Rattle.tp_shown.proofs.Blocks.{not_touched_before, not_touched_behind, touched_fit, touched_inside, whole_blocks}
 use Rattle.tp_shown.proofs.Values.{exclusive, length_is, no_value, not_shared, own_sizes}
 
@@ -58,8 +60,14 @@ there_by n (Some v) (Some xs) e = refl
 there_by n None (Some xs) e = absurd (none-some n e)
 there_by n (Some v) None e = absurd (none-some (length v.sectors) (sym e))
 
+there_is_listed : (g : Geometry) (c : Contents) (image : List Sector) (p : PlainPool) (id : ℕ) → HasContents g c image p → is_some (get p.volumes id) ≡ is_some (device_of id c.volumes)
+there_is_listed g c image p id h = there_by (own_sectors g c.volumes id) (get p.volumes id) (device_of id c.volumes) (own_sizes g c image p h id)
+
 pub exists_is_listed : ExistsIsListed
-exists_is_listed g c image p id h = there_by (own_sectors g c.volumes id) (get p.volumes id) (device_of id c.volumes) (own_sizes g c image p h id)
+exists_is_listed g c image p id low h = ap (λ b. b && is_some (get p.volumes id)) (lt-ltb id (2 ^ 24) low) ∙ there_is_listed g c image p id h
+
+pub copy_is_listed : CopyIsListed
+copy_is_listed g c image p id h = there_is_listed g c image p (copy_id id) h
 
 module _ {X : Type 0} where
   none_here : (o : Option X) → is_some o ≡ false → o ≡ None
@@ -87,13 +95,30 @@ module _ {X : Type 0} where
       ∙ (len-insert nat_cmp_total (remove m k) k x
       ∙ ap (λ b. cond b (len (remove m k)) (len (remove m k) + 1)) (ap is_some (get_remove m k k ∙ ap (λ b. cond b None (get m k)) (eq-eqb k k refl))))
 
-  -- a map with the ids of devices in order has as many entries
-  as_many : (low : ℕ) (ds : Volumes) (m : FinMap nat_cmp X) → DevicesAscend low ds → ((id : ℕ) → is_some (get m id) ≡ is_some (device_of id ds)) → len m ≡ length ds
-  as_many low [] m a same = ap len (same_nat_map m empty (λ q. none_here (get m q) (same q) ∙ sym (get_empty q))) ∙ len-empty nat_cmp X
-  as_many low (d ∷ ds) m a same =
+  -- the first key is this one or a greater one
+  abbrev pub From : ℕ → List (ℕ × X) → Type 0
+  From low [] = Unit {0}
+  From low (e ∷ es) = low ≤ e.0
+
+  pub put_first : (k : ℕ) (x : X) (es : List (ℕ × X)) → From (suc k) es → put nat_cmp k x es ≡ (k, x) ∷ es
+  put_first k x [] h = refl
+  put_first k x (e ∷ es) h =
+      ap (λ b. by_order (cond b Less (cond (k == e.0) Equal Greater)) ((k, x) ∷ (e ∷ es)) ((e.0, x) ∷ es) (e ∷ put nat_cmp k x es)) (lt-ltb k e.0 (omega (arith, h)))
+
+  -- a map with the ids of devices in order has them as its keys in that order
+  keys_in_order : (low : ℕ) (ds : Volumes) (m : FinMap nat_cmp X) → DevicesAscend low ds → ((id : ℕ) → is_some (get m id) ≡ is_some (device_of id ds))
+      → From low (entries m) × (map (λ (e : ℕ × X). e.0) (entries m) ≡ map (λ (d : DeviceSlots). d.id) ds)
+  keys_in_order low [] m a same =
+      let e : entries m ≡ [] = ap entries (same_nat_map m empty (λ q. none_here (get m q) (same q) ∙ sym (get_empty q))) ∙ entries_empty in
+      (subst (From low) (sym e) tt, ap (λ es. map (λ (x : ℕ × X). x.0) es) e)
+  keys_in_order low (d ∷ ds) m a same =
       let here = some_here (get m d.id) (same d.id ∙ ap is_some (device_here d.id d ds refl)) in
-      let rest = as_many (suc d.id) ds (remove m d.id) a.2 (λ q. without q (cases_eq q d.id)) in
-      omega (arith, one_less m d.id here.0 here.1, rest)
+      let rest = keys_in_order (suc d.id) ds (remove m d.id) a.2 (λ q. without q (cases_eq q d.id)) in
+      let e : entries m ≡ (d.id, here.0) ∷ entries (remove m d.id) =
+      ap entries (with_key m d.id here.0 here.1) ∙ (entries_insert (remove m d.id) d.id here.0 ∙ put_first d.id here.0 (entries (remove m d.id)) rest.0) in (
+        subst (From low) (sym e) a.0,
+        ap (λ es. map (λ (x : ℕ × X). x.0) es) e ∙ ap (λ ns. d.id ∷ ns) rest.1,
+      )
     where
       without : (q : ℕ) → (q ≡ d.id) ⊎ (q ≢ d.id) → is_some (get (remove m d.id) q) ≡ is_some (device_of q ds)
       without q (inl s) =
@@ -103,8 +128,19 @@ module _ {X : Type 0} where
           ap is_some (get_remove m d.id q ∙ ap (λ b. cond b None (get m q)) (ne_eqb q d.id n))
           ∙ (same q ∙ ap is_some (device_later q d ds (λ s. n (sym s))))
 
+-- a test of a part of each element is one of the parts
+count_of_parts : {X : Type 0} (test : ℕ → Bool) (f : X → ℕ) (xs : List X) → count_by (λ x. test (f x)) xs ≡ count_by test (map f xs)
+count_of_parts test f [] = refl
+count_of_parts test f (x ∷ xs) =
+    sum_by-cons (λ y. if test (f y) then 1 else 0) x xs
+    ∙ (ap (λ (n : ℕ). (if test (f x) then 1 else 0) + n) (count_of_parts test f xs)
+    ∙ sym (sum_by-cons (λ n. if test n then 1 else 0) (f x) (map f xs)))
+
 pub count_is_listed : CountIsListed
-count_is_listed g c image p within h = as_many 0 c.volumes p.volumes within.ascend (λ id. exists_is_listed g c image p id h)
+count_is_listed g c image p within h =
+    count_of_parts is_now (λ (e : ℕ × Volume). e.0) (entries p.volumes)
+    ∙ (ap (count_by is_now) (keys_in_order 0 c.volumes p.volumes within.ascend (λ id. there_is_listed g c image p id h)).1
+    ∙ sym (count_of_parts is_now (λ (d : DeviceSlots). d.id) c.volumes))
 
 -- ---- what a write needs
 

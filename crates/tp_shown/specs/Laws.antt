@@ -1,18 +1,18 @@
 -- Internal: laws of what is shown (own).
-use Rattle.std.specs.Prelude.{◌≡◌, ℕ, ◌+◌, ◌<◌, ◌≤◌, Bool, List, [], length, map, take, drop, Option, None, Some, IsSome, is_some, ◌↔◌}
+use Rattle.std.specs.Prelude.{◌≡◌, ℕ, ◌+◌, ◌^◌, ◌<◌, ◌≤◌, Bool, List, [], ◌++◌, length, map, take, drop, Option, None, Some, IsSome, is_some, ◌↔◌}
 use Rattle.std.specs.List.{last_or}
-use Rattle.std.specs.FinMap.{entries, insert, keys, len, remove}
+use Rattle.std.specs.FinMap.{entries, insert, keys, remove, retain_keys}
 use Rattle.tp_model.specs.Geometry.{Geometry, IsWithinLimits, data_sector, sectors_of_image}
 use Rattle.tp_model.specs.Told.{told_blocks}
 use Rattle.tp_model.specs.Sectors.{Sector, sector_at}
-use Rattle.tp_model.specs.Pool.{IsSound, PlainPool, used, volume_sectors, volume_slots}
-use Rattle.tp_model.specs.Calls.{Call, Edits, Trim, Write, WriteZeroes, exists, need, new_volume, volume_asked, volume_of, grown}
+use Rattle.tp_model.specs.Pool.{IsSound, PlainPool, copy_id, device_count, is_now, used, volume_sectors, volume_slots}
+use Rattle.tp_model.specs.Calls.{Call, Edits, Reserves, Trim, Write, WriteZeroes, exists, has_copy, need, new_volume, volume_asked, volume_of, grown}
 use Rattle.tp_model.specs.PoolStops.{Given, MayReopen}
 use Rattle.tp_image.specs.Bound.{IsBounded, mapped_in}
 use Rattle.tp_sharing.specs.Sizes.{mapped_counts}
 use Rattle.tp_sharing.specs.Volumes as listed
-use Rattle.tp_sharing.specs.Volumes.{BlockSlot, OtherSlot, Volumes, device_of, slot_of, resized, with_device, without_device}
-use Rattle.tp_mapping.specs.Mapping.{IsHighest, IsWithin, slots_of, size_or_none}
+use Rattle.tp_sharing.specs.Volumes.{BlockSlot, OtherSlot, Volumes, as_copy, device_of, devices_in, slot_of, resized, with_device, without_device}
+use Rattle.tp_mapping.specs.Mapping.{IsHighest, IsWithin, slots_of, size_or_none, without_copies}
 use Rattle.tp_stored.specs.Contents.{Contents, HasContents, IsOpened, SameData}
 use Rattle.tp_stored.specs.Laws.{AreBounded}
 use Rattle.tp_shown.specs.Shown.{EditsLists, GivesValue, HasLost, IsPartlyDone, blocks_covered, blocks_touched, blocks_wanted, blocks_wanted_by, first_block, first_covered, own_blocks, own_sectors, values_at}
@@ -37,10 +37,13 @@ abbrev pub UsedFits : Type 0
 UsedFits = (g : Geometry) (c : Contents) (image : List Sector) (p : PlainPool) → IsWithin g c.volumes → HasContents g c image p → used p ≤ p.geometry.data_blocks
 
 abbrev pub ExistsIsListed : Type 0
-ExistsIsListed = (g : Geometry) (c : Contents) (image : List Sector) (p : PlainPool) (id : ℕ) → HasContents g c image p → exists p id ≡ is_some (device_of id c.volumes)
+ExistsIsListed = (g : Geometry) (c : Contents) (image : List Sector) (p : PlainPool) (id : ℕ) → id < 2 ^ 24 → HasContents g c image p → exists p id ≡ is_some (device_of id c.volumes)
+
+abbrev pub CopyIsListed : Type 0
+CopyIsListed = (g : Geometry) (c : Contents) (image : List Sector) (p : PlainPool) (id : ℕ) → HasContents g c image p → has_copy p id ≡ is_some (device_of (copy_id id) c.volumes)
 
 abbrev pub CountIsListed : Type 0
-CountIsListed = (g : Geometry) (c : Contents) (image : List Sector) (p : PlainPool) → IsWithin g c.volumes → HasContents g c image p → len p.volumes ≡ length c.volumes
+CountIsListed = (g : Geometry) (c : Contents) (image : List Sector) (p : PlainPool) → IsWithin g c.volumes → HasContents g c image p → device_count p ≡ devices_in c.volumes
 
 -- The slots of a volume, in the order of their blocks.
 abbrev pub SlotsAreEntries : Type 0
@@ -122,6 +125,20 @@ DeleteMakes =
     → (id meta_used : ℕ) → HasContents g (record c { volumes = without_device id c.volumes; meta_used = meta_used }) image
     (record p { volumes = remove p.volumes id; meta_used = meta_used })
 
+-- Behind volumes without copies stand the copies of all of them.
+abbrev pub ReserveMakes : Type 0
+ReserveMakes =
+    (g : Geometry) (c : Contents) (image : List Sector) (p : PlainPool) → HasContents g c image p → ((id : ℕ) → 2 ^ 24 ≤ id → device_of id c.volumes ≡ None)
+    → (root : ℕ) → 0 < root
+    → (q : PlainPool) × HasContents g (record c { volumes = c.volumes ++ map as_copy c.volumes; held_root = root }) image q × Reserves p q
+
+-- Without the copies the volumes stay.
+abbrev pub ReleaseMakes : Type 0
+ReleaseMakes =
+    (g : Geometry) (c : Contents) (image : List Sector) (p : PlainPool) → HasContents g c image p
+    → (meta_used : ℕ) → HasContents g (record c { volumes = without_copies c.volumes; held_root = 0; meta_used = meta_used }) image
+    (record p { volumes = retain_keys p.volumes is_now; held_root = 0; meta_used = meta_used })
+
 -- What stands at no slot's data block does not matter.
 abbrev pub UnnamedMayChange : Type 0
 UnnamedMayChange =
@@ -152,7 +169,7 @@ ValuesAreListed =
 abbrev pub MappedIsListed : Type 0
 MappedIsListed = (g : Geometry) (c : Contents) (image : List Sector) (p : PlainPool) → IsWithin g c.volumes → HasContents g c image p → mapped_in p ≡ mapped_counts c.volumes
 
--- Where contents use no more metadata blocks than their volumes may, a pool with them does not.
+-- Where no root is held, and contents use no more metadata blocks than their volumes may, a pool with them does not.
 abbrev pub PoolIsBounded : Type 0
 PoolIsBounded =
-    (g : Geometry) (c : Contents) (image : List Sector) (p : PlainPool) → IsWithin g c.volumes → HasContents g c image p → AreBounded g c → IsBounded p
+    (g : Geometry) (c : Contents) (image : List Sector) (p : PlainPool) → IsWithin g c.volumes → HasContents g c image p → p.held_root ≡ 0 → AreBounded g c → IsBounded p

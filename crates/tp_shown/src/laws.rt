@@ -1,6 +1,6 @@
 //! Laws of the definitions, each the contract of a function that does nothing.
 
-ghost use Rattle.tp_shown.specs.Laws.{ContentsAreSound, CountIsListed, CreateMakes, DeleteMakes, EditsAreListed, ExistsIsListed, GrowMakes, HighestIsLast, MappedIsListed, NeedIsWanted, NeedZeroes, OpenedExists, PartlyReopens, PoolIsBounded, ReadGives, SlotsAreEntries, SnapshotMakes, TrimMakes, UnnamedMayChange, UsedFits, UsedIsListed, ValuesAreListed};
+ghost use Rattle.tp_shown.specs.Laws.{ContentsAreSound, CopyIsListed, CountIsListed, CreateMakes, DeleteMakes, EditsAreListed, ExistsIsListed, GrowMakes, HighestIsLast, MappedIsListed, NeedIsWanted, NeedZeroes, OpenedExists, PartlyReopens, PoolIsBounded, ReadGives, ReleaseMakes, ReserveMakes, SlotsAreEntries, SnapshotMakes, TrimMakes, UnnamedMayChange, UsedFits, UsedIsListed, ValuesAreListed};
 
 /// There is a pool with the contents of a commit over an image, and it has them over each other image that differs only where
 /// no slot's data block stands. It is sound.
@@ -15,6 +15,7 @@ pub fn tests_are_of_lists()
     ensures used { UsedIsListed }
     ensures fits { UsedFits }
     ensures exists { ExistsIsListed }
+    ensures copy { CopyIsListed }
     ensures count { CountIsListed }
     ensures need { NeedIsWanted }
     ensures zeroes { NeedZeroes }
@@ -30,6 +31,8 @@ pub fn calls_are_of_lists()
     ensures snapshot { SnapshotMakes }
     ensures grow { GrowMakes }
     ensures delete { DeleteMakes }
+    ensures reserve { ReserveMakes }
+    ensures release { ReleaseMakes }
     ensures trim { TrimMakes }
 {}
 

@@ -31,7 +31,7 @@ fn wide_store(alloc: Global) -> Result<Tm, Fail> {
     let geometry = Geometry::new(128, 16, 2048, 512)?;
     let metadata = Counts::new(alloc, geometry, Part::Metadata)?;
     let others = Counts::new(alloc, geometry, Part::Data)?;
-    Ok(Tm::new(geometry, metadata, others))
+    Ok(Tm::new(geometry, metadata, others, Mb::new(0)))
 }
 
 fn index_of(i: usize, key: u64) -> usize {

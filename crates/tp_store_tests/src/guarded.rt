@@ -25,7 +25,7 @@ pub(crate) fn store_of(alloc: Global) -> Result<Tm, Fail> {
     if others.blocks() > 2 && others.now(2) < u32::MAX {
         others.inc(2);
     }
-    Ok(Tm::new(geometry, metadata, others))
+    Ok(Tm::new(geometry, metadata, others, Mb::new(0)))
 }
 
 /// Whether there is room for a change of a tree.

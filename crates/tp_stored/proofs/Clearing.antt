@@ -10,6 +10,7 @@ use Rattle.tp_model.proofs.Counting.{count_more}
 use Rattle.tp_layout.specs.Node.{NodeValue}
 use Rattle.tp_layout.specs.declared.counts.Part.{Part}
 use Rattle.tp_layout.specs.declared.counts.Part.TheVariants.{Data, Metadata}
+use Rattle.tp_layout.specs.Super.{roots_of}
 use Rattle.tp_layout.specs.declared.superblock.Superblock.{Superblock}
 use Rattle.tp_image.specs.Areas.{blocks_of}
 use Rattle.tp_image.specs.Clean.{IsClean, true_count}
@@ -40,7 +41,7 @@ parted xs (suc n) le =
     subst (λ (m : ℕ). Parted xs m) (omega arith) next
 
 true_ones : (superblock : Superblock) (s : Store) (nodes : List NodeValue) (image : List Sector) → CountsAreTrue image superblock s nodes → (part : Part) (b : ℕ) → b < blocks_of superblock.geometry part
-    → slice_index (counts_of_part superblock.geometry part s.counts) b ≡ true_count superblock.geometry superblock.root nodes part b
+    → slice_index (counts_of_part superblock.geometry part s.counts) b ≡ true_count superblock.geometry (roots_of superblock) nodes part b
 true_ones superblock s nodes image c Metadata b lt = get_or-take superblock.geometry.metadata_blocks s.counts b 0 lt ∙ c.metadata b lt
 true_ones superblock s nodes image c Data b lt = get_or-drop superblock.geometry.metadata_blocks s.counts b 0 ∙ c.others b lt
 

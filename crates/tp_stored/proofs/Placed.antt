@@ -55,8 +55,12 @@ names_nodes Mapping zero inner = absurd (inner (refl, refl))
 names_nodes Mapping (suc level) inner = refl
 names_nodes Device level inner = refl
 
-module _ (image : List Sector) (version : Version) (g : Geometry) (root : ℕ) (within : IsTreeBlock g root) (rules : KeepTheRules image version g root) where
-  -- The node is the root of a tree of its level that keeps the rules, whose blocks hold nodes; each record below a node of the devices is one of the whole
+module _ (image : List Sector) (version : Version) (g : Geometry) (roots : List ℕ) (within : (r : ℕ) → Contains roots r → IsTreeBlock g r) (rules : (r : ℕ) → Contains roots r → KeepTheRules image version g r) where
+  -- one of the roots leads to the record
+  abbrev pub IsRecord : Entry → Type 0
+  IsRecord e = (r : ℕ) × Contains roots r × LeadsTo image Device r e
+
+  -- The node is the root of a tree of its level that keeps the rules, whose blocks hold nodes; each record below a node of the devices is one of a whole
   -- device tree.
   pub record Placed (n : NodeValue) : Type 0 where
     pub here : IsNodeAt image n.own n
@@ -65,11 +69,11 @@ module _ (image : List Sector) (version : Version) (g : Geometry) (root : ℕ) (
     pub low : ℕ
     pub high : ℕ
     pub tree : IsTree image g n.kind top n.level low high n.own
-    pub records : n.kind ≡ Device → (e : Entry) → LeadsTo image Device n.own e → LeadsTo image Device root e
+    pub records : n.kind ≡ Device → (e : Entry) → LeadsTo image Device n.own e → IsRecord e
 
   -- the node in the block of a tree
   placed_in : (kind : TreeKind) (top : Bool) (level low high b : ℕ) → IsTreeBlock g b → IsTree image g kind top level low high b
-      → (kind ≡ Device → (e : Entry) → LeadsTo image Device b e → LeadsTo image Device root e) → (n : NodeValue) → IsNodeAt image b n → Placed n
+      → (kind ≡ Device → (e : Entry) → LeadsTo image Device b e → IsRecord e) → (n : NodeValue) → IsNodeAt image b n → Placed n
   placed_in kind top level low high b inside t records n here =
       let k = root_of image g kind top level low high b t n here in
       record {
@@ -99,7 +103,8 @@ module _ (image : List Sector) (version : Version) (g : Geometry) (root : ℕ) (
   below p n h e k at Mapping zero is l inner = absurd (inner (refl, refl))
   below p n h e k at Device zero is l inner =
       let path : LeadsTo image Device p.own e = ends p h.here is l (among_contains e p.entries k) in
-      let w = rules.volumes e.key e.value e.mapped e.size (h.records is e path) in
+      let r = h.records is e path in
+      let w = (rules r.0 r.1).volumes e.key e.value e.mapped e.size r.2 in
       placed_in Mapping true w.level 0 (told_blocks g e.size) e.value (named_inside p h e k (λ leaf. inner (sym is ∙ leaf.0, sym l ∙ leaf.1))) w.tree (λ other. absurd (omega (arith, ap kind_number other))) n at
   below p n h e k at kind (suc level) is l inner =
       let t = subst (λ x. IsTree image g p.kind h.top x h.low h.high p.own) l h.tree in
@@ -117,7 +122,8 @@ module _ (image : List Sector) (version : Version) (g : Geometry) (root : ℕ) (
       → ((kind ≡ Mapping) × (level ≡ 0) → ⊥) → IsChild (rank_of kind level) e.value
   child_placed p h e k Mapping zero is l inner = absurd (inner (refl, refl))
   child_placed p h e k Device zero is l inner =
-      let w = rules.volumes e.key e.value e.mapped e.size (h.records is e (ends p h.here is l (among_contains e p.entries k))) in
+      let r = h.records is e (ends p h.here is l (among_contains e p.entries k)) in
+      let w = (rules r.0 r.1).volumes e.key e.value e.mapped e.size r.2 in
       let t = top_of image g Mapping true w.level 0 (told_blocks g e.size) e.value w.tree in
       let rank : rank_of t.0.kind t.0.level ≡ suc w.level = ap (λ (x : TreeKind). rank_of x t.0.level) t.1.kind_is ∙ ap suc t.1.level_is in
       record { node = t.0; here = t.1.here; may = record { below = omega (arith, rank, w.low_enough); next = λ d. absurd (d refl); root = λ five. omega (arith, rank) } }
@@ -139,8 +145,8 @@ module _ (image : List Sector) (version : Version) (g : Geometry) (root : ℕ) (
       let k = map_among (λ (e : Entry). e.value) v p.entries (contains_among v (values p) named) in
       (k.0, k.1, k.2, λ leaf. false≢true (sym is ∙ (ap (λ (t : TreeKind). is_naming_data t p.level) leaf.0 ∙ ap (is_naming_data Mapping) leaf.1)))
 
-  pub placed : (n : NodeValue) → IsReachable image root n → Placed n
-  placed n (itself x here) = placed_in Device true rules.devices.level 0 (2 ^ 24) root within rules.devices.tree (λ is e path. path) n here
+  pub placed : (n : NodeValue) → IsReachable image roots n → Placed n
+  placed n (itself r x known here) = placed_in Device true (rules r known).devices.level 0 (2 ^ 24) r (within r known) (rules r known).devices.tree (λ is e path. (r, known, path)) n here
   placed n (through parent x reached named here) =
       let h = placed parent reached in
       let k = naming (is_naming_data parent.kind parent.level) parent n.own refl named in

@@ -1,6 +1,6 @@
 -- The store that a clean image has: its nodes stand in their blocks, and its counts in the area. So the image is that of a commit where this store is sound.
-use Rattle.std.proofs.Common.{◌≡◌, ◌⊎◌, ℕ, ◌<◌, ◌≤◌, ◌==◌, List, [], ◌∷◌, length, take, drop, refl, sym, ap, subst, ◌∙◌, arith, inl, inr}
-use Rattle.std.specs.Prelude.{◌%◌, Bool, true, false, if◌then◌else◌, IfOk, count_by, Result, Ok, Err}
+use Rattle.std.proofs.Common.{◌≡◌, ◌⊎◌, ℕ, zero, suc, ◌<◌, ◌≤◌, ◌==◌, List, [], ◌∷◌, length, take, drop, refl, sym, ap, subst, ◌∙◌, arith, inl, inr}
+use Rattle.std.specs.Prelude.{◌%◌, Contains, Bool, true, false, if◌then◌else◌, IfOk, count_by, Result, Ok, Err}
 use Rattle.std.proofs.Math.Seq.{drop-append_seam, take-append_seam}
 use Rattle.std.proofs.lemmas.Bool.{cases_eq, cases_lt, eq-eqb, ne_eqb}
 use Rattle.std.proofs.lemmas.List.{get_or_past}
@@ -14,7 +14,7 @@ use Rattle.tp_layout.specs.declared.superblock.Slot.TheVariants.{Bad, Foreign, G
 use Rattle.tp_image.specs.Slots.{Chooses, SlotIs, choice_of, is_same_geometry, next_sequence}
 use Rattle.tp_super.proofs.Choice.{good_in}
 use Rattle.tp_layout.specs.Node.{NodeValue}
-use Rattle.tp_layout.specs.Super.{slot_number}
+use Rattle.tp_layout.specs.Super.{IsGoodSuper, held_refs, roots_of, slot_number}
 use Rattle.tp_layout.specs.declared.counts.Part.{Part}
 use Rattle.tp_layout.specs.declared.counts.Part.TheVariants.{Data, Metadata}
 use Rattle.tp_layout.specs.declared.superblock.SlotId.{SlotId}
@@ -24,11 +24,11 @@ use Rattle.tp_image.specs.Areas.{HoldsCounts, blocks_of}
 use Rattle.tp_image.specs.Clean.{IsClean}
 use Rattle.tp_image.specs.Nodes.{IsNodeAt}
 use Rattle.tp_refs.specs.Store.{Node, Store, no_node, node_at, node_from}
-use Rattle.tp_sharing.specs.Volumes.{volumes_below}
+use Rattle.tp_sharing.specs.Volumes.{volumes_of}
 use Rattle.tp_stored.specs.Commit.{IsCommit, IsOfVersion, IsSound, NodesStand, counts_of_part}
 use Rattle.tp_stored.specs.Rebuilt.{node_among, all_counts, store_from}
 use Rattle.tp_stored.proofs.Clearing.{parted}
-use Rattle.tp_stored.proofs.Members.{Among, among_contains}
+use Rattle.tp_stored.proofs.Members.{Among, among_contains, contains_among}
 use Rattle.tp_stored.proofs.Placed.{placed}
 
 -- a block has one of these nodes, or none
@@ -77,17 +77,29 @@ module _ (g : Geometry) (ns : List NodeValue) (counts : Part → List ℕ) where
 
 -- ---- the root of a superblock that is chosen
 
--- sizes within the limits, and a root among the tree blocks
-abbrev HasTreeRoot : Superblock → Type 0
-HasTreeRoot s = IsWithinLimits s.geometry × IsTreeBlock s.geometry s.root
+-- sizes within the limits, and roots among the tree blocks
+abbrev HasTreeRoots : Superblock → Type 0
+HasTreeRoots s = IsWithinLimits s.geometry × ((r : ℕ) → Contains (roots_of s) r → IsTreeBlock s.geometry r)
 
-good_root : (image : List Sector) (slot : SlotId) (s : Superblock) → SlotIs image slot (Good s) → HasTreeRoot s
-good_root image slot s is = let good = good_in image slot s is in (good.geometry, good.root)
+held_is : (held r : ℕ) → Among r (held_refs held) → held ≡ r
+held_is zero r k = absurd k
+held_is (suc n) r (inl e) = e
+held_is (suc n) r (inr k) = absurd k
+
+tree_roots : (slot : SlotId) (s : Superblock) → IsGoodSuper slot s → (r : ℕ) → Contains (roots_of s) r → IsTreeBlock s.geometry r
+tree_roots slot s good r known = by (contains_among r (roots_of s) known) good.held where
+  by : Among r (roots_of s) → (s.held_root ≡ 0) ⊎ IsTreeBlock s.geometry s.held_root → IsTreeBlock s.geometry r
+  by (inl e) held = subst (IsTreeBlock s.geometry) e good.root
+  by (inr k) (inl none) = absurd (subst (λ h. Among r (held_refs h)) none k)
+  by (inr k) (inr inside) = subst (IsTreeBlock s.geometry) (held_is s.held_root r k) inside
+
+good_root : (image : List Sector) (slot : SlotId) (s : Superblock) → SlotIs image slot (Good s) → HasTreeRoots s
+good_root image slot s is = let good = good_in image slot s is in (good.geometry, tree_roots slot s good)
 
 abbrev Given : Result Superblock Refusal → Type 0
-Given choice = IfOk choice HasTreeRoot
+Given choice = IfOk choice HasTreeRoots
 
-later_given : (a b : Superblock) (x y z : Bool) → HasTreeRoot a → HasTreeRoot b → Given (if x then (if y then Ok a else if z then Ok b else Err Damaged) else Err Damaged)
+later_given : (a b : Superblock) (x y z : Bool) → HasTreeRoots a → HasTreeRoots b → Given (if x then (if y then Ok a else if z then Ok b else Err Damaged) else Err Damaged)
 later_given a b true true z f g = f
 later_given a b true false true f g = g
 later_given a b true false false f g = tt
@@ -109,11 +121,11 @@ choice_given image Foreign (Good b) f g = good_root image One b g
 choice_given image (Good a) (Good b) f g =
     later_given a b (is_same_geometry a.geometry b.geometry) (a.sequence == next_sequence b.sequence) (b.sequence == next_sequence a.sequence) (good_root image Zero a f) (good_root image One b g)
 
-pub chosen_root : (image : List Sector) (s : Superblock) → Chooses image (Ok s) → HasTreeRoot s
+pub chosen_root : (image : List Sector) (s : Superblock) → Chooses image (Ok s) → HasTreeRoots s
 chosen_root image s c = subst Given (sym c.choice_is) (choice_given image c.first c.second c.first_is c.second_is)
 
 module _ (image : List Sector) (h : IsClean image) where
-  within : IsTreeBlock h.superblock.geometry h.superblock.root
+  within : (r : ℕ) → Contains (roots_of h.superblock) r → IsTreeBlock h.superblock.geometry r
   within = (chosen_root image h.superblock h.chosen).1
 
   abbrev g : Geometry
@@ -136,7 +148,8 @@ module _ (image : List Sector) (h : IsClean image) where
   same part = stored g h.nodes h.counts.counts part (long Metadata)
 
   -- the image is that of a commit of it, where it is sound
-  pub commit_of_sound : IsSound g h.superblock.root rebuilt → IsOfVersion h.superblock.version (volumes_below g.metadata_blocks rebuilt h.superblock.root) → IsCommit image h.superblock rebuilt
+  pub commit_of_sound : IsSound g h.superblock.root h.superblock.held_root rebuilt → IsOfVersion h.superblock.version (volumes_of g.metadata_blocks rebuilt h.superblock.root h.superblock.held_root)
+      → IsCommit image h.superblock rebuilt
   commit_of_sound sound of_version = record {
     chosen = h.chosen;
     whole = h.whole;
@@ -145,7 +158,7 @@ module _ (image : List Sector) (h : IsClean image) where
     kept = refl;
     counts = λ part area is. subst (HoldsCounts image g part area) (sym (same part)) (h.counts.stored part area is);
     nodes = nodes_stand g h.nodes h.counts.counts image
-        (λ n k. (placed image h.superblock.version g h.superblock.root within h.rules n (h.reachable.only n (among_contains n h.nodes k))).here);
+        (λ n k. (placed image h.superblock.version g (roots_of h.superblock) within h.rules n (h.reachable.only n (among_contains n h.nodes k))).here);
     spare =
         let p = parted rebuilt.counts g.metadata_blocks (omega (arith, sound.counted)) in
         let free : count_by (λ x. x == 0) (take g.metadata_blocks rebuilt.counts) ≡ count_by (λ x. x == 0) (h.counts.counts Metadata) = ap (count_by (λ x. x == 0)) (same Metadata) in

@@ -1,7 +1,7 @@
 -- The trees of a commit keep the rules of nodes.
 use Rattle.std.proofs.Common.{◌≡◌, ℕ, zero, suc, ◌+◌, ◌-◌, ◌<◌, ◌≤◌, Bool, true, false, List, [], ◌∷◌, ◌++◌, length, get_or, map, refl, sym, ap, subst, ◌∙◌, arith, inl, inr, Some, option_map}
-use Rattle.std.specs.Prelude.{◌^◌}
-use Rattle.std.proofs.lemmas.Bool.{cases_lt}
+use Rattle.std.specs.Prelude.{Contains, ◌^◌}
+use Rattle.std.proofs.lemmas.Bool.{cases_eq, cases_lt}
 use Rattle.std.proofs.lemmas.List.Elements.{Contains-get_or}
 use Rattle.std.proofs.lemmas.List.{length-map}
 use Rattle.tp_model.specs.Geometry.{Geometry, IsTreeBlock, fixed_part}
@@ -22,23 +22,24 @@ use Rattle.tp_image.specs.Rules.{BeginsAt, Children, IsContent, IsInRange, IsRec
 use Rattle.tp_refs.specs.Store.{Node, Store, children, count_of, first_named, moved_by, node_at, rank_of, values}
 use Rattle.tp_refs.specs.Balance.{occurrences}
 use Rattle.tp_refs.proofs.Moved.{ascend_moved, moved-append, moved_by_nothing}
-use Rattle.tp_refs.proofs.Steps.{child_live, live_below}
+use Rattle.tp_refs.proofs.Steps.{child_live, live_below, one_other}
 use Rattle.tp_trees.specs.Tree as trees
 use Rattle.tp_trees.specs.Tree.{IsTree, IsWhole, Parted, joined, pairs}
 use Rattle.tp_trees.proofs.Frames.{Below, parted_map}
 use Rattle.tp_trees.proofs.Limits as limits
 use Rattle.tp_trees.proofs.Limits.{narrow_whole}
 use Rattle.tp_trees.proofs.Trees.{ascend_tree, children_values, least_at_device_leaf, least_elsewhere, node_ascend, rank_inside, tree_rank}
-use Rattle.tp_sharing.specs.Forest.{content}
-use Rattle.tp_sharing.specs.Volumes.{AreSized, Volumes, size_of, slot_of, volumes_below}
+use Rattle.tp_sharing.specs.Forest.{content, held_refs}
+use Rattle.tp_sharing.specs.Volumes.{AreSized, Volumes, copy_id, size_of, volumes_below, volumes_of}
+use Rattle.tp_sharing.proofs.Copies.{copies_are_listed, size_low}
 use Rattle.tp_sharing.proofs.Slots.{lookups_are_listed}
-use Rattle.tp_stored.specs.Commit.{IsOfVersion, IsSound, NodesStand, held_by}
+use Rattle.tp_stored.specs.Commit.{IsOfVersion, IsRooted, IsSound, NodesStand, fixed_blocks, held_by}
 use Rattle.tp_stored.specs.Laws.{CommitsKeepTheRules}
 use Rattle.tp_stored.proofs.Members.{Among, among_found, among_map, among_value, contains_among}
 use Rattle.tp_stored.proofs.Naming.{either_names}
 use Rattle.tp_stored.proofs.Ranges.{in_range}
 use Rattle.tp_stored.proofs.Opened.{device_found_there, devices_low, told_size, volume_is, volume_there}
-use Rattle.tp_stored.proofs.Reachable.{named_live, root_live, root_rank}
+use Rattle.tp_stored.proofs.Reachable.{held_one, named_live, root_live, root_of, root_rank, rooted}
 use Rattle.tp_stored.proofs.Standing.{base_positive, first_inner, inner_entries, leaf_entries, node_is, rank_split, rank_tells}
 
 -- ---- parts of lists
@@ -80,7 +81,7 @@ pub all_below : (less : ℕ) (es : List Entry) → ((e : Entry) → Among e es �
 all_below less [] each = tt
 all_below less (e ∷ es) each = (each e (inl refl), all_below less es (λ x k. each x (inr k)))
 
-module _ (g : Geometry) (image : List Sector) (top : ℕ) (s : Store) (sound : IsSound g top s) (stand : NodesStand g image s) where
+module _ (g : Geometry) (image : List Sector) (refs : List ℕ) (top : ℕ) (s : Store) (sound : IsRooted g refs top s) (stand : NodesStand g image s) where
   abbrev m : ℕ
   m = g.metadata_blocks
 
@@ -113,11 +114,11 @@ module _ (g : Geometry) (image : List Sector) (top : ℕ) (s : Store) (sound : I
       subst (λ xs. 0 < occurrences (first_named m kind k + e.value) xs) (sym (children_values (node_at s b) inner)) (among_value (moved_by (first_named m kind k) e) (node_at s b).entries there) in
       elim (either_names m kind k) [
         | inl d ↦
-            let live_there = child_live s [] (held_by g top) b (first_named m kind k + e.value) sound.balanced live refl named in
+            let live_there = child_live s [] refs b (first_named m kind k + e.value) sound.balanced live refl named in
             subst (λ t. IsInRange g t e.value) (sym d.0) (omega (arith, live_below s (first_named m kind k + e.value) live_there, d.1, sound.counted))
         | inr d ↦
             let same : first_named m kind k + e.value ≡ e.value = omega (arith, d.1) in
-            let c = named_live g image top s sound stand b e.value live (omega (arith, r, rank_split kind k, d.2)) (subst (λ x. 0 < occurrences x (children (node_at s b))) same named) in
+            let c = named_live g image s refs sound.balanced stand b e.value live (omega (arith, r, rank_split kind k, d.2)) (subst (λ x. 0 < occurrences x (children (node_at s b))) same named) in
             subst (λ t. IsInRange g t e.value) (sym d.0) (tree_block e.value c.1)
       ]
     where
@@ -133,7 +134,7 @@ module _ (g : Geometry) (image : List Sector) (top : ℕ) (s : Store) (sound : I
   -- the child of an inner node
   child_there : (kind : TreeKind) (j b c : ℕ) → 0 < count_of s b → (node_at s b).rank ≡ rank_of kind 0 + suc j → 0 < occurrences c (values (node_at s b).entries) → 0 < count_of s c
   child_there kind j b c live r here =
-      child_live s [] (held_by g top) b c sound.balanced live refl (subst (λ xs. 0 < occurrences c xs) (sym (children_values (node_at s b) (omega (arith, r)))) here)
+      child_live s [] refs b c sound.balanced live refl (subst (λ xs. 0 < occurrences c xs) (sym (children_values (node_at s b) (omega (arith, r)))) here)
 
   inner_names : (kind : TreeKind) (j b : ℕ) (n : NodeValue) → StandsThere kind (suc j) b n → (node_at s b).entries ≡ n.entries
   inner_names kind j b n st = st.entries ∙ (ap (λ f. map (moved_by f) n.entries) (first_inner m kind (suc j) (omega arith)) ∙ moved_by_nothing n.entries)
@@ -190,19 +191,19 @@ module _ (g : Geometry) (image : List Sector) (top : ℕ) (s : Store) (sound : I
 
   entry_there : (kind : TreeKind) (j b : ℕ) (e : Entry) → 0 < count_of s b → (node_at s b).rank ≡ rank_of kind 0 + suc j → Among e (node_at s b).entries → (0 < count_of s e.value) × (0 < (node_at s e.value).rank)
   entry_there kind j b e live r k =
-      named_live g image top s sound stand b e.value live (omega (arith, r, base_positive kind))
+      named_live g image s refs sound.balanced stand b e.value live (omega (arith, r, base_positive kind))
       (subst (λ es. 0 < occurrences e.value es) (sym (children_values (node_at s b) (omega (arith, r)))) (among_value e (node_at s b).entries k))
 
   content_is : (kind : TreeKind) (k b : ℕ) (all : List Entry) → 0 < count_of s b → 0 < (node_at s b).rank → IsContent image kind k b all
       → (map (moved_by (first_named m kind 0)) all ≡ pairs k s b) × ((node_at s b).rank ≡ rank_of kind 0 + k)
   unfolding IsContent
   content_is kind zero b all live inner h =
-      let is = node_is g image s (held_by g top) sound.balanced stand b h.0 live inner h.1 in (
+      let is = node_is g image s refs sound.balanced stand b h.0 live inner h.1 in (
         ap (map (moved_by (first_named m kind 0))) h.4 ∙ sym (leaf_entries m (node_at s b) h.0 kind is h.2 h.3),
         ap (λ (x : Node). x.rank) is ∙ ((λ i. rank_of (h.2 i) (h.3 i)) ∙ rank_split kind 0),
       )
   content_is kind (suc j) b all live inner h =
-      let is = node_is g image s (held_by g top) sound.balanced stand b h.0 live inner h.1 in
+      let is = node_is g image s refs sound.balanced stand b h.0 live inner h.1 in
       let rank : (node_at s b).rank ≡ rank_of kind 0 + suc j = ap (λ (x : Node). x.rank) is ∙ ((λ i. rank_of (h.2 i) (h.3 i)) ∙ rank_split kind (suc j)) in
       let same : (node_at s b).entries ≡ h.0.entries = inner_entries m (node_at s b) h.0 is (omega (arith, h.3)) in (
         joined_is kind j h.0.entries all (λ e xs k c. let x = entry_there kind j b e live rank (subst (λ es. Among e es) (sym same) k) in (content_is kind j e.value xs x.0 x.1 c).0) h.4 ∙ ap (joined (pairs j s)) (sym same),
@@ -217,14 +218,14 @@ module _ (g : Geometry) (image : List Sector) (top : ℕ) (s : Store) (sound : I
       sym (length-map all (moved_by (first_named m kind 0))) ∙ (ap length c.0 ∙ ap (λ n. length (pairs n s b)) level)
 
 -- a volume's tree below the size that its record tells
-module _ (g : Geometry) (image : List Sector) (top : ℕ) (s : Store) (sound : IsSound g top s) (stand : NodesStand g image s) (id r mapped told : ℕ) (path : IsDevice image top id r mapped told) where
+module _ (g : Geometry) (image : List Sector) (refs : List ℕ) (top : ℕ) (s : Store) (sound : IsRooted g refs top s) (stand : NodesStand g image s) (id r mapped told : ℕ) (path : IsDevice image top id r mapped told) where
   there : found id (content 5 s top) ≡ Some (listed id r mapped told)
-  there = device_found_there g image top s sound stand id r mapped told path
+  there = device_found_there g image refs top s sound stand id r mapped told path
 
   below_size : (x : Entry) → Among x (content 1 s r) → x.key < told_blocks g told
   below_size x k =
       let at : found x.key (content 1 s r) ≡ Some x = among_found 0 (2 ^ 24) x (content 1 s r) (ascend_tree 1 ((node_at s r).rank - 1) s 0 (2 ^ 24) r (sound.forest.volumes id (listed id r mapped told) there).tree.tree) k in
-      sound.sizes.inside id told x.key (x.value - g.metadata_blocks) (told_size g image top s sound stand id r mapped told path)
+      sound.sizes.inside id told x.key (x.value - g.metadata_blocks) (told_size g image refs top s sound stand id r mapped told path)
       (lookups_are_listed.slots g.metadata_blocks s top id x.key (listed id r mapped told) there ∙ ap (option_map (λ (y : Entry). y.value - g.metadata_blocks)) at)
 
   pub own_tree : IsWhole 1 ((node_at s r).rank - 1) s (told_blocks g told) r
@@ -233,23 +234,47 @@ module _ (g : Geometry) (image : List Sector) (top : ℕ) (s : Store) (sound : I
       (sound.forest.volumes id (listed id r mapped told) there).tree
 
 -- the trees below a root keep them, of a sound store whose nodes stand in the image
-pub trees_kept : (version : Version) (g : Geometry) (image : List Sector) (top : ℕ) (s : Store) → IsSound g top s → NodesStand g image s → IsOfVersion version (volumes_below g.metadata_blocks s top)
+pub trees_kept : (version : Version) (g : Geometry) (image : List Sector) (refs : List ℕ) (top : ℕ) (s : Store) → IsRooted g refs top s → NodesStand g image s → IsOfVersion version (volumes_below g.metadata_blocks s top)
     → KeepTheRules image version g top
-trees_kept version g image top s sound stand old = record {
-  devices = ruled_whole g image top s sound stand Device ((node_at s top).rank - 5) (2 ^ 24) top (devices_low g image top s sound stand) (root_live g image top s sound stand) sound.forest.devices;
-  sizes = λ id r mapped told path. size_of_version version g (volumes_below g.metadata_blocks s top) sound.sizes old id told (told_size g image top s sound stand id r mapped told path);
+trees_kept version g image refs top s sound stand old = record {
+  devices = ruled_whole g image refs top s sound stand Device ((node_at s top).rank - 5) (2 ^ 24) top (devices_low g image refs top s sound stand) (root_live g image refs top s sound stand) sound.forest.devices;
+  sizes = λ id r mapped told path. size_of_version version g (volumes_below g.metadata_blocks s top) sound.sizes old id told (told_size g image refs top s sound stand id r mapped told path);
   volumes = λ id r mapped told path.
-      let e = device_found_there g image top s sound stand id r mapped told path in
-      let there = volume_there g image top s sound stand id (listed id r mapped told) e in
-      ruled_whole g image top s sound stand Mapping ((node_at s r).rank - 1) (told_blocks g told) r (omega (arith, there.2)) there.0 (own_tree g image top s sound stand id r mapped told path);
+      let e = device_found_there g image refs top s sound stand id r mapped told path in
+      let there = volume_there g image refs top s sound stand id (listed id r mapped told) e in
+      ruled_whole g image refs top s sound stand Mapping ((node_at s r).rank - 1) (told_blocks g told) r (omega (arith, there.2)) there.0 (own_tree g image refs top s sound stand id r mapped told path);
   few_devices = λ level records h.
-      let long = content_long g image top s sound stand Device level top records (root_live g image top s sound stand) (root_rank g image top s sound stand) h in omega (arith, long, sound.few);
+      let long = content_long g image refs top s sound stand Device level top records (root_live g image refs top s sound stand) (root_rank g image refs top s sound stand) h in omega (arith, long, sound.few);
   mapped_is = λ id r mapped told level entries path h.
-      let e = device_found_there g image top s sound stand id r mapped told path in
-      let there = volume_there g image top s sound stand id (listed id r mapped told) e in
-      let inner : 0 < (node_at s r).rank = omega (arith, volume_is g image top s sound stand id (listed id r mapped told) e) in
-      content_long g image top s sound stand Mapping level r entries there.0 inner h ∙ sym (sound.forest.volumes id (listed id r mapped told) e).mapped;
+      let e = device_found_there g image refs top s sound stand id r mapped told path in
+      let there = volume_there g image refs top s sound stand id (listed id r mapped told) e in
+      let inner : 0 < (node_at s r).rank = omega (arith, volume_is g image refs top s sound stand id (listed id r mapped told) e) in
+      content_long g image refs top s sound stand Mapping level r entries there.0 inner h ∙ sym (sound.forest.volumes id (listed id r mapped told) e).mapped;
 }
 
+-- the sizes that a version has are those of each root
+version_of : (version : Version) (g : Geometry) (root held : ℕ) (s : Store) → IsSound g root held s → IsOfVersion version (volumes_of g.metadata_blocks s root held)
+    → (r : ℕ) → 0 < occurrences r (root ∷ held_refs held) → IsOfVersion version (volumes_below g.metadata_blocks s r)
+version_of OwnSizes g root held s sound old r here = tt
+version_of OneSize g root held s sound old r here = elim (cases_eq root r) [
+  | inl e ↦ subst (λ x. IsOfVersion OneSize (volumes_below g.metadata_blocks s x)) e
+      (λ id size h. old id size (copies_are_listed.now_size g.metadata_blocks s root held id (size_low g.metadata_blocks s root (fixed_blocks g) (2 ^ 24) id size sound.forest h) ∙ h))
+  | inr d ↦ below held (omega (arith, here, one_other root r d)) old
+]
+  where
+    below : (h : ℕ) → 0 < occurrences r (held_refs h) → IsOfVersion OneSize (volumes_of g.metadata_blocks s root h) → IsOfVersion OneSize (volumes_below g.metadata_blocks s r)
+    below zero some of = absurd (omega (arith, some))
+    below (suc n) some of =
+        subst (λ x. IsOfVersion OneSize (volumes_below g.metadata_blocks s x)) (held_one (suc n) r some)
+        (λ id size h. of (copy_id id) size (copies_are_listed.copy_size g.metadata_blocks s root n (fixed_blocks g) (2 ^ 24) id sound.forest ∙ h))
+
+-- below both roots
+pub both_kept : (version : Version) (g : Geometry) (image : List Sector) (root held : ℕ) (s : Store) → IsSound g root held s → NodesStand g image s → IsOfVersion version (volumes_of g.metadata_blocks s root held)
+    → (r : ℕ) → Contains (root ∷ held_refs held) r → KeepTheRules image version g r
+both_kept version g image root held s sound stand old r known =
+    let here = root_of g image root held s sound stand r known in
+    trees_kept version g image (held_by g root held) r s (rooted g image root held s sound stand r here) stand (version_of version g root held s sound old r here)
+
 pub commits_keep_the_rules : CommitsKeepTheRules
-commits_keep_the_rules image superblock s commit = trees_kept superblock.version superblock.geometry image superblock.root s commit.sound commit.nodes commit.of_version
+commits_keep_the_rules image superblock s commit r known =
+    both_kept superblock.version superblock.geometry image superblock.root superblock.held_root s commit.sound commit.nodes commit.of_version r known

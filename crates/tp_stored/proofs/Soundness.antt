@@ -25,25 +25,28 @@ use Rattle.tp_image.specs.Rules as rules
 use Rattle.tp_image.specs.Rules.{BeginsAt, Children, IsContent, IsInRange, IsRecordSize, IsWholeTree, Joined, KeepTheRules, KeepsRules}
 use Rattle.tp_image.proofs.Uniqueness.{IsNodeAt-one}
 use Rattle.tp_refs.specs.Store.{MayName, Node, Store, children, count_of, first_named, moved_by, no_node, node_at, node_from, rank_of, values}
-use Rattle.tp_refs.specs.Balance.{Balanced, counted, names_from, occurrences, one_if_same, times_named}
+use Rattle.tp_refs.specs.Balance.{Balanced, counted, names_from, occurrences, times_named}
 use Rattle.tp_refs.proofs.Moved.{moved-append, moved_ascend}
-use Rattle.tp_refs.proofs.Steps.{counted_live, one_other, one_same}
+use Rattle.tp_refs.proofs.Steps.{counted_live, occurrences-append}
 use Rattle.tp_trees.specs.Tree as trees
 use Rattle.tp_trees.specs.Tree.{IsWhole, Parted, joined, pairs}
 use Rattle.tp_trees.proofs.Limits.{wider_whole}
 use Rattle.tp_trees.proofs.Trees.{ascend_tree, children_values, tree_rank}
-use Rattle.tp_sharing.specs.Forest.{Forest, IsVolume, content}
-use Rattle.tp_sharing.specs.Volumes.{AreSized, Volumes, size_of, slot_of, volumes_below}
+use Rattle.tp_sharing.specs.Forest.{Forest, HeldForest, IsVolume, content, held_refs}
+use Rattle.tp_sharing.specs.Volumes.{AreSized, Volumes, as_copy, copies_below, device_from, size_of, slot_of, volumes_below, volumes_of}
+use Rattle.tp_sharing.proofs.Copies.{WhoseSize, size_of_copy, size_of_now, sized_both, whose_size}
 use Rattle.tp_sharing.proofs.Slots.{lookups_are_listed}
 use Rattle.tp_stored.specs.Commit.{IsCommit, IsOfVersion, IsSound, NodesStand, fixed_blocks, held_by}
 use Rattle.tp_stored.specs.Contents.{HoldsContents, contents_of}
 use Rattle.tp_stored.specs.Laws.{CleanStandForOpened}
 use Rattle.tp_stored.specs.Rebuilt.{node_among, store_from}
 use Rattle.tp_stored.proofs.Members.{Among, among_below, among_contains, among_map, contains_among, found_among, map_among, value_among}
-use Rattle.tp_stored.proofs.Naming.{NamesData, NamesMetadata, count_some, data_entries, data_values, either_names, in_fixed, is_root, metadata_are, metadata_entries, metadata_values, no_data_named, sum_agree, sum_at_least, sum_nothing, sum_owns}
+use Rattle.tp_stored.proofs.Naming.{NamesData, NamesMetadata, count_some, data_entries, data_values, either_names, in_fixed, metadata_are, metadata_entries, metadata_values, no_data_named, sum_agree, sum_at_least, sum_nothing, sum_owns}
 use Rattle.tp_stored.proofs.Opened.{moved_nothing, stands_for_opened}
 use Rattle.tp_stored.proofs.Placed.{Placed, child_of, child_placed, named_within, placed, root_of, top_of}
+use Rattle.tp_stored.proofs.Counted.{counted_roots}
 use Rattle.tp_stored.proofs.Ranges.{behind, in_range}
+use Rattle.tp_stored.proofs.Reachable.{among_refs, refs_among}
 use Rattle.tp_stored.proofs.Rebuilding.{chosen_root, commit_of_sound, long, node_inside, node_outside, nodes_stand, one_of, rebuilt}
 use Rattle.tp_stored.proofs.Ruled.{least_below}
 use Rattle.tp_stored.proofs.Standing.{Led, among_leads, base_positive, inner_entries, leaf_entries, rank_split}
@@ -101,26 +104,42 @@ children_cover Q R low high (e ∷ x ∷ xs) up begins h f =
       children_cover Q R x.key high (x ∷ xs) (omega arith, up.1.1) refl h.1 (λ y to k. f y to (inr k)),
     )
 
-module _ (image : List Sector) (version : Version) (g : Geometry) (root : ℕ) (limits : IsWithinLimits g) (within_tree : IsTreeBlock g root) (keep : KeepTheRules image version g root)
-    (ns : List NodeValue) (are : AreReachable image root ns) (counts : Part → List ℕ) (longs : (part : Part) → length (counts part) ≡ blocks_of g part)
-    (trues : (part : Part) (b : ℕ) → b < blocks_of g part → slice_index (counts part) b ≡ true_count g root ns part b) where
+-- what is so of the root of a copy, where there is one
+held_copy : (s : Store) (held : ℕ) (fixed : List ℕ) (top : ℕ) → ((r : ℕ) → Contains (held_refs held) r → Forest s r fixed top) → HeldForest s held fixed top
+held_copy s zero fixed top each = tt
+held_copy s (suc n) fixed top each = each (suc n) (among_contains (suc n) (suc n ∷ []) (inl refl))
+
+held_bound : (m : ℕ) (s : Store) (held : ℕ) → ((r : ℕ) → Contains (held_refs held) r → length (content 5 s r) ≤ 65536) → length (copies_below m s held) ≤ 65536
+held_bound m s zero each = omega arith
+held_bound m s (suc n) each =
+    let all : length (copies_below m s (suc n)) ≡ length (content 5 s (suc n)) =
+    length-map (volumes_below m s (suc n)) as_copy ∙ length-map (content 5 s (suc n)) (device_from m s) in
+    omega (arith, all, each (suc n) (among_contains (suc n) (suc n ∷ []) (inl refl)))
+
+module _ (image : List Sector) (version : Version) (g : Geometry) (root held : ℕ) (limits : IsWithinLimits g) (within_trees : (r : ℕ) → Contains (root ∷ held_refs held) r → IsTreeBlock g r)
+    (keep : (r : ℕ) → Contains (root ∷ held_refs held) r → KeepTheRules image version g r)
+    (ns : List NodeValue) (are : AreReachable image (root ∷ held_refs held) ns) (counts : Part → List ℕ) (longs : (part : Part) → length (counts part) ≡ blocks_of g part)
+    (trues : (part : Part) (b : ℕ) → b < blocks_of g part → slice_index (counts part) b ≡ true_count g (root ∷ held_refs held) ns part b) where
   abbrev m : ℕ
   m = g.metadata_blocks
 
   abbrev s : Store
   s = store_from g ns counts
 
-  abbrev held : List ℕ
-  held = held_by g root
+  abbrev roots : List ℕ
+  roots = root ∷ held_refs held
 
-  member : (n : NodeValue) → IsReachable image root n → Among n ns
+  abbrev refs : List ℕ
+  refs = held_by g root held
+
+  member : (n : NodeValue) → IsReachable image roots n → Among n ns
   member n h = contains_among n ns (are.all n h)
 
-  reached : (n : NodeValue) → Among n ns → IsReachable image root n
+  reached : (n : NodeValue) → Among n ns → IsReachable image roots n
   reached n k = are.only n (among_contains n ns k)
 
-  place : (n : NodeValue) → Among n ns → Placed image version g root within_tree keep n
-  place n k = placed image version g root within_tree keep n (reached n k)
+  place : (n : NodeValue) → Among n ns → Placed image version g roots within_trees keep n
+  place n k = placed image version g roots within_trees keep n (reached n k)
 
   own_below : (n : NodeValue) → Among n ns → n.own < m
   own_below n k = (place n k).inside.1
@@ -155,7 +174,7 @@ module _ (image : List Sector) (version : Version) (g : Geometry) (root : ℕ) (
   counted_all : length s.counts ≡ m + g.data_blocks
   counted_all = let a : length (counts Metadata) ≡ m = longs Metadata in let b : length (counts Data) ≡ g.data_blocks = longs Data in omega (arith, length-append (counts Metadata) (counts Data))
 
-  metadata_stored : (b : ℕ) → b < m → count_of s b ≡ metadata_count g root ns b
+  metadata_stored : (b : ℕ) → b < m → count_of s b ≡ metadata_count g roots ns b
   metadata_stored b lt = let a : length (counts Metadata) ≡ m = longs Metadata in get_or_append_left (counts Metadata) (counts Data) 0 b (omega (arith, lt)) ∙ trues Metadata b lt
 
   data_stored : (p : ℕ) → p < g.data_blocks → count_of s (m + p) ≡ data_count ns p
@@ -167,8 +186,10 @@ module _ (image : List Sector) (version : Version) (g : Geometry) (root : ℕ) (
 
   live : (n : NodeValue) → Among n ns → 0 < count_of s n.own
   live n k = by (reached n k) where
-    by : IsReachable image root n → 0 < count_of s n.own
-    by (itself _ at) = omega (arith, metadata_stored n.own (own_below n k), is_root root n.own, one_same root n.own (sym at.own))
+    by : IsReachable image roots n → 0 < count_of s n.own
+    by (itself r _ known at) =
+        let some : 0 < occurrences n.own roots = subst (λ x. 0 < occurrences x roots) (sym at.own) (refs_among r roots (contains_among r roots known)) in
+        omega (arith, metadata_stored n.own (own_below n k), counted_roots n.own roots, some)
     by (through parent _ from named at) =
         let some : 0 < count_by (λ x. x == n.own) (metadata_names parent) = count_some n.own (metadata_names parent) (contains_among n.own (metadata_names parent) named) in
         let all : count_by (λ x. x == n.own) (metadata_names parent) ≤ sum_by (λ p. count_by (λ x. x == n.own) (metadata_names p)) ns = sum_at_least (λ p. count_by (λ x. x == n.own) (metadata_names p)) parent ns (member parent from) in
@@ -194,7 +215,7 @@ module _ (image : List Sector) (version : Version) (g : Geometry) (root : ℕ) (
 
   -- the names of a node lie where they should
   ranged : (n : NodeValue) → Among n ns → (e : Entry) → Among e n.entries → (b : Bool) → is_naming_data n.kind n.level ≡ b → IsInRange g b e.value
-  ranged n k e h b is = subst (λ t. IsInRange g t e.value) is (named_within image version g root within_tree keep n (place n k) e h)
+  ranged n k e h b is = subst (λ t. IsInRange g t e.value) is (named_within image version g roots within_trees keep n (place n k) e h)
 
   no_far_names : (p : ℕ) (n : NodeValue) → Among n ns → NamesMetadata m n.kind n.level → occurrences (m + p) (values n.entries) ≡ 0
   no_far_names p n k d =
@@ -212,28 +233,37 @@ module _ (image : List Sector) (version : Version) (g : Geometry) (root : ℕ) (
         | inr none ↦ omega (arith, none)
       ]
 
-  data_true : (p : ℕ) → count_of s (m + p) ≡ occurrences (m + p) held + times_named s [] (m + p)
+  parts : (b : ℕ) → occurrences b refs ≡ occurrences b roots + occurrences b (fixed_blocks g)
+  parts b = omega (arith, occurrences-append b (held_refs held) (fixed_blocks g))
+
+  no_far_root : (b : ℕ) → m ≤ b → occurrences b roots ≡ 0
+  no_far_root b ge =
+      elim (cases_lt 0 (occurrences b roots)) [
+        | inl some ↦ absurd (omega (arith, ge, (within_trees b (among_contains b roots (among_refs b roots some))).1))
+        | inr none ↦ omega (arith, none)
+      ]
+
+  data_true : (p : ℕ) → count_of s (m + p) ≡ occurrences (m + p) refs + times_named s [] (m + p)
   data_true p =
       let named : data_count ns p ≡ times_named s [] (m + p) = named_alike (m + p) (λ n. count_by (λ x. x == p) (data_names n)) (λ n k. data_values m p n (no_far_names p n k)) in
       let fixed : occurrences (m + p) (fixed_blocks g) ≡ 0 = behind (m + p) 0 (fixed_part g) (omega (arith, limits.metadata_least)) in
-      let other : one_if_same root (m + p) ≡ 0 = one_other root (m + p) (λ e. absurd (omega (arith, e, within_tree.1))) in
+      let other : occurrences (m + p) refs ≡ 0 = omega (arith, parts (m + p), fixed, no_far_root (m + p) (omega arith)) in
       elim (cases_lt p g.data_blocks) [
-        | inl lt ↦ omega (arith, named, fixed, other, data_stored p lt)
+        | inl lt ↦ omega (arith, named, other, data_stored p lt)
         | inr ge ↦
             let none : data_count ns p ≡ 0 = sum_nothing (λ n. count_by (λ x. x == p) (data_names n)) ns (λ n k. no_data_named m p n (no_far_data p (omega (arith, ge)) n k)) in
             let past : count_of s (m + p) ≡ 0 = get_or_past s.counts (m + p) 0 (omega (arith, counted_all, ge)) in
-            omega (arith, named, fixed, other, none, past)
+            omega (arith, named, other, none, past)
       ]
 
-  all_true : (b : ℕ) → count_of s b ≡ occurrences b held + times_named s [] b
+  all_true : (b : ℕ) → count_of s b ≡ occurrences b refs + times_named s [] b
   all_true b =
       elim (cases_lt b m) [
         | inl lt ↦
             let named : sum_by (λ n. count_by (λ x. x == b) (metadata_names n)) ns ≡ times_named s [] b = named_alike b (λ n. count_by (λ x. x == b) (metadata_names n)) (λ n k. metadata_values m b lt n) in
             let fixed : occurrences b (fixed_blocks g) ≡ (if nat_lt b (fixed_part g) then 1 else 0) = in_fixed (fixed_part g) b in
-            let top : one_if_same root b ≡ (if b == root then 1 else 0) = is_root root b in
-            omega (arith, named, fixed, top, metadata_stored b lt)
-        | inr ge ↦ let e : m + (b - m) ≡ b = omega (arith, ge) in subst (λ x. count_of s x ≡ occurrences x held + times_named s [] x) e (data_true (b - m))
+            omega (arith, named, fixed, parts b, counted_roots b roots, metadata_stored b lt)
+        | inr ge ↦ let e : m + (b - m) ≡ b = omega (arith, ge) in subst (λ x. count_of s x ≡ occurrences x refs + times_named s [] x) e (data_true (b - m))
       ]
 
   -- ---- ranks
@@ -247,7 +277,7 @@ module _ (image : List Sector) (version : Version) (g : Geometry) (root : ℕ) (
 
   child : (n : NodeValue) → Among n ns → is_naming_data n.kind n.level ≡ false → (e : Entry) → Among e n.entries → Child n e.value
   child n k d e h =
-      let c = child_placed image version g root within_tree keep n (place n k) e h n.kind n.level refl refl (no_leaf n.kind n.level d) in
+      let c = child_placed image version g roots within_trees keep n (place n k) e h n.kind n.level refl refl (no_leaf n.kind n.level d) in
       let own : c.node.own ≡ e.value = c.here.own in
       let names : Contains (metadata_names n) c.node.own =
       subst (λ xs. Contains xs c.node.own) (sym (metadata_are n d))
@@ -294,7 +324,7 @@ module _ (image : List Sector) (version : Version) (g : Geometry) (root : ℕ) (
             omega (arith, z, (place o.0 o.1).here.good.form.room, most_fits (is_long o.0.kind o.0.level))
       ]
 
-  balanced : Balanced s [] held
+  balanced : Balanced s [] refs
   balanced = record {
     sized = omega (arith, sized, counted_all);
     sized_kept = refl;
@@ -405,46 +435,7 @@ module _ (image : List Sector) (version : Version) (g : Geometry) (root : ℕ) (
       inner_names (suc l) e Mapping = refl
       inner_names (suc l) e Device = refl
 
-  -- ---- the device tree, and the volumes
-
-  record RootNode : Type 0 where
-    node : NodeValue
-    there : Among node ns
-    own_is : node.own ≡ root
-
-  root_node : RootNode
-  root_node =
-      let t = top_of image g Device true keep.devices.level 0 (2 ^ 24) root keep.devices.tree in
-      record { node = t.0; there = member t.0 (itself t.0 t.1.here); own_is = t.1.here.own }
-
-  devices_whole : IsWhole 5 keep.devices.level s (2 ^ 24) root
-  devices_whole = whole Device 2 (2 ^ 24) root keep.devices root_node.node root_node.there root_node.own_is
-
-  devices_level : keep.devices.level ≡ (node_at s root).rank - 5
-  devices_level = level_is Device keep.devices.level (2 ^ 24) root devices_whole
-
-  root_live : 0 < count_of s root
-  root_live = subst (λ x. 0 < count_of s x) root_node.own_is (live root_node.node root_node.there)
-
-  -- the leaf to which a path leads
-  record Leaf (e : Entry) : Type 0 where
-    node : NodeValue
-    there : Among node ns
-    kind_is : node.kind ≡ Device
-    has : Among e node.entries
-
-  names_blocks : (kind : TreeKind) (level : ℕ) → kind ≡ Device → is_naming_data kind level ≡ false
-  names_blocks Device level e = refl
-  names_blocks Mapping level e = let z : 1 ≡ 5 = ap (λ (x : TreeKind). rank_of x 0) e in absurd (omega (arith, z))
-
-  leaf : (b : ℕ) (e : Entry) → LeadsTo image Device b e → (x : NodeValue) → Among x ns → x.own ≡ b → Leaf e
-  leaf b e (ends n at is low has) x k own =
-      let one : n ≡ x = IsNodeAt-one image b n x at (subst (λ y. IsNodeAt image y x) own (place x k).here) in
-      record { node = n; there = subst (λ (y : NodeValue). Among y ns) (sym one) k; kind_is = is; has = contains_among e n.entries has }
-  leaf b e (goes n next at is inner has path) x k own =
-      let one : n ≡ x = IsNodeAt-one image b n x at (subst (λ y. IsNodeAt image y x) own (place x k).here) in
-      let c = child n (subst (λ (y : NodeValue). Among y ns) (sym one) k) (names_blocks n.kind n.level is) next (contains_among next n.entries has) in
-      leaf next.value e path c.node c.there c.own_is
+  -- ---- each device tree, and its volumes
 
   told_by : (v : Version) {size : ℕ} → IsRecordSize v g size → IsToldSize g size
   told_by OneSize h = inl h
@@ -457,144 +448,217 @@ module _ (image : List Sector) (version : Version) (g : Geometry) (root : ℕ) (
     | inr d ↦ let same : told_blocks g size ≡ size = ap (λ t. if t then g.virtual_blocks else size) (ne_eqb size 0 d) in omega (arith, same, h.1)
   ]
 
-  module _ (id : ℕ) (e : Entry) (here : found id (content 5 s root) ≡ Some e) where
-    led : Led m image Device root e
-    led = among_leads g image s held balanced stand Device ((node_at s root).rank - 5) root e (omega (arith, devices_level, keep.devices.low_enough)) root_live
-        (tree_rank 5 ((node_at s root).rank - 5) s 0 (2 ^ 24) root (subst (λ x. IsWhole 5 x s (2 ^ 24) root) devices_level devices_whole).tree) (found_among id e (content 5 s root) here)
+  module _ (r : ℕ) (known : Contains roots r) where
+    abbrev kept : KeepTheRules image version g r
+    kept = keep r known
 
-    path : LeadsTo image Device root e
-    path = subst (λ (x : Entry). LeadsTo image Device root x) (sym (led.is ∙ moved_nothing led.entry)) led.path
+    record RootNode : Type 0 where
+      node : NodeValue
+      there : Among node ns
+      own_is : node.own ≡ r
 
-    volume_tree : IsWholeTree image g Mapping 3 (told_blocks g e.size) e.value
-    volume_tree = keep.volumes e.key e.value e.mapped e.size path
+    root_node : RootNode
+    root_node =
+        let t = top_of image g Device true kept.devices.level 0 (2 ^ 24) r kept.devices.tree in
+        record { node = t.0; there = member t.0 (itself r t.0 known t.1.here); own_is = t.1.here.own }
 
-    volume_root : (n : NodeValue) × Among n ns × (n.own ≡ e.value)
-    volume_root =
-        let l = leaf root e path root_node.node root_node.there root_node.own_is in
-        let c = child l.node l.there (names_blocks l.node.kind l.node.level l.kind_is) e l.has in (c.node, c.there, c.own_is)
+    devices_whole : IsWhole 5 kept.devices.level s (2 ^ 24) r
+    devices_whole = whole Device 2 (2 ^ 24) r kept.devices root_node.node root_node.there root_node.own_is
 
-    volume_whole : IsWhole 1 volume_tree.level s (told_blocks g e.size) e.value
-    volume_whole = whole Mapping 3 (told_blocks g e.size) e.value volume_tree volume_root.0 volume_root.1 volume_root.2
+    devices_level : kept.devices.level ≡ (node_at s r).rank - 5
+    devices_level = level_is Device kept.devices.level (2 ^ 24) r devices_whole
 
-    volume_level : volume_tree.level ≡ (node_at s e.value).rank - 1
-    volume_level = level_is Mapping volume_tree.level (told_blocks g e.size) e.value volume_whole
+    root_live : 0 < count_of s r
+    root_live = subst (λ x. 0 < count_of s x) root_node.own_is (live root_node.node root_node.there)
 
-    volume_here : IsWhole 1 ((node_at s e.value).rank - 1) s (told_blocks g e.size) e.value
-    volume_here = subst (λ x. IsWhole 1 x s (told_blocks g e.size) e.value) volume_level volume_whole
+    -- the leaf to which a path leads
+    record Leaf (e : Entry) : Type 0 where
+      node : NodeValue
+      there : Among node ns
+      kind_is : node.kind ≡ Device
+      has : Among e node.entries
 
-    volume_blocks : (block : ℕ) (x : Entry) → found block (content 1 s e.value) ≡ Some x → length s.nodes ≤ x.value
-    volume_blocks block x at =
-        let l = among_leads g image s held balanced stand Mapping ((node_at s e.value).rank - 1) e.value x (omega (arith, volume_level, volume_tree.low_enough))
-        (subst (λ y. 0 < count_of s y) volume_root.2 (live volume_root.0 volume_root.1)) (tree_rank 1 ((node_at s e.value).rank - 1) s 0 (told_blocks g e.size) e.value volume_here.tree) (found_among block x (content 1 s e.value) at) in
-        let v : x.value ≡ m + l.entry.value = ap (λ (y : Entry). y.value) l.is in omega (arith, v, sized)
+    names_blocks : (kind : TreeKind) (level : ℕ) → kind ≡ Device → is_naming_data kind level ≡ false
+    names_blocks Device level e = refl
+    names_blocks Mapping level e = let z : 1 ≡ 5 = ap (λ (x : TreeKind). rank_of x 0) e in absurd (omega (arith, z))
 
-    volume_mapped : e.mapped ≡ length (content 1 s e.value)
-    volume_mapped =
-        let c = contained Mapping true volume_tree.level 0 (told_blocks g e.size) e.value volume_tree.tree volume_root.0 volume_root.1 volume_root.2 in
-        sym (keep.mapped_is e.key e.value e.mapped e.size volume_tree.level c.all path c.content_is)
-        ∙ (sym (length-map c.all (moved_by m)) ∙ (ap length c.pairs_are ∙ ap (λ k. length (pairs k s e.value)) volume_level))
+    leaf : (b : ℕ) (e : Entry) → LeadsTo image Device b e → (x : NodeValue) → Among x ns → x.own ≡ b → Leaf e
+    leaf b e (ends n at is low has) x k own =
+        let one : n ≡ x = IsNodeAt-one image b n x at (subst (λ y. IsNodeAt image y x) own (place x k).here) in
+        record { node = n; there = subst (λ (y : NodeValue). Among y ns) (sym one) k; kind_is = is; has = contains_among e n.entries has }
+    leaf b e (goes n next at is inner has path) x k own =
+        let one : n ≡ x = IsNodeAt-one image b n x at (subst (λ y. IsNodeAt image y x) own (place x k).here) in
+        let c = child n (subst (λ (y : NodeValue). Among y ns) (sym one) k) (names_blocks n.kind n.level is) next (contains_among next n.entries has) in
+        leaf next.value e path c.node c.there c.own_is
 
-    recorded : IsRecordSize version g e.size
-    recorded = keep.sizes e.key e.value e.mapped e.size path
+    module _ (id : ℕ) (e : Entry) (here : found id (content 5 s r) ≡ Some e) where
+      led : Led m image Device r e
+      led = among_leads g image s refs balanced stand Device ((node_at s r).rank - 5) r e (omega (arith, devices_level, kept.devices.low_enough)) root_live
+          (tree_rank 5 ((node_at s r).rank - 5) s 0 (2 ^ 24) r (subst (λ x. IsWhole 5 x s (2 ^ 24) r) devices_level devices_whole).tree) (found_among id e (content 5 s r) here)
 
-    told : IsToldSize g e.size
-    told = told_by version recorded
+      path : LeadsTo image Device r e
+      path = subst (λ (x : Entry). LeadsTo image Device r x) (sym (led.is ∙ moved_nothing led.entry)) led.path
 
-    volume : IsVolume s (2 ^ 24) e
-    volume = record { tree = wider_whole 1 ((node_at s e.value).rank - 1) s (told_blocks g e.size) (2 ^ 24) e.value (told_most e.size told) volume_here; data_blocks = volume_blocks; mapped = volume_mapped }
+      volume_tree : IsWholeTree image g Mapping 3 (told_blocks g e.size) e.value
+      volume_tree = kept.volumes e.key e.value e.mapped e.size path
 
-  forest : Forest s root (fixed_blocks g) (2 ^ 24)
-  forest = record {
-    devices = subst (λ x. IsWhole 5 x s (2 ^ 24) root) devices_level devices_whole;
-    volumes = volume;
-    once = λ b. elim (cases_lt b (fixed_part g)) [
-      | inl lt ↦ omega (arith, in_range b 0 (fixed_part g) (omega arith) (omega (arith, lt)))
-      | inr ge ↦ omega (arith, behind b 0 (fixed_part g) (omega (arith, ge)))
-    ];
-    bare = λ b some. elim (either b) [
-      | inl e ↦ ap (λ (y : Node). y.rank) e
-      | inr o ↦ absurd (omega (arith, fixed_below b some, o.2, (place o.0 o.1).inside.0))
-    ];
-    inside = λ b some. omega (arith, fixed_below b some, sized, limits.metadata_least);
-  }
-    where
-      fixed_below : (b : ℕ) → 0 < occurrences b (fixed_blocks g) → b < fixed_part g
-      fixed_below b some =
-          elim (cases_lt b (fixed_part g)) [
-            | inl lt ↦ lt
-            | inr ge ↦ absurd (omega (arith, some, behind b 0 (fixed_part g) (omega (arith, ge))))
-          ]
+      volume_root : (n : NodeValue) × Among n ns × (n.own ≡ e.value)
+      volume_root =
+          let l = leaf r e path root_node.node root_node.there root_node.own_is in
+          let c = child l.node l.there (names_blocks l.node.kind l.node.level l.kind_is) e l.has in (c.node, c.there, c.own_is)
 
-  -- ---- the sizes
+      volume_whole : IsWhole 1 volume_tree.level s (told_blocks g e.size) e.value
+      volume_whole = whole Mapping 3 (told_blocks g e.size) e.value volume_tree volume_root.0 volume_root.1 volume_root.2
 
-  abbrev listed : Volumes
-  listed = volumes_below m s root
+      volume_level : volume_tree.level ≡ (node_at s e.value).rank - 1
+      volume_level = level_is Mapping volume_tree.level (told_blocks g e.size) e.value volume_whole
 
-  -- the record of a device that tells a size
-  recorded_by : (id size : ℕ) → size_of id listed ≡ Some size → (e : Entry) × (found id (content 5 s root) ≡ Some e) × (e.size ≡ size)
-  recorded_by id size h = go (found id (content 5 s root)) refl where
-    go : (f : Option Entry) → found id (content 5 s root) ≡ f → (e : Entry) × (found id (content 5 s root) ≡ Some e) × (e.size ≡ size)
-    go None k = let z : size_of id listed ≡ None = lookups_are_listed.sizes m s root id ∙ ap (option_map (λ (x : Entry). x.size)) k in absurd (cc)
-    go (Some e) k =
-        let z : size_of id listed ≡ Some e.size = lookups_are_listed.sizes m s root id ∙ ap (option_map (λ (x : Entry). x.size)) k in
-        let same : e.size ≡ size = cc in
-        (e, k, same)
+      volume_here : IsWhole 1 ((node_at s e.value).rank - 1) s (told_blocks g e.size) e.value
+      volume_here = subst (λ x. IsWhole 1 x s (told_blocks g e.size) e.value) volume_level volume_whole
 
-  size_recorded : (id size : ℕ) → size_of id listed ≡ Some size → IsRecordSize version g size
-  size_recorded id size h = let r = recorded_by id size h in subst (IsRecordSize version g) r.2 (recorded id r.0 r.1)
+      volume_blocks : (block : ℕ) (x : Entry) → found block (content 1 s e.value) ≡ Some x → length s.nodes ≤ x.value
+      volume_blocks block x at =
+          let l = among_leads g image s refs balanced stand Mapping ((node_at s e.value).rank - 1) e.value x (omega (arith, volume_level, volume_tree.low_enough))
+          (subst (λ y. 0 < count_of s y) volume_root.2 (live volume_root.0 volume_root.1)) (tree_rank 1 ((node_at s e.value).rank - 1) s 0 (told_blocks g e.size) e.value volume_here.tree) (found_among block x (content 1 s e.value) at) in
+          let v : x.value ≡ m + l.entry.value = ap (λ (y : Entry). y.value) l.is in omega (arith, v, sized)
 
-  module _ (id size block place : ℕ) (told : size_of id listed ≡ Some size) (mapped : slot_of id block listed ≡ Some place) where
-    own_record : (e : Entry) × (found id (content 5 s root) ≡ Some e) × (e.size ≡ size)
-    own_record = recorded_by id size told
+      volume_mapped : e.mapped ≡ length (content 1 s e.value)
+      volume_mapped =
+          let c = contained Mapping true volume_tree.level 0 (told_blocks g e.size) e.value volume_tree.tree volume_root.0 volume_root.1 volume_root.2 in
+          sym (kept.mapped_is e.key e.value e.mapped e.size volume_tree.level c.all path c.content_is)
+          ∙ (sym (length-map c.all (moved_by m)) ∙ (ap length c.pairs_are ∙ ap (λ k. length (pairs k s e.value)) volume_level))
 
-    abbrev own_entries : List Entry
-    own_entries = content 1 s own_record.0.value
+      recorded : IsRecordSize version g e.size
+      recorded = kept.sizes e.key e.value e.mapped e.size path
 
-    by_entry : (f : Option Entry) → found block own_entries ≡ f → slot_of id block listed ≡ option_map (λ (x : Entry). x.value - m) f
-    by_entry f p = lookups_are_listed.slots m s root id block own_record.0 own_record.1 ∙ ap (option_map (λ (x : Entry). x.value - m)) p
+      told : IsToldSize g e.size
+      told = told_by version recorded
 
-    below_own : (f : Option Entry) → found block own_entries ≡ f → block < told_blocks g own_record.0.size
-    below_own None p = let z : slot_of id block listed ≡ None = by_entry None p in absurd (cc)
-    below_own (Some x) p =
-        let own = volume_here id own_record.0 own_record.1 in
-        let up : Ascend 0 (told_blocks g own_record.0.size) own_entries = ascend_tree 1 ((node_at s own_record.0.value).rank - 1) s 0 (told_blocks g own_record.0.size) own_record.0.value own.tree in
-        let lt : x.key < told_blocks g own_record.0.size = among_below 0 (told_blocks g own_record.0.size) x own_entries up (found_among block x own_entries p) in
-        let key : x.key ≡ block = found_key block x own_entries p in
-        omega (arith, lt, key)
+      volume : IsVolume s (2 ^ 24) e
+      volume = record { tree = wider_whole 1 ((node_at s e.value).rank - 1) s (told_blocks g e.size) (2 ^ 24) e.value (told_most e.size told) volume_here; data_blocks = volume_blocks; mapped = volume_mapped }
 
-    place_below : block < told_blocks g size
-    place_below = subst (λ n. block < told_blocks g n) own_record.2 (below_own (found block own_entries) refl)
+    forest : Forest s r (fixed_blocks g) (2 ^ 24)
+    forest = record {
+      devices = subst (λ x. IsWhole 5 x s (2 ^ 24) r) devices_level devices_whole;
+      volumes = volume;
+      once = λ b. elim (cases_lt b (fixed_part g)) [
+        | inl lt ↦ omega (arith, in_range b 0 (fixed_part g) (omega arith) (omega (arith, lt)))
+        | inr ge ↦ omega (arith, behind b 0 (fixed_part g) (omega (arith, ge)))
+      ];
+      bare = λ b some. elim (either b) [
+        | inl e ↦ ap (λ (y : Node). y.rank) e
+        | inr o ↦ absurd (omega (arith, fixed_below b some, o.2, (place o.0 o.1).inside.0))
+      ];
+      inside = λ b some. omega (arith, fixed_below b some, sized, limits.metadata_least);
+    }
+      where
+        fixed_below : (b : ℕ) → 0 < occurrences b (fixed_blocks g) → b < fixed_part g
+        fixed_below b some =
+            elim (cases_lt b (fixed_part g)) [
+              | inl lt ↦ lt
+              | inr ge ↦ absurd (omega (arith, some, behind b 0 (fixed_part g) (omega (arith, ge))))
+            ]
 
-  sizes : AreSized g listed
-  sizes = record { told = λ id size h. told_by version (size_recorded id size h); inside = place_below }
+    -- ---- the sizes
 
-  pub of_version_there : IsOfVersion version listed
-  of_version_there = by version size_recorded where
-    by : (v : Version) → ((id size : ℕ) → size_of id listed ≡ Some size → IsRecordSize v g size) → IsOfVersion v listed
+    abbrev listed : Volumes
+    listed = volumes_below m s r
+
+    -- the record of a device that tells a size
+    recorded_by : (id size : ℕ) → size_of id listed ≡ Some size → (e : Entry) × (found id (content 5 s r) ≡ Some e) × (e.size ≡ size)
+    recorded_by id size h = go (found id (content 5 s r)) refl where
+      go : (f : Option Entry) → found id (content 5 s r) ≡ f → (e : Entry) × (found id (content 5 s r) ≡ Some e) × (e.size ≡ size)
+      go None k = let z : size_of id listed ≡ None = lookups_are_listed.sizes m s r id ∙ ap (option_map (λ (x : Entry). x.size)) k in absurd (cc)
+      go (Some e) k =
+          let z : size_of id listed ≡ Some e.size = lookups_are_listed.sizes m s r id ∙ ap (option_map (λ (x : Entry). x.size)) k in
+          let same : e.size ≡ size = cc in
+          (e, k, same)
+
+    size_recorded : (id size : ℕ) → size_of id listed ≡ Some size → IsRecordSize version g size
+    size_recorded id size h = let x = recorded_by id size h in subst (IsRecordSize version g) x.2 (recorded id x.0 x.1)
+
+    module _ (id size block place : ℕ) (told : size_of id listed ≡ Some size) (mapped : slot_of id block listed ≡ Some place) where
+      own_record : (e : Entry) × (found id (content 5 s r) ≡ Some e) × (e.size ≡ size)
+      own_record = recorded_by id size told
+
+      abbrev own_entries : List Entry
+      own_entries = content 1 s own_record.0.value
+
+      by_entry : (f : Option Entry) → found block own_entries ≡ f → slot_of id block listed ≡ option_map (λ (x : Entry). x.value - m) f
+      by_entry f p = lookups_are_listed.slots m s r id block own_record.0 own_record.1 ∙ ap (option_map (λ (x : Entry). x.value - m)) p
+
+      below_own : (f : Option Entry) → found block own_entries ≡ f → block < told_blocks g own_record.0.size
+      below_own None p = let z : slot_of id block listed ≡ None = by_entry None p in absurd (cc)
+      below_own (Some x) p =
+          let own = volume_here id own_record.0 own_record.1 in
+          let up : Ascend 0 (told_blocks g own_record.0.size) own_entries = ascend_tree 1 ((node_at s own_record.0.value).rank - 1) s 0 (told_blocks g own_record.0.size) own_record.0.value own.tree in
+          let lt : x.key < told_blocks g own_record.0.size = among_below 0 (told_blocks g own_record.0.size) x own_entries up (found_among block x own_entries p) in
+          let key : x.key ≡ block = found_key block x own_entries p in
+          omega (arith, lt, key)
+
+      place_below : block < told_blocks g size
+      place_below = subst (λ n. block < told_blocks g n) own_record.2 (below_own (found block own_entries) refl)
+
+    sizes : AreSized g listed
+    sizes = record { told = λ id size h. told_by version (size_recorded id size h); inside = place_below }
+
+    few : length (content 5 s r) ≤ 65536
+    few =
+        let c = contained Device true kept.devices.level 0 (2 ^ 24) r kept.devices.tree root_node.node root_node.there root_node.own_is in
+        let most = kept.few_devices kept.devices.level c.all c.content_is in
+        let long : length c.all ≡ length (content 5 s r) = sym (length-map c.all (moved_by 0)) ∙ (ap length c.pairs_are ∙ ap (λ k. length (pairs k s r)) devices_level) in
+        omega (arith, most, long)
+
+  first : Contains roots root
+  first = among_contains root roots (inl refl)
+
+  also : (r : ℕ) → Contains (held_refs held) r → Contains roots r
+  also r k = among_contains r roots (inr (contains_among r (held_refs held) k))
+
+  one_more : (n : ℕ) → held ≡ suc n → Contains roots (suc n)
+  one_more n e = also (suc n) (subst (λ h. Contains (held_refs h) (suc n)) (sym e) (among_contains (suc n) (suc n ∷ []) (inl refl)))
+
+  -- the sizes of both
+  sizes_of_both : AreSized g (volumes_of m s root held)
+  sizes_of_both = sized_both g m s root held (fixed_blocks g) (2 ^ 24) (forest root first) (sizes root first) (λ n e. sizes (suc n) (one_more n e))
+
+  all_recorded : (id size : ℕ) → size_of id (volumes_of m s root held) ≡ Some size → IsRecordSize version g size
+  all_recorded id size h = go (whose_size m s root held (fixed_blocks g) (2 ^ 24) id size (forest root first) h) where
+    go : WhoseSize m s root held id size → IsRecordSize version g size
+    go (size_of_now l k) = size_recorded root first id size k
+    go (size_of_copy n device e is k) = size_recorded (suc n) (one_more n e) device size k
+
+  pub of_version_there : IsOfVersion version (volumes_of m s root held)
+  of_version_there = by version all_recorded where
+    by : (v : Version) → ((id size : ℕ) → size_of id (volumes_of m s root held) ≡ Some size → IsRecordSize v g size) → IsOfVersion v (volumes_of m s root held)
     by OneSize h = h
     by OwnSizes h = tt
 
-  few : length (content 5 s root) ≤ 65536
-  few =
-      let c = contained Device true keep.devices.level 0 (2 ^ 24) root keep.devices.tree root_node.node root_node.there root_node.own_is in
-      let most = keep.few_devices keep.devices.level c.all c.content_is in
-      let long : length c.all ≡ length (content 5 s root) = sym (length-map c.all (moved_by 0)) ∙ (ap length c.pairs_are ∙ ap (λ k. length (pairs k s root)) devices_level) in
-      omega (arith, most, long)
-
-  pub sound_there : IsSound g root s
-  sound_there = record { limits = limits; sized = sized; counted = counted_all; balanced = balanced; forest = forest; sizes = sizes; few = few }
+  pub sound_there : IsSound g root held s
+  sound_there = record {
+    limits = limits;
+    sized = sized;
+    counted = counted_all;
+    balanced = balanced;
+    forest = forest root first;
+    copy = held_copy s held (fixed_blocks g) (2 ^ 24) (λ r k. forest r (also r k));
+    sizes = sizes_of_both;
+    few = few root first;
+    few_held = held_bound m s held (λ r k. few r (also r k));
+  }
 
 -- ---- clean images
 
-pub clean_sound : (image : List Sector) (h : IsClean image) → IsSound h.superblock.geometry h.superblock.root (rebuilt image h)
+pub clean_sound : (image : List Sector) (h : IsClean image) → IsSound h.superblock.geometry h.superblock.root h.superblock.held_root (rebuilt image h)
 clean_sound image h =
     let good = chosen_root image h.superblock h.chosen in
-    sound_there image h.superblock.version h.superblock.geometry h.superblock.root good.0 good.1 h.rules h.nodes h.reachable h.counts.counts (long image h) h.counts.true_ones
+    sound_there image h.superblock.version h.superblock.geometry h.superblock.root h.superblock.held_root good.0 good.1 h.rules h.nodes h.reachable h.counts.counts (long image h) h.counts.true_ones
 
-clean_of_version : (image : List Sector) (h : IsClean image) → IsOfVersion h.superblock.version (volumes_below h.superblock.geometry.metadata_blocks (rebuilt image h) h.superblock.root)
+clean_of_version : (image : List Sector) (h : IsClean image)
+    → IsOfVersion h.superblock.version (volumes_of h.superblock.geometry.metadata_blocks (rebuilt image h) h.superblock.root h.superblock.held_root)
 clean_of_version image h =
     let good = chosen_root image h.superblock h.chosen in
-    of_version_there image h.superblock.version h.superblock.geometry h.superblock.root good.0 good.1 h.rules h.nodes h.reachable h.counts.counts (long image h) h.counts.true_ones
+    of_version_there image h.superblock.version h.superblock.geometry h.superblock.root h.superblock.held_root good.0 good.1 h.rules h.nodes h.reachable h.counts.counts (long image h) h.counts.true_ones
 
 pub clean_commit : (image : List Sector) (h : IsClean image) → IsCommit image h.superblock (rebuilt image h)
 clean_commit image h = commit_of_sound image h (clean_sound image h) (clean_of_version image h)

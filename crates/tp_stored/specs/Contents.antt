@@ -12,7 +12,7 @@ use Rattle.tp_model.specs.Pool.{PlainPool, slot_at, volume_size}
 use Rattle.tp_layout.specs.declared.superblock.Superblock.{Superblock}
 use Rattle.tp_image.specs.Stands.{HasSectors}
 use Rattle.tp_refs.specs.Store.{Store}
-use Rattle.tp_sharing.specs.Volumes.{Volumes, size_of, slot_of, volumes_below}
+use Rattle.tp_sharing.specs.Volumes.{Volumes, size_of, slot_of, volumes_of}
 use Rattle.tp_stored.specs.Commit.{IsCommit, use_of}
 
 -- what a pool is, but for what stands in its data blocks
@@ -21,14 +21,16 @@ pub record Contents : Type 0 where
   pub transaction_id : ℕ
   pub needs_check : Bool
   pub meta_used : ℕ  -- how many metadata blocks it names
+  pub held_root : ℕ  -- the root of a held copy, whose volumes stand behind the others; 0 where there is none
 
--- what a superblock and the trees below its root say
+-- what a superblock and the trees below its roots say
 abbrev pub contents_of : Superblock → Store → Contents
 contents_of superblock s = record {
-  volumes = volumes_below superblock.geometry.metadata_blocks s superblock.root;
+  volumes = volumes_of superblock.geometry.metadata_blocks s superblock.root superblock.held_root;
   transaction_id = superblock.transaction_id;
   needs_check = superblock.needs_check;
   meta_used = use_of superblock.geometry s;
+  held_root = superblock.held_root;
 }
 
 -- the image is that of a commit of these contents
@@ -42,6 +44,7 @@ pub record HasContents (g : Geometry) (contents : Contents) (image : List Sector
   pub transaction_id : p.transaction_id ≡ contents.transaction_id
   pub needs_check : p.needs_check ≡ contents.needs_check
   pub meta_used : p.meta_used ≡ contents.meta_used
+  pub held_root : p.held_root ≡ contents.held_root
   pub sizes : (id : ℕ) → volume_size p id ≡ option_map (told_sectors g) (size_of id contents.volumes)
   pub slots : (id block : ℕ) → slot_at p id block ≡ slot_of id block contents.volumes
   pub sectors : HasSectors image g p

@@ -44,7 +44,7 @@ pub fn commits_keep_the_rules()
     ensures { CommitsKeepTheRules }
 {}
 
-/// How many metadata blocks the trees use at most, by how many blocks each volume maps.
+/// How many metadata blocks the trees use at most where no root is held, by how many blocks each volume maps.
 pub fn trees_are_bounded()
     ensures sound { SoundAreBounded }
     ensures commits { CommitsAreBounded }

@@ -6,7 +6,8 @@ use std::test::Fail;
 use tp_model::DevId;
 use tp_samples::fill_of;
 use tp_users::{
-    closed_bytes_are_read, flushed_bytes_are_read, grown_blocks_read_zero, serve_first,
+    closed_bytes_are_read, flushed_bytes_are_read, grown_blocks_read_zero,
+    held_mapping_keeps_its_bytes, released_blocks_are_free, serve_first,
 };
 
 /// What a client sends up to the payload of its write, and behind it: flags, GO of volume 0, a write of a sector, a read of it, FLUSH and DISC.
@@ -23,6 +24,9 @@ const BEHIND: [u8; 84] = [
 
 /// The bytes of a sector that is written, kept, and read again.
 const WRITTEN: [u8; 512] = [7; 512];
+
+/// And those that are written in their place.
+const ANEW: [u8; 512] = [8; 512];
 
 /// How many bytes the first client is sent, and the byte that fills the payload in them.
 fn told_of_the_first(alloc: Global) -> Result<(usize, Option<u8>), Fail> {
@@ -75,4 +79,42 @@ fn grown_blocks_are_zero(rt: HostRuntime) -> Result<(), Fail> {
     )?;
     assert_eq!(rt; (fill_of(&before), fill_of(&behind)), (Some(0), Some(0)));
     Ok(())
+}
+
+#[test]
+fn held_bytes_are_read(rt: HostRuntime) -> Result<(), Fail> {
+    let id = DevId::new(3);
+    let (mut now, mut held) = ([1; 512], [1; 512]);
+    let (mut now_again, mut held_again) = ([1; 512], [1; 512]);
+    held_mapping_keeps_its_bytes(
+        rt.alloc(),
+        id,
+        5,
+        &WRITTEN,
+        &ANEW,
+        &[],
+        &mut now,
+        &mut held,
+        &mut now_again,
+        &mut held_again,
+    )?;
+    let read = [
+        fill_of(&now),
+        fill_of(&held),
+        fill_of(&now_again),
+        fill_of(&held_again),
+    ];
+    assert_eq!(rt; read, [Some(8), Some(7), Some(8), Some(7)]);
+    Ok(())
+}
+
+/// Whether a mapping that is held is given up.
+fn is_released(alloc: Global) -> bool {
+    released_blocks_are_free(alloc, DevId::new(3), 5, &WRITTEN, &ANEW).is_ok()
+}
+
+#[test]
+fn a_held_mapping_is_released(rt: HostRuntime) {
+    let is_so = is_released(rt.alloc());
+    assert!(rt; is_so);
 }

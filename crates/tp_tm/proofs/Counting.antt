@@ -25,7 +25,7 @@ data_are {g} {m} {o} p = λ i. record { geometry = p.data_geometry i; part = p.d
 -- ---- data blocks
 
 abbrev pub with_data : Tm → ℕ → ℕ → Tm
-with_data t p n = record { geometry = t.geometry; metadata_now = t.metadata_now; metadata_kept = t.metadata_kept; data_now = set t.data_now p n; data_kept = t.data_kept }
+with_data t p n = record { geometry = t.geometry; metadata_now = t.metadata_now; metadata_kept = t.metadata_kept; data_now = set t.data_now p n; data_kept = t.data_kept; held_root = t.held_root }
 
 module _ (t : Tm) (sized : IsSized t) (p : ℕ) (inside : p < t.geometry.data_blocks) where
   abbrev x : ℕ
@@ -45,6 +45,7 @@ module _ (t : Tm) (sized : IsSized t) (p : ℕ) (inside : p < t.geometry.data_bl
     geometry = refl;
     now = sym (set-append_right t.metadata_now t.data_now t.geometry.metadata_blocks x n sized.metadata_now (omega arith) ∙ ap (λ i. t.metadata_now ++ set t.data_now i n) from_first);
     kept = refl;
+    held_root = refl;
   }
 
   module _ (disk : DiskState) (opens held : List ℕ) (s : Store) where

@@ -44,13 +44,14 @@ ranked_below s x h =
     ]
 
 pub fewer_refl : (t : Tm) → OnlyFewer t t
-fewer_refl t = record { geometry = refl; metadata_kept = refl; data_kept = refl; metadata = λ b. omega arith; others = λ b. omega arith }
+fewer_refl t = record { geometry = refl; metadata_kept = refl; data_kept = refl; held_root = refl; metadata = λ b. omega arith; others = λ b. omega arith }
 
 pub fewer_trans : (t u v : Tm) → OnlyFewer t u → OnlyFewer u v → OnlyFewer t v
 fewer_trans t u v p q = record {
   geometry = q.geometry ∙ p.geometry;
   metadata_kept = q.metadata_kept ∙ p.metadata_kept;
   data_kept = q.data_kept ∙ p.data_kept;
+  held_root = q.held_root ∙ p.held_root;
   metadata = λ b. omega (arith, p.metadata b, q.metadata b);
   others = λ b. omega (arith, p.others b, q.others b);
 }

@@ -86,13 +86,14 @@ own_first t disk opens held s b ch h = record {
 -- ---- counts that rise
 
 pub untaken_refl : (t : Tm) → NoneTaken t t
-untaken_refl t = record { geometry = refl; metadata_kept = refl; data_kept = refl; metadata = λ b h. h; others = λ b h. h }
+untaken_refl t = record { geometry = refl; metadata_kept = refl; data_kept = refl; held_root = refl; metadata = λ b h. h; others = λ b h. h }
 
 pub untaken_trans : (t u v : Tm) → NoneTaken t u → NoneTaken u v → NoneTaken t v
 untaken_trans t u v p q = record {
   geometry = q.geometry ∙ p.geometry;
   metadata_kept = q.metadata_kept ∙ p.metadata_kept;
   data_kept = q.data_kept ∙ p.data_kept;
+  held_root = q.held_root ∙ p.held_root;
   metadata = λ b h. q.metadata b (p.metadata b h);
   others = λ b h. q.others b (p.others b h);
 }
@@ -103,6 +104,7 @@ fewer_untaken t u p = record {
   geometry = p.geometry;
   metadata_kept = p.metadata_kept;
   data_kept = p.data_kept;
+  held_root = p.held_root;
   metadata = λ b h. omega (arith, h, p.metadata b);
   others = λ b h. omega (arith, h, p.others b);
 }

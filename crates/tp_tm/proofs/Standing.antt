@@ -51,7 +51,7 @@ pub kept_at : (t : Tm) (s : Store) (x : ℕ) → length t.metadata_kept ≡ t.ge
 kept_at t s x long inside e = ap (λ l. get_or l x 0) e ∙ get_or_append_left t.metadata_kept t.data_kept 0 x (omega arith)
 
 abbrev pub with_now : Tm → ℕ → ℕ → Tm
-with_now t x n = record { geometry = t.geometry; metadata_now = set t.metadata_now x n; metadata_kept = t.metadata_kept; data_now = t.data_now; data_kept = t.data_kept }
+with_now t x n = record { geometry = t.geometry; metadata_now = set t.metadata_now x n; metadata_kept = t.metadata_kept; data_now = t.data_now; data_kept = t.data_kept; held_root = t.held_root }
 
 pub now_set : (t : Tm) (x n : ℕ) → length t.metadata_now ≡ t.geometry.metadata_blocks → x < t.geometry.metadata_blocks → counts_now (with_now t x n) ≡ set (counts_now t) x n
 now_set t x n long inside = sym (set-append_left t.metadata_now t.data_now x n (omega arith))
@@ -71,7 +71,7 @@ pub taken_holds : (t : Tm) (disk : DiskState) (opens held : List ℕ) (s : Store
     → get_or t.metadata_now x 0 ≡ 0 → get_or t.metadata_kept x 0 ≡ 0 → Holds t disk opens held s → Holds (with_now t x 1) disk (x ∷ opens) held (with_count s x 1)
 taken_holds t disk opens held s x long kept_long inside now kept h =
     taken_reference t (with_now t x 1) disk opens held s x (omega (arith, h.stands.sized, h.balanced.sized)) (now_at t s x long inside h.stands.counts ∙ now) (kept_at t s x kept_long inside h.stands.kept ∙ kept)
-    (record { geometry = refl; now = now_set t x 1 long inside; kept = refl }) h
+    (record { geometry = refl; now = now_set t x 1 long inside; kept = refl; held_root = refl }) h
 
 -- a live block that is not open gets one more reference, which is held
 named_reference : (t u : Tm) (disk : DiskState) (opens held : List ℕ) (s : Store) (x : ℕ) → IsRecounted t u x (get_or (counts_now t) x 0 + 1) → Holds t disk opens held s
@@ -96,7 +96,7 @@ node_recounted : (t : Tm) (x : ℕ) → length t.metadata_now ≡ t.geometry.met
 node_recounted t x long inside =
     let n = get_or t.metadata_now x 0 in
     let is : get_or (counts_now t) x 0 ≡ n = get_or_append_left t.metadata_now t.data_now 0 x (omega arith) in
-    record { geometry = refl; now = now_set t x (n + 1) long inside ∙ ap (λ c. set (counts_now t) x (c + 1)) (sym is); kept = refl }
+    record { geometry = refl; now = now_set t x (n + 1) long inside ∙ ap (λ c. set (counts_now t) x (c + 1)) (sym is); kept = refl; held_root = refl }
 
 pub shared_holds : (t : Tm) (disk : DiskState) (opens held : List ℕ) (s : Store) (x : ℕ) → length t.metadata_now ≡ t.geometry.metadata_blocks → x < t.geometry.metadata_blocks
     → Holds t disk opens (x ∷ held) s → Holds (with_now t x (get_or t.metadata_now x 0 + 1)) disk opens (x ∷ x ∷ held) (with_count s x (count_of s x + 1))

@@ -12,6 +12,7 @@ pub record Tm : Type 0 where
   pub metadata_kept : List ℕ
   pub data_now : List ℕ
   pub data_kept : List ℕ
+  pub held_root : ℕ  -- the root of a held copy of the trees; 0 where there is none
 
 -- the counts by reference: those of the metadata blocks, then those of the data blocks
 abbrev pub counts_now : Tm → List ℕ
@@ -51,7 +52,7 @@ used_data t = used_count (data_counts t)
 
 -- the store when a commit was kept: the counts of now are those of the last commit
 abbrev pub kept_now : Tm → Tm
-kept_now t = record { geometry = t.geometry; metadata_now = t.metadata_now; metadata_kept = t.metadata_now; data_now = t.data_now; data_kept = t.data_now }
+kept_now t = record { geometry = t.geometry; metadata_now = t.metadata_now; metadata_kept = t.metadata_now; data_now = t.data_now; data_kept = t.data_now; held_root = t.held_root }
 
 -- there is a count for each block
 pub record IsSized (t : Tm) : Type 0 where
@@ -78,12 +79,14 @@ pub record IsRecounted (old new : Tm) (b n : ℕ) : Type 0 where
   pub geometry : new.geometry ≡ old.geometry
   pub now : counts_now new ≡ set (counts_now old) b n
   pub kept : counts_kept new ≡ counts_kept old
+  pub held_root : new.held_root ≡ old.held_root
 
 -- no count rose, and none of the last commit changed
 pub record OnlyFewer (old new : Tm) : Type 0 where
   pub geometry : new.geometry ≡ old.geometry
   pub metadata_kept : new.metadata_kept ≡ old.metadata_kept
   pub data_kept : new.data_kept ≡ old.data_kept
+  pub held_root : new.held_root ≡ old.held_root
   pub metadata : (b : ℕ) → slice_index new.metadata_now b ≤ slice_index old.metadata_now b
   pub others : (b : ℕ) → slice_index new.data_now b ≤ slice_index old.data_now b
 
@@ -92,6 +95,7 @@ pub record NoneTaken (old new : Tm) : Type 0 where
   pub geometry : new.geometry ≡ old.geometry
   pub metadata_kept : new.metadata_kept ≡ old.metadata_kept
   pub data_kept : new.data_kept ≡ old.data_kept
+  pub held_root : new.held_root ≡ old.held_root
   pub metadata : (b : ℕ) → slice_index old.metadata_now b ≡ 0 → slice_index new.metadata_now b ≡ 0
   pub others : (b : ℕ) → slice_index old.data_now b ≡ 0 → slice_index new.data_now b ≡ 0
 

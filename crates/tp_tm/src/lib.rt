@@ -28,6 +28,7 @@ pub struct Tm {
     geometry: Geometry,
     metadata_counts: Counts,
     data_counts: Counts,
+    held_root: Mb,
 }
 
 impl Model for Tm {
@@ -36,17 +37,17 @@ impl Model for Tm {
 
     ghost Value = { values.Tm };
 
-    ghost view = { λ t. record { geometry = t.geometry; metadata_now = t.metadata_counts.now; metadata_kept = t.metadata_counts.kept; data_now = t.data_counts.now; data_kept = t.data_counts.kept } };
+    ghost view = { λ t. record { geometry = t.geometry; metadata_now = t.metadata_counts.now; metadata_kept = t.metadata_counts.kept; data_now = t.data_counts.now; data_kept = t.data_counts.kept; held_root = t.held_root } };
 
     ghost invariant = { λ t. AreOfParts t.geometry t.metadata_counts t.data_counts };
 }
 
 impl Tm {
     /// A store of nodes with these counts, which are those of the two parts of one pool.
-    pub fn new(geometry: Geometry, metadata: Counts, others: Counts) -> Tm
+    pub fn new(geometry: Geometry, metadata: Counts, others: Counts, held_root: Mb) -> Tm
         requires metadata { (metadata.geometry ≡ geometry) × (metadata.part ≡ Metadata) }
         requires others { (others.geometry ≡ geometry) × (others.part ≡ Data) }
-        ensures { result ≡ record { geometry = geometry; metadata_now = metadata.now; metadata_kept = metadata.kept; data_now = others.now; data_kept = others.kept } }
+        ensures { result ≡ record { geometry = geometry; metadata_now = metadata.now; metadata_kept = metadata.kept; data_now = others.now; data_kept = others.kept; held_root = held_root } }
     {
         let _ = (metadata.blocks(), others.blocks());
         let _ = (geometry.metadata_blocks(), geometry.data_blocks());
@@ -54,7 +55,22 @@ impl Tm {
             geometry,
             metadata_counts: metadata,
             data_counts: others,
+            held_root,
         }
+    }
+
+    /// The root of a held copy of the trees; 0 where there is none.
+    pub fn held_root(&self) -> Mb
+        ensures { result ≡ self.now.held_root }
+    {
+        self.held_root
+    }
+
+    /// The root of a held copy of the trees is this one now; 0 where there is none.
+    pub fn hold(&mut self, root: Mb)
+        ensures { self.new ≡ record self.old { held_root = root } }
+    {
+        self.held_root = root;
     }
 
     /// The sizes of the pool. There is a count for each of its blocks.

@@ -171,7 +171,7 @@ impl Tm {
         ensures damaged { result ≡ Err StoreError.Damaged → IsTrue (D.state disk.old).is_honest → (opens held : List ℕ) (s : Store)
             → Holds self.old (D.state disk.old) opens (block ∷ held) s → IsRankOf kind (node_at s block).rank → HasRoomFor 301 opens held → ⊥ }
         ensures fault { result ≡ Err StoreError.Fault → self.new ≡ self.old }
-        ensures kept { (self.new.geometry ≡ self.old.geometry) × (self.new.metadata_kept ≡ self.old.metadata_kept) × (self.new.data_kept ≡ self.old.data_kept) }
+        ensures kept { (self.new.geometry ≡ self.old.geometry) × (self.new.metadata_kept ≡ self.old.metadata_kept) × (self.new.data_kept ≡ self.old.data_kept) × (self.new.held_root ≡ self.old.held_root) }
         ensures in_place { slice_index self.old.metadata_now block ≡ 1 → slice_index self.old.metadata_kept block ≡ 0 → (self.new ≡ self.old) × IfOk result (λ to. to ≡ block) }
         ensures free { free_metadata self.old ≤ free_metadata self.new + 1 }
         ensures used { used_metadata self.new ≤ used_metadata self.old + 1 }

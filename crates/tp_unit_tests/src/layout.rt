@@ -57,6 +57,7 @@ fn fresh_superblock(rt: HostRuntime) -> Result<(), Fail> {
         transaction_id: 0,
         geometry: Geometry::new(128, 16, 2048, 4)?,
         root: Mb::new(8),
+        held_root: Mb::new(0),
     };
     let mut sector = [7u8; 512];
     write_super(&superblock, &mut sector);
@@ -82,6 +83,7 @@ fn superblock_of_a_later_commit(rt: HostRuntime) -> Result<(), Fail> {
         transaction_id: 0x0102_0304_0506_0708,
         geometry: Geometry::new(2048, 16_777_216, 65_536, 1_048_576)?,
         root: Mb::new(65_535),
+        held_root: Mb::new(0),
     };
     let mut sector = [7u8; 512];
     write_super(&superblock, &mut sector);
@@ -94,6 +96,25 @@ fn superblock_of_a_later_commit(rt: HostRuntime) -> Result<(), Fail> {
         (slots, superblock.slot()),
         ((Slot::Good(superblock), Slot::Bad), SlotId::One)
     );
+    Ok(())
+}
+
+#[test]
+fn superblock_with_a_held_root(rt: HostRuntime) -> Result<(), Fail> {
+    let superblock = Superblock {
+        version: Version::OwnSizes,
+        needs_check: false,
+        sequence: 0,
+        transaction_id: 0,
+        geometry: Geometry::new(128, 16, 2048, 4)?,
+        root: Mb::new(8),
+        held_root: Mb::new(2047),
+    };
+    let mut sector = [7u8; 512];
+    write_super(&superblock, &mut sector);
+    let slot = read_super(&sector, SlotId::Zero);
+    assert!(rt; sector == fresh_but(&[(56, 0xff), (57, 7)]));
+    assert_eq!(rt; slot, Slot::Good(superblock));
     Ok(())
 }
 
@@ -117,7 +138,7 @@ fn kind_of(slot: &Slot) -> &'static str {
 const NONE: Change = (511, 0);
 
 /// Two changes of the fresh slot, the slot that it is read as, and its kind then.
-const KINDS: [(Change, Change, SlotId, &str); 10] = [
+const KINDS: [(Change, Change, SlotId, &str); 13] = [
     ((0, 0x53), NONE, SlotId::Zero, "foreign"),
     ((7, 0x4b), (8, 3), SlotId::Zero, "foreign"),
     ((8, 3), NONE, SlotId::Zero, "other"),
@@ -129,6 +150,10 @@ const KINDS: [(Change, Change, SlotId, &str); 10] = [
     // The least number of metadata blocks for 4 data blocks, and one fewer.
     ((40, 8), (41, 4), SlotId::Zero, "good"),
     ((40, 7), (41, 4), SlotId::Zero, "bad"),
+    // A held root, which version 1 does not have.
+    ((56, 8), NONE, SlotId::Zero, "good"),
+    ((8, 1), NONE, SlotId::Zero, "good"),
+    ((8, 1), (56, 8), SlotId::Zero, "bad"),
 ];
 
 /// The changes of the first slot that is of another kind.
@@ -149,7 +174,7 @@ fn kinds_of_slot(rt: HostRuntime) {
 }
 
 /// Rules of a slot, and a change by which the fresh slot breaks each.
-const BAD: [(&str, Change); 17] = [
+const BAD: [(&str, Change); 20] = [
     ("flag 1", (12, 2)),
     ("flag 31", (15, 0x80)),
     ("sequence 1", (16, 1)),
@@ -165,7 +190,10 @@ const BAD: [(&str, Change); 17] = [
     ("root in the fixed part", (48, 7)),
     ("root behind the metadata", (49, 8)),
     ("root of eight bytes", (55, 1)),
-    ("byte 56", (56, 1)),
+    ("held root in the fixed part", (56, 7)),
+    ("held root behind the metadata", (57, 8)),
+    ("held root of eight bytes", (63, 1)),
+    ("byte 64", (64, 1)),
     ("byte 511", (511, 1)),
 ];
 

@@ -11,6 +11,7 @@ const FRESH: PoolStatus = PoolStatus {
     data_blocks: 4,
     mode: Mode::Writable,
     needs_check: false,
+    held_root: 0,
 };
 
 #[test]
@@ -21,6 +22,8 @@ fn each_message_is_read(rt: HostRuntime) {
         read_message(b"delete 7"),
         read_message(b"set_transaction_id 0 18446744073709551615"),
         read_message(b"grow 16777215 18446744073709551615"),
+        read_message(b"reserve_metadata_snap"),
+        read_message(b"release_metadata_snap"),
     ];
     let messages = [
         Ok(Message::CreateThin {
@@ -39,6 +42,8 @@ fn each_message_is_read(rt: HostRuntime) {
             id: DevId::new(16_777_215),
             blocks: u64::MAX,
         }),
+        Ok(Message::ReserveMetadataSnap),
+        Ok(Message::ReleaseMetadataSnap),
     ];
     assert!(rt; read == messages);
 }
@@ -93,6 +98,47 @@ fn lines_of_growth_are_refused_in_order(rt: HostRuntime) {
         Err(Refusal::BadDeviceId),
     ];
     assert!(rt; read == refusals);
+}
+
+#[test]
+fn lines_of_one_word_are_whole(rt: HostRuntime) {
+    let read = [
+        read_message(b"reserve_metadata_snap "),
+        read_message(b"reserve_metadata_snap 1"),
+        read_message(b"release_metadata_snap 0"),
+        read_message(b"reserve_metadata_snaps"),
+        read_message(b"reserve_metadata_sna"),
+        read_message(b" release_metadata_snap"),
+    ];
+    let refusals = [
+        Err(Refusal::BadSyntax),
+        Err(Refusal::BadSyntax),
+        Err(Refusal::BadSyntax),
+        Err(Refusal::UnknownMessage),
+        Err(Refusal::UnknownMessage),
+        Err(Refusal::UnknownMessage),
+    ];
+    assert!(rt; read == refusals);
+}
+
+#[test]
+fn line_of_a_held_root(rt: HostRuntime) {
+    let status = PoolStatus {
+        transaction_id: u64::MAX,
+        used_metadata: u32::MAX,
+        metadata_blocks: u32::MAX,
+        used_data: u32::MAX,
+        data_blocks: u32::MAX,
+        mode: Mode::Writable,
+        needs_check: true,
+        held_root: u32::MAX,
+    };
+    let mut out = [0; 192];
+    let length = print_status(&status, &mut out);
+    let (line, _) = out.split_at(length);
+    assert!(rt;
+        line == b"18446744073709551615 4294967295/4294967295 4294967295/4294967295 4294967295 out_of_data_space no_discard_passdown error_if_no_space needs_check 512".as_slice()
+    );
 }
 
 #[test]

@@ -13,6 +13,7 @@ const FRESH: PoolStatus = PoolStatus {
     data_blocks: 4,
     mode: Mode::Writable,
     needs_check: false,
+    held_root: 0,
 };
 
 #[test]
@@ -160,6 +161,8 @@ const FACTS: Facts = Facts {
     free_metadata: 511,
     has_data_room: false,
     transaction_id: 7,
+    is_held: false,
+    has_copy: false,
 };
 
 const READ_ONLY: Facts = Facts {
@@ -180,6 +183,22 @@ const ABSENT: Facts = Facts {
 const ROOMY: Facts = Facts {
     free_metadata: 512,
     ..FACTS
+};
+
+/// A root is held, without a copy of the volume.
+const HELD: Facts = Facts {
+    is_held: true,
+    ..FACTS
+};
+
+const HELD_AND_FULL: Facts = Facts {
+    free_metadata: 255,
+    ..HELD
+};
+
+const COPIED: Facts = Facts {
+    has_copy: true,
+    ..HELD
 };
 
 const WRITE: Asked = Asked::Write { sectors: 1 };
@@ -235,6 +254,47 @@ fn tests_of_growth_come_in_their_order(rt: HostRuntime) {
         (ROOMY, grow(3), Some(Refusal::BadSize)),
         (ROOMY, grow(4), None),
         (ROOMY, grow(16_777_216), None),
+    ];
+    for (facts, asked, refusal) in cases {
+        assert_eq!(rt; refusal_of(&facts, asked), refusal, "{asked:?}");
+    }
+}
+
+#[test]
+fn tests_of_a_held_root_come_in_their_order(rt: HostRuntime) {
+    let delete = Asked::Delete { is_held: false };
+    let cases = [
+        (FAILED, Asked::HeldRead, Some(Refusal::Failed)),
+        (READ_ONLY, Asked::HeldRead, Some(Refusal::NoHeldRoot)),
+        (HELD, Asked::HeldRead, Some(Refusal::NoSuchDevice)),
+        (COPIED, Asked::HeldRead, None),
+        (FAILED, Asked::ReserveMetadataSnap, Some(Refusal::Failed)),
+        (
+            READ_ONLY,
+            Asked::ReserveMetadataSnap,
+            Some(Refusal::ReadOnly),
+        ),
+        (
+            HELD,
+            Asked::ReserveMetadataSnap,
+            Some(Refusal::HeldRootExists),
+        ),
+        (
+            FACTS,
+            Asked::ReserveMetadataSnap,
+            Some(Refusal::NoMetadataSpace),
+        ),
+        (ROOMY, Asked::ReserveMetadataSnap, None),
+        (
+            READ_ONLY,
+            Asked::ReleaseMetadataSnap,
+            Some(Refusal::ReadOnly),
+        ),
+        (ROOMY, Asked::ReleaseMetadataSnap, Some(Refusal::NoHeldRoot)),
+        (HELD_AND_FULL, Asked::ReleaseMetadataSnap, None),
+        (HELD, delete, None),
+        (HELD_AND_FULL, delete, Some(Refusal::NoMetadataSpace)),
+        (HELD_AND_FULL, DELETE_HELD, Some(Refusal::Busy)),
     ];
     for (facts, asked, refusal) in cases {
         assert_eq!(rt; refusal_of(&facts, asked), refusal, "{asked:?}");

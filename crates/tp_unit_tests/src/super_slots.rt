@@ -47,6 +47,7 @@ fn superblock(sequence: u64) -> Result<Superblock, Refusal> {
         transaction_id: 0,
         geometry: Geometry::new(128, 16, 2048, 4)?,
         root: Mb::new(8),
+        held_root: Mb::new(0),
     })
 }
 

@@ -116,7 +116,7 @@ held m h = record (blank 0 m) { holds = h }
 borne : (m : ℕ) (h : FinMap nat_cmp ℕ) (payload : List ℕ) (q : PlainPool) → length payload ≡ 512 → Edits (held m h) (Write 0 0 (sectors_of payload) false) 0 q → Bears 0 0 payload q
 borne m h payload q len e =
     let long : length (volume_sectors (held m h) 0) ≡ 2048 = blank_sectors 0 m in
-    put_is_borne 0 0 payload (held m h) q refl refl refl (omega (arith, long, len)) e
+    put_is_borne 0 0 payload (held m h) q (omega arith) refl refl refl (omega (arith, long, len)) e
 
 read_back : (payload : List ℕ) (q : PlainPool) → length payload ≡ 512 → Bears 0 0 payload q → concat (take 1 (drop 0 (volume_sectors q 0))) ≡ payload
 read_back payload q len b =
@@ -252,7 +252,7 @@ writes payload m h {sent} {q} {s'} {new} len roomy is_held talk =
     let a = n.answer.0 in
     let here = caused q.failures n.q.failures a.answer a.calls.1 in
     let takes : Takes (held m h) call a.answer a.calls.0.0 n.q.pool = subst (λ (p : PlainPool). Takes p call a.answer a.calls.0.0 n.q.pool) is_held a.calls.0.1 in
-    let tests : (refusal_of (held m h) call ≡ None) ⊎ (refusal_of (held m h) call ≡ Some NoMetadataSpace) = writable 0 0 (sectors_of payload) (blank 0 m) (m, refl) in
+    let tests : (refusal_of (held m h) call ≡ None) ⊎ (refusal_of (held m h) call ≡ Some NoMetadataSpace) = writable 0 0 (sectors_of payload) (blank 0 m) (omega arith) (m, refl) in
     let fault : a.answer ≡ Refused Fault → WriteAnswer (q.failures < s'.failures) payload sent = λ e.
     let f = failed_there q n.q call a.answer e a.calls in inr (omega (arith, f, rises), n.others, told n.sent_is (a.sent_is ∙ ap (reply_to 1) e) refl) in
     elim tests [
@@ -282,7 +282,7 @@ blocks_of m h = ap (λ (n : ℕ). n / 128) (blank_sectors 0 m)
 size_is_asked : (m : ℕ) (h : FinMap nat_cmp ℕ) (first : List ℕ) (mid : Phase) (c p q : Counted) → c.failures ≤ p.failures → p.pool ≡ held m h → Sizes outline_of_counted CountedCall true there 0 p first mid q
     → Entered m c first mid q
 size_is_asked m h first mid c p q before is z =
-    let none : refusal_of (held m h) (VolumeBlocks 0) ≡ None = ap (λ (b : Bool). cond (not b) (Some NoSuchDevice) None) (there_is 0 m) in
+    let none : refusal_of (held m h) (VolumeBlocks 0) ≡ None = ap (λ (b : Bool). cond (not b) (Some NoSuchDevice) None) (there_is 0 m (omega arith)) in
     let takes : Takes (held m h) (VolumeBlocks 0) z.answer z.calls.0.0 z.asked.pool = subst (λ (s : PlainPool). Takes s (VolumeBlocks 0) z.answer z.calls.0.0 z.asked.pool) is z.calls.0.1 in
     elim (accepted (held m h) (VolumeBlocks 0) z.answer z.calls.0.0 z.asked.pool none takes) [
       | inl e ↦
@@ -301,7 +301,7 @@ size_is_asked m h first mid c p q before is z =
 -- the volume is held, and then its size is asked for
 hold_is_asked : (m : ℕ) (first : List ℕ) (mid : Phase) (c p q : Counted) → c.failures ≤ p.failures → p.pool ≡ blank 0 m → Holds outline_of_counted CountedCall there 0 p first mid q → Entered m c first mid q
 hold_is_asked m first mid c p q before is h =
-    let none : refusal_of (blank 0 m) (Hold 0) ≡ None = ap (λ (b : Bool). cond (not b) (Some NoSuchDevice) None) (there_is 0 m) in
+    let none : refusal_of (blank 0 m) (Hold 0) ≡ None = ap (λ (b : Bool). cond (not b) (Some NoSuchDevice) None) (there_is 0 m (omega arith)) in
     let takes : Takes (blank 0 m) (Hold 0) h.answer h.calls.0.0 h.held.pool = subst (λ (s : PlainPool). Takes s (Hold 0) h.answer h.calls.0.0 h.held.pool) is h.calls.0.1 in
     elim (accepted (blank 0 m) (Hold 0) h.answer h.calls.0.0 h.held.pool none takes) [
       | inl e ↦
@@ -324,7 +324,7 @@ asked m first mid c q is a =
     subst (λ (s : PlainPool). Finds outline_of_counted CountedCall (go true) (λ blocks. (go true).found 0 (bytes_of_blocks s.geometry blocks) (transmission_flags (outline_of s))) 0 a.answer p first mid q) is a.finds in
     elim (accepted (blank 0 m) (NextId 0) a.answer a.calls.0.0 p.pool refl takes) [
       | inl e ↦
-          let f = subst (λ (x : Answer). Finds outline_of_counted CountedCall (go true) there 0 x p first mid q) (e.0 ∙ ap Found (least_is 0 m)) finds in
+          let f = subst (λ (x : Answer). Finds outline_of_counted CountedCall (go true) there 0 x p first mid q) (e.0 ∙ ap Found (least_is 0 m (omega arith))) finds in
           hold_is_asked m first mid c p q (caused c.failures p.failures a.answer a.calls.1) e.1 f
       | inr e ↦
           let f = subst (λ (x : Answer). Finds outline_of_counted CountedCall (go true) there 0 x p first mid q) e finds in

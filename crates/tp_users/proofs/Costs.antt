@@ -1,20 +1,20 @@
 -- What a snapshot costs.
-use Rattle.std.proofs.Common.{◌≡◌, inl, inr, ℕ, ◌==◌, ◌+◌, ◌≤◌, Bool, true, false, cond, Option, Some, None, List, [], refl, sym, ap, ◌∙◌, arith}
-use Rattle.std.specs.Prelude.{MatchOption, not}
+use Rattle.std.proofs.Common.{◌≡◌, inl, inr, ℕ, ◌==◌, ◌+◌, ◌^◌, ◌<◌, ◌≤◌, Bool, true, false, cond, Option, Some, None, List, [], refl, sym, ap, ◌∙◌, arith}
+use Rattle.std.specs.Prelude.{MatchOption, not, ◌&&◌}
 use Rattle.std.specs.Option.{is_some}
 use Rattle.std.specs.Ordering.{nat_cmp}
 use Rattle.std.specs.FinMap.{FinMap, get, insert, remove}
-use Rattle.std.proofs.lemmas.Bool.{eqb-true, false≢true}
+use Rattle.std.proofs.lemmas.Bool.{eqb-true, false≢true, lt-ltb}
 use Rattle.tp_model.specs.declared.refusal.Refusal.{Refusal}
 use Rattle.tp_model.specs.declared.refusal.Refusal.TheVariants.{Exists, Failed, Fault, NoSuchDevice, ReadOnly}
 use Rattle.tp_model.specs.Geometry.{Geometry}
-use Rattle.tp_model.specs.Pool.{PlainPool}
+use Rattle.tp_model.specs.Pool.{PlainPool, is_now}
 use Rattle.tp_model.specs.Calls.{Answer, Call, CreateSnap, Delete, Done, Found, Gave, Line, Makes, Refused, Sized, Status, Takes, after_refusal, exists, is_failed, is_read_only, refusal_of, reply, volume_of}
 use Rattle.tp_model.specs.Status.{pool_line}
 use Rattle.tp_model.specs.Disk.{DiskState}
 use Rattle.tp_model.proofs.Maps.{get_insert, get_remove, same_nat_map}
 use Rattle.tp_stored.specs.Contents.{Contents}
-use Rattle.tp_pool.specs.Held.{Held, PoolCalled, UsesAtMost, shows}
+use Rattle.tp_pool.specs.Held.{Held, PoolCalled, UsesUnheld, shows}
 use Rattle.tp_users.specs.Users.{CostsFew}
 use Rattle.tp_users.proofs.Plain.{done_makes, is_refused, not_refused}
 
@@ -33,13 +33,17 @@ passes : (t : Bool) (x : Refusal) (rest : Option Refusal) → cond t (Some x) re
 passes true x rest e = absurd (false≢true (sym (ap is_some e)))
 passes false x rest e = (refl, e)
 
+unlisted : (low there : Bool) → low ≡ true → (low && there) ≡ false → there ≡ false
+unlisted true there is e = e
+unlisted false there is e = absurd (false≢true is)
+
 -- a snapshot has an id that no volume had
-is_new : (s : PlainPool) (id origin : ℕ) → refusal_of s (CreateSnap id origin) ≡ None → exists s id ≡ false
-is_new s id origin none =
+is_new : (s : PlainPool) (id origin : ℕ) → id < 2 ^ 24 → refusal_of s (CreateSnap id origin) ≡ None → is_some (get s.volumes id) ≡ false
+is_new s id origin low none =
     let works = passes (is_failed s.mode) Failed _ none in
     let writes = passes (is_read_only s.mode) ReadOnly _ works.1 in
     let there = passes (not (exists s origin)) NoSuchDevice _ writes.1 in
-    (passes (exists s id) Exists _ there.1).0
+    unlisted (is_now id) (is_some (get s.volumes id)) (lt-ltb id (2 ^ 24) low) (passes (exists s id) Exists _ there.1).0
 
 -- ---- a snapshot that is removed leaves the volumes as they were
 
@@ -78,18 +82,18 @@ module _ {M : Type 0} (geometry : M → Geometry) (stands : M → DiskState → 
       let m = is.called.meets s shown in
       line_told s m.0 m.1 text m.2
 
-  pub costs : (s : PlainPool) (id origin : ℕ) (old mid new : Held M) (before between behind : List ℕ) → shows geometry stands old s
+  pub costs : (s : PlainPool) (id origin : ℕ) (old mid new : Held M) (before between behind : List ℕ) → id < 2 ^ 24 → shows geometry stands old s
       → PoolCalled geometry stands old old Status (Line before)
-      → PoolCalled geometry stands old mid (CreateSnap id origin) Done → UsesAtMost geometry stands old mid 3
+      → PoolCalled geometry stands old mid (CreateSnap id origin) Done → UsesUnheld geometry stands old mid 3
       → PoolCalled geometry stands mid mid Status (Line between)
-      → PoolCalled geometry stands mid new (Delete id) Done → UsesAtMost geometry stands mid new 0
+      → PoolCalled geometry stands mid new (Delete id) Done → UsesUnheld geometry stands mid new 0
       → PoolCalled geometry stands new new Status (Line behind)
       → CostsFew s id origin before between behind
-  costs s id origin old mid new before between behind shown first snap three second removal none third =
+  costs s id origin old mid new before between behind low shown first snap three second removal none third =
       let m = snap.called.meets s shown in
       let t = m.1 in
       let taken : Makes s (CreateSnap id origin) t = done_makes s (CreateSnap id origin) m.0 t m.2 in
-      let absent : exists s id ≡ false = is_new s id origin (accepted s m.0 t (CreateSnap id origin) m.2) in
+      let absent : is_some (get s.volumes id) ≡ false = is_new s id origin low (accepted s m.0 t (CreateSnap id origin) m.2) in
       let w = removal.called.meets t m.3 in
       let u = w.1 in
       let gone : Makes t (Delete id) u = done_makes t (Delete id) w.0 u w.2 in
@@ -97,7 +101,7 @@ module _ {M : Type 0} (geometry : M → Geometry) (stands : M → DiskState → 
       ap (λ (p : PlainPool). remove p.volumes id) taken ∙ removed_again s.volumes id (volume_of s origin) absent in
       let same : u ≡ record s { meta_used = u.meta_used } =
       gone ∙ (λ i. record (taken i) { volumes = volumes i; meta_used = u.meta_used }) in
-      let fewer : u.meta_used ≤ t.meta_used + 0 = none t u m.3 w.3 in
+      let unheld : s.held_root ≡ 0 → t.held_root ≡ 0 = λ free. ap (λ (p : PlainPool). p.held_root) taken ∙ free in
       record {
         more = t.meta_used;
         left = u.meta_used;
@@ -105,5 +109,5 @@ module _ {M : Type 0} (geometry : M → Geometry) (stands : M → DiskState → 
         between_is = line_is mid t between m.3 second ∙ ap pool_line taken;
         behind_is = line_is new u behind w.3 third ∙ ap pool_line same;
         few = three s t shown m.3;
-        none = omega (arith, fewer);
+        none = λ free. let fewer : u.meta_used ≤ t.meta_used + 0 = none t u m.3 w.3 (unheld free) in omega (arith, fewer);
       }

@@ -1,5 +1,5 @@
 -- What the calls of a pool in memory give its users.
-use Rattle.std.proofs.Common.{◌≡◌, ◌⊎◌, inl, inr, ℕ, ◌+◌, ◌/◌, ◌%◌, ◌≤◌, true, false, None, Some, Result, Ok, Err, List, length, refl, sym, ap, subst, ◌∙◌}
+use Rattle.std.proofs.Common.{◌≡◌, inl, inr, ℕ, ◌+◌, ◌/◌, ◌%◌, ◌^◌, ◌<◌, ◌≤◌, true, false, None, Some, Result, Ok, Err, List, length, refl, sym, ap, subst, ◌∙◌}
 use Rattle.std.specs.Prelude.{IfErr, IsTrue, MatchResult, OnOk, if◌then◌else◌}
 use Rattle.std.proofs.lemmas.Bool.{false≢true}
 use Rattle.tp_model.specs.declared.mode.Mode.{Mode}
@@ -60,20 +60,20 @@ by_tests id sector xs s made after reason roomy (inr some) takes =
       | inr e ↦ inr e
     ]
 
-pub write_refused : (old new : Held Meta) (id sector : ℕ) (xs : List Sector) (reason : Refusal) → RoomLasts → ((s : PlainPool) × IsBlank id s × Shows old s)
+pub write_refused : (old new : Held Meta) (id sector : ℕ) (xs : List Sector) (reason : Refusal) → id < 2 ^ 24 → RoomLasts → ((s : PlainPool) × IsBlank id s × Shows old s)
     → PoolRefused geometry_of metadata.StandsFor old new (Write id sector xs false) reason → IsOutside reason
-write_refused old new id sector xs reason lasts w called =
+write_refused old new id sector xs reason low lasts w called =
     let m = called.called.meets w.0 w.2 in
     let call = Write id sector xs false in
     by_tests id sector xs w.0 m.0 m.1 reason
     (λ short. lasts old new w.0 call w.2 (blank_leaves id sector xs w.0 w.1) (subst (λ (r : Refusal). PoolRefused geometry_of metadata.StandsFor old new call r) short called))
-    (writable id sector xs w.0 w.1) m.2
+    (writable id sector xs w.0 low w.1) m.2
 
-pub written : (old new : Held Meta) (id sector : ℕ) (bytes : List ℕ) → ((s : PlainPool) × IsBlank id s × Shows old s) → sector + length bytes / 512 ≤ 2048
+pub written : (old new : Held Meta) (id sector : ℕ) (bytes : List ℕ) → id < 2 ^ 24 → ((s : PlainPool) × IsBlank id s × Shows old s) → sector + length bytes / 512 ≤ 2048
     → PoolCalled geometry_of metadata.StandsFor old new (Write id sector (sectors_of bytes) false) Done → (s : PlainPool) × Bears id sector bytes s × Shows new s
-written old new id sector bytes w fits called =
+written old new id sector bytes low w fits called =
     let m = called.called.meets w.0 w.2 in
-    (m.1, written_is_borne id sector bytes w.0 m.1 w.1 fits (done_makes w.0 (Write id sector (sectors_of bytes) false) m.0 m.1 m.2), m.3)
+    (m.1, written_is_borne id sector bytes w.0 m.1 low w.1 fits (done_makes w.0 (Write id sector (sectors_of bytes) false) m.0 m.1 m.2), m.3)
 
 -- ---- it is kept
 

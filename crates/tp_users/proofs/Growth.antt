@@ -36,7 +36,7 @@ use Rattle.tp_pool.specs.Held.{Held, PoolCalled, PoolRefused, moment_of, view}
 use Rattle.tp_pool.specs.Shown.{at_now, one_size, shown, wider}
 use Rattle.tp_users.specs.Users.{IsBlank, IsGrown, IsLeftAs, IsOutside, users_geometry}
 use Rattle.tp_users.proofs.Given.{RoomLasts, Shows, made_after}
-use Rattle.tp_users.proofs.Plain.{blank, blank_sectors, done_makes, fault_alone, tested_or_fault}
+use Rattle.tp_users.proofs.Plain.{blank, blank_sectors, device_there, done_makes, fault_alone, tested_or_fault}
 use Rattle.tp_users.proofs.Unchanged.{plainly}
 
 -- ---- how many keys below a bound a map has
@@ -76,10 +76,12 @@ module _ {X : Type 0} (n : ℕ) where
 -- ---- a blank pool whose volume was written to
 
 pub record IsFilled (id : ℕ) (s : PlainPool) : Type 0 where
+  pub low : id < 2 ^ 24
   pub geometry : s.geometry ≡ users_geometry
   pub works : s.mode ≡ mode.Writable
   pub clean : s.needs_check ≡ false
   pub free : s.holds ≡ empty
+  pub unheld : s.held_root ≡ 0
   pub volume : Volume
   pub volumes : s.volumes ≡ insert empty id volume
   pub long : length (volume_sectors s id) ≡ 2048
@@ -129,26 +131,28 @@ module _ (id meta_used sector : ℕ) (xs : List Sector) (q : PlainPool) (e : Edi
       ∙ get_insert none id (new_volume users_geometry) i ∙ ap (λ (b : Bool). cond b (Some (new_volume users_geometry)) (get none i)) is
       ∙ sym (get_insert none id left i ∙ ap (λ (b : Bool). cond b (Some left) (get none i)) is)
 
-  filled_blank : IsShaped q → IsFilled id q
-  filled_blank shaped = record {
+  filled_blank : id < 2 ^ 24 → IsShaped q → IsFilled id q
+  filled_blank low shaped = record {
+    low = low;
     geometry = sizes;
     works = ap (λ (p : PlainPool). p.mode) e.rest;
     clean = ap (λ (p : PlainPool). p.needs_check) e.rest;
     free = ap (λ (p : PlainPool). p.holds) e.rest;
+    unheld = ap (λ (p : PlainPool). p.held_root) e.rest;
     volume = left;
     volumes = same_nat_map q.volumes lone (λ i. at_each i (i == id) refl);
     long = ap (λ (o : Option Volume). length (option_map_or (λ v. v.sectors) o [])) e.volume ∙ all;
     few = few_keys 16 left.slots (λ k x f. block_below k q.geometry.block_sectors (length left.sectors) (ap (λ (g : Geometry). g.block_sectors) sizes) all ((shaped id left e.volume).inside k x f));
   }
 
-pub filled : (old new : Held Meta) (id sector : ℕ) (xs : List Sector) → ((s : PlainPool) × IsBlank id s × Shows old s)
+pub filled : (old new : Held Meta) (id sector : ℕ) (xs : List Sector) → id < 2 ^ 24 → ((s : PlainPool) × IsBlank id s × Shows old s)
     → PoolCalled geometry_of metadata.StandsFor old new (Write id sector xs false) Done → (s : PlainPool) × IsFilled id s × Shows new s
-filled old new id sector xs w called =
+filled old new id sector xs low w called =
     let m = called.called.meets w.0 w.2 in
     let q = m.1 in
     let e : Edits (blank id w.1.0) (Write id sector xs false) id q =
     subst (λ (p : PlainPool). Edits p (Write id sector xs false) id q) w.1.1 (done_makes w.0 (Write id sector xs false) m.0 q m.2) in
-    (q, filled_blank id w.1.0 sector xs q e (shape new q (ap (λ (p : PlainPool). p.mode) e.rest) m.3), m.3)
+    (q, filled_blank id w.1.0 sector xs q e low (shape new q (ap (λ (p : PlainPool). p.mode) e.rest) m.3), m.3)
 
 -- ---- it may grow
 
@@ -162,12 +166,14 @@ module _ (id : ℕ) (s : PlainPool) (f : IsFilled id s) where
   bound n small = omega (arith, small)
 
   leaves : (blocks : ℕ) → BoundLeavesRoom s (Grow id blocks)
-  leaves blocks =
-      subst (λ (g : Geometry). metadata_bound g (mapped_in s) + 512 ≤ g.metadata_blocks) (sym f.geometry)
-      (subst (λ (ms : List ℕ). metadata_bound users_geometry ms + 512 ≤ 2048) (sym mapped) (bound (len f.volume.slots) f.few))
+  leaves blocks = (
+    f.unheld,
+    subst (λ (g : Geometry). metadata_bound g (mapped_in s) + 512 ≤ g.metadata_blocks) (sym f.geometry)
+        (subst (λ (ms : List ℕ). metadata_bound users_geometry ms + 512 ≤ 2048) (sym mapped) (bound (len f.volume.slots) f.few)),
+  )
 
   there_is : exists s id ≡ true
-  there_is = ap (λ (vs : FinMap nat_cmp Volume). is_some (get vs id)) f.volumes ∙ ap is_some (at_own empty id f.volume)
+  there_is = device_there s id f.low (ap (λ (vs : FinMap nat_cmp Volume). is_some (get vs id)) f.volumes ∙ ap is_some (at_own empty id f.volume))
 
   none_held : hold_count s.holds id ≡ 0
   none_held = ap (λ (m : FinMap nat_cmp ℕ). hold_count m id) f.free ∙ ap (λ (o : Option ℕ). unwrap_or o 0) (get_empty id)
@@ -253,7 +259,7 @@ module _ (id blocks : ℕ) (s q : PlainPool) (f : IsFilled id s) (least : 16 ≤
     geometry = ap (λ (p : PlainPool). p.geometry) g.is ∙ f.geometry;
     works = ap (λ (p : PlainPool). p.mode) g.is ∙ f.works;
     clean = ap (λ (p : PlainPool). p.needs_check) g.is ∙ f.clean;
-    there = ap is_some here;
+    there = device_there q id f.low (ap is_some here);
     size = ap (option_map (λ (v : Volume). length v.sectors)) here ∙ ap Some (ap length is_sectors ∙ longer 2048 (blocks * 128) (volume_sectors s id) f.long enough);
     zeros = λ from le. ap (drop from) own ∙ blank_behind 2048 (blocks * 128) from (volume_sectors s id) f.long le;
   }

@@ -12,3 +12,5 @@ mod Removals
 mod Recovering
 mod Blanks
 mod Growth
+mod Copies
+mod Freeing

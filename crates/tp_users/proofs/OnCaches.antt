@@ -1,11 +1,11 @@
 -- A pool on caches that kept all, in words of the disk under them.
-use Rattle.std.proofs.Common.{◌≡◌, List, Result, Ok, Err, refl, sym, ap, subst, ◌∙◌}
+use Rattle.std.proofs.Common.{◌≡◌, List, Result, Ok, Err, sym, ap, subst, ◌∙◌}
 use Rattle.std.specs.Prelude.{IsTrue, MatchResult, OnOk}
 use Rattle.tp_model.specs.declared.mode.Mode.TheVariants as mode
 use Rattle.tp_model.specs.declared.refusal.Refusal.{Refusal}
 use Rattle.tp_model.specs.Sectors.{Sector}
 use Rattle.tp_model.specs.Pool.{PlainPool}
-use Rattle.tp_model.specs.Calls.{Answer, Call, Close, Done, Flush, Refused}
+use Rattle.tp_model.specs.Calls.{Call, Close, Done, Flush, Refused}
 use Rattle.tp_model.specs.Clauses.{Called, Meets, View}
 use Rattle.tp_model.specs.PoolStops.{reopened}
 use Rattle.tp_model.specs.Disk.{DiskState, IsSettled, seen}

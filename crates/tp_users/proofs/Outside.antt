@@ -1,7 +1,7 @@
 -- A refusal that is none but want of memory or a fault.
 use Rattle.std.proofs.Common.{◌≢◌, inl, inr, refl, ap, arith}
 use Rattle.tp_model.specs.declared.refusal.Refusal.{Refusal}
-use Rattle.tp_model.specs.declared.refusal.Refusal.TheVariants.{BadCount, BadDeviceId, BadGeometry, BadMapped, BadNode, BadOrder, BadRecordSize, BadSize, BadSuper, BadSyntax, BadVersion, Busy, Damaged, Exists, Failed, Fault, HalfEmpty, Memory, NoDataSpace, NoMetadataSpace, NoSession, NoSuchDevice, NotAPool, OutOfPlace, ReadOnly, SessionInUse, StaleTransactionId, TooManyDevices, UnknownMessage}
+use Rattle.tp_model.specs.declared.refusal.Refusal.TheVariants.{BadCount, BadDeviceId, BadGeometry, BadMapped, BadNode, BadOrder, BadRecordSize, BadSize, BadSuper, BadSyntax, BadVersion, Busy, Damaged, Exists, Failed, Fault, HalfEmpty, HeldRootExists, Memory, NoDataSpace, NoHeldRoot, NoMetadataSpace, NoSession, NoSuchDevice, NotAPool, OutOfPlace, ReadOnly, SessionInUse, StaleTransactionId, TooManyDevices, UnknownMessage}
 use Rattle.tp_model.specs.Refusals.{refusal_number}
 use Rattle.tp_users.specs.Users.{IsOutside}
 
@@ -30,6 +30,8 @@ outside SessionInUse h = absurd (h (λ e. absurd (omega (arith, ap refusal_numbe
 outside NoSession h = absurd (h (λ e. absurd (omega (arith, ap refusal_number e))) (λ e. absurd (omega (arith, ap refusal_number e))))
 outside NoDataSpace h = absurd (h (λ e. absurd (omega (arith, ap refusal_number e))) (λ e. absurd (omega (arith, ap refusal_number e))))
 outside BadSize h = absurd (h (λ e. absurd (omega (arith, ap refusal_number e))) (λ e. absurd (omega (arith, ap refusal_number e))))
+outside HeldRootExists h = absurd (h (λ e. absurd (omega (arith, ap refusal_number e))) (λ e. absurd (omega (arith, ap refusal_number e))))
+outside NoHeldRoot h = absurd (h (λ e. absurd (omega (arith, ap refusal_number e))) (λ e. absurd (omega (arith, ap refusal_number e))))
 outside BadSuper h = absurd (h (λ e. absurd (omega (arith, ap refusal_number e))) (λ e. absurd (omega (arith, ap refusal_number e))))
 outside BadNode h = absurd (h (λ e. absurd (omega (arith, ap refusal_number e))) (λ e. absurd (omega (arith, ap refusal_number e))))
 outside BadOrder h = absurd (h (λ e. absurd (omega (arith, ap refusal_number e))) (λ e. absurd (omega (arith, ap refusal_number e))))

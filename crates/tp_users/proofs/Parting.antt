@@ -1,22 +1,22 @@
 -- What a volume and its snapshot show.
-use Rattle.std.proofs.Common.{◌≡◌, ◌≢◌, inl, inr, ℕ, ◌+◌, ◌/◌, ◌%◌, ◌≤◌, Bool, true, false, cond, Option, Some, None, List, [], length, take, drop, refl, sym, ap, subst, ◌∙◌, arith}
-use Rattle.std.specs.Prelude.{MatchOption, nat_le, not}
+use Rattle.std.proofs.Common.{◌≡◌, ◌≢◌, inl, inr, ℕ, ◌+◌, ◌/◌, ◌%◌, ◌^◌, ◌<◌, ◌≤◌, Bool, true, false, cond, Option, Some, None, List, [], length, take, drop, refl, sym, ap, subst, ◌∙◌, arith}
+use Rattle.std.specs.Prelude.{MatchOption, nat_le, not, ◌&&◌}
 use Rattle.std.specs.Option.{is_some, option_map_or}
-use Rattle.std.specs.FinMap.{get, len}
+use Rattle.std.specs.FinMap.{get}
 use Rattle.std.proofs.lemmas.Bool.{eq-eqb, false≢true, ne_eqb}
 use Rattle.tp_model.specs.declared.refusal.Refusal.{Refusal}
 use Rattle.tp_model.specs.declared.refusal.Refusal.TheVariants.{Exists, Failed, Fault, NoMetadataSpace, NoSuchDevice, ReadOnly, TooManyDevices}
 use Rattle.tp_model.specs.declared.mode.Mode.{Mode}
 use Rattle.tp_model.specs.declared.mode.Mode.TheVariants as mode
 use Rattle.tp_model.specs.Sectors.{Sector, sectors_of}
-use Rattle.tp_model.specs.Pool.{PlainPool, Volume, volume_sectors}
+use Rattle.tp_model.specs.Pool.{PlainPool, Volume, device_count, is_now, volume_sectors}
 use Rattle.tp_model.specs.Calls.{Call, CreateSnap, Done, Edits, Makes, Read, Gave, Refused, Takes, Write, after_refusal, exists, has_metadata_room, is_failed, is_read_only, refusal_of, reply, volume_of}
 use Rattle.tp_model.proofs.Maps.{get_insert}
 use Rattle.tp_meta.specs.declared.whole.Meta.{Meta}
 use Rattle.tp_meta.specs.Standing.{StandsFor, geometry_of}
 use Rattle.tp_pool.specs.Held.{Held, PoolCalled, shows}
 use Rattle.tp_users.specs.Users.{Bears}
-use Rattle.tp_users.proofs.Plain.{done_makes, not_refused, put_is_borne}
+use Rattle.tp_users.proofs.Plain.{device_there, done_makes, is_device, not_refused, put_is_borne}
 use Rattle.tp_users.proofs.Unchanged.{read_it, same_bytes}
 
 -- ---- what is done was refused by no test
@@ -37,7 +37,7 @@ free_id false rest e = refl
 -- a snapshot of a volume that is there has an id that no volume had
 new_is_free : (s : PlainPool) (copy origin : ℕ) → s.mode ≡ mode.Writable → exists s origin ≡ true → refusal_of s (CreateSnap copy origin) ≡ None → exists s copy ≡ false
 new_is_free s copy origin works there none =
-    let rest : Option Refusal = cond (nat_le 65536 (len s.volumes)) (Some TooManyDevices) (cond (not (has_metadata_room s 512)) (Some NoMetadataSpace) None) in
+    let rest : Option Refusal = cond (nat_le 65536 (device_count s)) (Some TooManyDevices) (cond (not (has_metadata_room s 512)) (Some NoMetadataSpace) None) in
     let by_mode : refusal_of s (CreateSnap copy origin) ≡ cond (not (exists s origin)) (Some NoSuchDevice) (cond (exists s copy) (Some Exists) rest) =
     ap (λ (m : Mode). cond (is_failed m) (Some Failed) (cond (is_read_only m) (Some ReadOnly) (cond (not (exists s origin)) (Some NoSuchDevice) (cond (exists s copy) (Some Exists) rest)))) works in
     let by_there : cond (not (exists s origin)) (Some NoSuchDevice) (cond (exists s copy) (Some Exists) rest) ≡ cond (exists s copy) (Some Exists) rest =
@@ -47,7 +47,7 @@ new_is_free s copy origin works there none =
 -- ---- which volume bears what
 
 -- a volume bears what another one bore before, where it has its sectors
-bears_at : (id other sector : ℕ) (bytes : List ℕ) (s q : PlainPool) → Bears id sector bytes s → q.geometry ≡ s.geometry → q.mode ≡ s.mode → q.needs_check ≡ s.needs_check
+pub bears_at : (id other sector : ℕ) (bytes : List ℕ) (s q : PlainPool) → Bears id sector bytes s → q.geometry ≡ s.geometry → q.mode ≡ s.mode → q.needs_check ≡ s.needs_check
     → exists q other ≡ true → volume_sectors q other ≡ volume_sectors s id → Bears other sector bytes q
 bears_at id other sector bytes s q b sizes works clean there same = record {
   geometry = sizes ∙ b.geometry;
@@ -61,7 +61,7 @@ bears_at id other sector bytes s q b sizes works clean there same = record {
 sectors_at : Option Volume → List Sector
 sectors_at o = option_map_or (λ v. v.sectors) o []
 
-module _ (origin copy sector : ℕ) (bytes : List ℕ) (s q : PlainPool) (b : Bears origin sector bytes s) (other : copy ≢ origin) (is : Makes s (CreateSnap copy origin) q) where
+module _ (origin copy sector : ℕ) (bytes : List ℕ) (s q : PlainPool) (b : Bears origin sector bytes s) (other : copy ≢ origin) (low : copy < 2 ^ 24) (is : Makes s (CreateSnap copy origin) q) where
   at_copy : get q.volumes copy ≡ Some (volume_of s origin)
   at_copy =
       ap (λ (p : PlainPool). get p.volumes copy) is ∙ get_insert s.volumes copy (volume_of s origin) copy
@@ -83,17 +83,17 @@ module _ (origin copy sector : ℕ) (bytes : List ℕ) (s q : PlainPool) (b : Be
 
   pub origin_bears : Bears origin sector bytes q
   origin_bears =
-      bears_at origin origin sector bytes s q b sizes_are works_are clean_are (ap is_some at_origin ∙ b.there) (ap (λ (o : Option Volume). option_map_or (λ v. v.sectors) o []) at_origin)
+      bears_at origin origin sector bytes s q b sizes_are works_are clean_are (ap (λ (o : Option Volume). is_now origin && is_some o) at_origin ∙ b.there) (ap (λ (o : Option Volume). option_map_or (λ v. v.sectors) o []) at_origin)
 
   pub copy_bears : Bears copy sector bytes q
-  copy_bears = bears_at origin copy sector bytes s q b sizes_are works_are clean_are (ap is_some at_copy) (ap (λ (o : Option Volume). option_map_or (λ v. v.sectors) o []) at_copy)
+  copy_bears = bears_at origin copy sector bytes s q b sizes_are works_are clean_are (device_there q copy low (ap is_some at_copy)) (ap (λ (o : Option Volume). option_map_or (λ v. v.sectors) o []) at_copy)
 
 -- another volume than that which is written to bears what it bore
 others_bear : (id other sector at : ℕ) (bytes : List ℕ) (xs : List Sector) (s q : PlainPool) → Bears other sector bytes s → other ≢ id → Edits s (Write id at xs false) id q
     → Bears other sector bytes q
 others_bear id other sector at bytes xs s q b apart e =
     bears_at other other sector bytes s q b (ap (λ (p : PlainPool). p.geometry) e.rest) (ap (λ (p : PlainPool). p.mode) e.rest) (ap (λ (p : PlainPool). p.needs_check) e.rest)
-    (ap is_some (e.others other apart) ∙ b.there) (ap (λ (o : Option Volume). option_map_or (λ v. v.sectors) o []) (e.others other apart))
+    (ap (λ (o : Option Volume). is_now other && is_some o) (e.others other apart) ∙ b.there) (ap (λ (o : Option Volume). option_map_or (λ v. v.sectors) o []) (e.others other apart))
 
 -- ---- the calls
 
@@ -108,9 +108,9 @@ pub record ArePair (origin copy sector : ℕ) (bytes : List ℕ) (h : Held Meta)
   pub copy_has : Bears copy sector bytes pool
   pub shown : Shows h pool
 
-pub snapped : (old new : Held Meta) (origin copy sector : ℕ) (bytes : List ℕ) → ((s : PlainPool) × Bears origin sector bytes s × Shows old s)
+pub snapped : (old new : Held Meta) (origin copy sector : ℕ) (bytes : List ℕ) → copy < 2 ^ 24 → ((s : PlainPool) × Bears origin sector bytes s × Shows old s)
     → PoolCalled geometry_of StandsFor old new (CreateSnap copy origin) Done → ArePair origin copy sector bytes new
-snapped old new origin copy sector bytes w called =
+snapped old new origin copy sector bytes low w called =
     let s = w.0 in
     let b = w.1 in
     let m = called.called.meets s w.2 in
@@ -120,8 +120,8 @@ snapped old new origin copy sector bytes w called =
     record {
       pool = m.1;
       apart = other;
-      origin_has = origin_bears origin copy sector bytes s m.1 b other made;
-      copy_has = copy_bears origin copy sector bytes s m.1 b other made;
+      origin_has = origin_bears origin copy sector bytes s m.1 b other low made;
+      copy_has = copy_bears origin copy sector bytes s m.1 b other low made;
       shown = m.3;
     }
 
@@ -135,7 +135,7 @@ parted old new origin copy sector first second w long called =
     let made : Edits s (Write origin sector (sectors_of second) false) origin m.1 = done_makes s (Write origin sector (sectors_of second) false) m.0 m.1 m.2 in
     let many : length second / 512 ≡ length first / 512 = ap (λ n. n / 512) long in (
       m.1,
-      put_is_borne origin sector second s m.1 b.geometry b.works b.clean (omega (arith, many, b.inside)) made,
+      put_is_borne origin sector second s m.1 (is_device s origin b.there) b.geometry b.works b.clean (omega (arith, many, b.inside)) made,
       others_bear origin copy sector sector first (sectors_of second) s m.1 w.copy_has w.apart made,
       m.3,
     )

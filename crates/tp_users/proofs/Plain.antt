@@ -1,12 +1,12 @@
 -- What one volume of a plain pool shows, written and read.
-use Rattle.std.proofs.Common.{◌≡◌, ◌⊎◌, inl, inr, ℕ, ◌+◌, ◌-◌, ◌/◌, ◌%◌, ◌++◌, ◌<◌, ◌≤◌, Bool, true, false, cond, Option, Some, None, List, [], ◌∷◌, length, map, take, drop, get_or, refl, sym, ap, subst, ◌∙◌, arith}
+use Rattle.std.proofs.Common.{◌≡◌, ◌⊎◌, inl, inr, ℕ, ◌+◌, ◌-◌, ◌/◌, ◌%◌, ◌^◌, ◌++◌, ◌<◌, ◌≤◌, Bool, true, false, cond, Option, Some, None, List, [], ◌∷◌, length, map, take, drop, get_or, refl, sym, ap, subst, ◌∙◌, arith}
 use Rattle.std.specs.Prelude.{MatchOption, nat_le, nat_lt, not, ◌&&◌}
-use Rattle.std.specs.List.{concat, enumerate_from, flat_map, range_with_len}
+use Rattle.std.specs.List.{concat, count_by, enumerate_from, flat_map, range_with_len}
 use Rattle.std.specs.Option.{is_some, option_map_or}
 use Rattle.std.proofs.lemmas.List.Sums.{count_by-le-length}
 use Rattle.std.specs.Ordering.{nat_cmp}
 use Rattle.std.specs.FinMap.{FinMap, empty, entries, get, insert, len, len-empty, put}
-use Rattle.std.proofs.lemmas.Bool.{and_from, eq-eqb, false≢true, le-leb, lt-ltb}
+use Rattle.std.proofs.lemmas.Bool.{and_from, and_parts, eq-eqb, false≢true, le-leb, lt-ltb, ltb-true}
 use Rattle.std.proofs.lemmas.List.{ext_get_or, get_or_default, get_or-drop, get_or-map, get_or-take, length-drop, length-map, length-replicate, length-take-le}
 use Rattle.std.proofs.lemmas.List.FromFn.{get_or-enumerate_from, length-enumerate_from, length-range_with_len}
 use Rattle.tp_model.specs.declared.refusal.Refusal.{Refusal}
@@ -14,8 +14,8 @@ use Rattle.tp_model.specs.declared.refusal.Refusal.TheVariants.{Exists, Failed, 
 use Rattle.tp_model.specs.declared.mode.Mode.{Mode}
 use Rattle.tp_model.specs.declared.mode.Mode.TheVariants as mode
 use Rattle.tp_model.specs.Sectors.{Sector, sectors_of, zero_sector}
-use Rattle.tp_model.specs.Pool.{PlainPool, Volume, different, is_exclusive, used, volume_sectors}
-use Rattle.tp_model.specs.Calls.{Answer, Call, CreateThin, CreateSnap, Delete, SetTransactionId, Done, Edits, Flush, Close, Hold, LetGo, Status, ThinStatus, NextId, Gave, Line, Found, Read, Trim, WriteZeroes, Refused, Sized, Takes, Write, refusal_of, reply, exists, is_within, first_from, Makes, after_refusal, sector_after, new_volume, has_metadata_room, has_data_room, need, effect_at, is_failed, is_owning}
+use Rattle.tp_model.specs.Pool.{PlainPool, Volume, device_count, different, is_exclusive, is_now, used, volume_sectors}
+use Rattle.tp_model.specs.Calls.{Answer, Call, CreateThin, Done, Edits, Gave, Line, Found, Read, Refused, Sized, Takes, Write, refusal_of, reply, exists, is_within, first_from, Makes, after_refusal, sector_after, new_volume, has_metadata_room, has_data_room, need, effect_at, is_failed, is_owning}
 use Rattle.tp_model.proofs.DiskLaws.{concat-chopped, length-sectors_of}
 use Rattle.tp_model.proofs.Maps.{entries_empty, entries_insert, get_empty, get_insert}
 use Rattle.tp_image.specs.Fresh.{empty_pool}
@@ -94,15 +94,23 @@ blank id meta_used = record (empty_pool users_geometry) { volumes = insert empty
 at_own : {X : Type 0} (m : FinMap nat_cmp X) (id : ℕ) (v : X) → get (insert m id v) id ≡ Some v
 at_own m id v = get_insert m id v id ∙ ap (λ b. cond b (Some v) (get m id)) (eq-eqb id id refl)
 
-pub there_is : (id meta_used : ℕ) → exists (blank id meta_used) id ≡ true
-there_is id meta_used = ap is_some (at_own empty id (new_volume users_geometry))
+-- a volume of an id that a device may have is there where it is listed
+pub device_there : (s : PlainPool) (id : ℕ) → id < 2 ^ 24 → is_some (get s.volumes id) ≡ true → exists s id ≡ true
+device_there s id low there = and_from (is_now id) (is_some (get s.volumes id)) (lt-ltb id (2 ^ 24) low) there
+
+-- and each that is there has one
+pub is_device : (s : PlainPool) (id : ℕ) → exists s id ≡ true → id < 2 ^ 24
+is_device s id there = ltb-true id (2 ^ 24) (and_parts (is_now id) (is_some (get s.volumes id)) there).0
+
+pub there_is : (id meta_used : ℕ) → id < 2 ^ 24 → exists (blank id meta_used) id ≡ true
+there_is id meta_used low = device_there (blank id meta_used) id low (ap is_some (at_own empty id (new_volume users_geometry)))
 
 -- and it is the least from its id on
-pub least_is : (id meta_used : ℕ) → first_from id (entries (blank id meta_used).volumes) ≡ Some id
-least_is id meta_used =
+pub least_is : (id meta_used : ℕ) → id < 2 ^ 24 → first_from id (entries (blank id meta_used).volumes) ≡ Some id
+least_is id meta_used low =
     let v = new_volume users_geometry in
     let fits : id ≤ id = omega arith in
-    ap (first_from id) (entries_insert empty id v ∙ ap (put nat_cmp id v) entries_empty) ∙ ap (λ (b : Bool). cond b (Some id) None) (le-leb id id fits)
+    ap (first_from id) (entries_insert empty id v ∙ ap (put nat_cmp id v) entries_empty) ∙ ap (λ (b : Bool). cond b (Some id) None) (and_from (nat_le id id) (is_now id) (le-leb id id fits) (lt-ltb id (2 ^ 24) low))
 
 pub blank_sectors : (id meta_used : ℕ) → length (volume_sectors (blank id meta_used) id) ≡ 2048
 blank_sectors id meta_used =
@@ -127,10 +135,14 @@ roomy id meta_used call =
     le-leb (used p + need p call id) 16 (omega (arith, most, many, blank_used id meta_used))
 
 -- a volume may be created in a pool without one
+no_device : (low : Bool) → (low && false) ≡ false
+no_device true = refl
+no_device false = refl
+
 pub creatable : (id : ℕ) → refusal_of (empty_pool users_geometry) (CreateThin id) ≡ None
 creatable id =
-    ap (λ (b : Bool). cond b (Some Exists) (cond (nat_le 65536 (len (empty {X = Volume} {R = nat_cmp}))) (Some TooManyDevices) None)) (ap is_some (get_empty {X = Volume} id))
-    ∙ ap (λ (n : ℕ). cond (nat_le 65536 n) (Some TooManyDevices) None) (len-empty nat_cmp Volume)
+    ap (λ (b : Bool). cond b (Some Exists) (cond (nat_le 65536 (device_count (empty_pool users_geometry))) (Some TooManyDevices) None)) (ap (λ (o : Option Volume). is_now id && is_some o) (get_empty {X = Volume} id) ∙ no_device (is_now id))
+    ∙ ap (λ (es : List (ℕ × Volume)). cond (nat_le 65536 (count_by (λ e. is_now e.0) es)) (Some TooManyDevices) None) entries_empty
 
 -- the tests of a write to it: there may be no metadata room, and no other fails
 by_room : (room : Bool) (some : Bool) → (cond (some && not room) (Some NoMetadataSpace) None ≡ None) ⊎ (cond (some && not room) (Some NoMetadataSpace) None ≡ Some NoMetadataSpace)
@@ -142,12 +154,12 @@ by_room false false = inl refl
 abbrev pub IsRoomTested : PlainPool → Call → Type 0
 IsRoomTested s call = (refusal_of s call ≡ None) ⊎ (refusal_of s call ≡ Some NoMetadataSpace)
 
-write_tests : (id meta_used sector : ℕ) (xs : List Sector) → IsRoomTested (blank id meta_used) (Write id sector xs false)
-write_tests id meta_used sector xs =
+write_tests : (id meta_used sector : ℕ) (xs : List Sector) → id < 2 ^ 24 → IsRoomTested (blank id meta_used) (Write id sector xs false)
+write_tests id meta_used sector xs low =
     let p = blank id meta_used in
     let call = Write id sector xs false in
     let tests : refusal_of p call ≡ cond (nat_lt 0 (length xs) && not (has_metadata_room p 512)) (Some NoMetadataSpace) None =
-    ap (λ (b : Bool). cond (not b) (Some NoSuchDevice) (cond (nat_lt 0 (length xs) && not (has_metadata_room p 512)) (Some NoMetadataSpace) (cond (not (has_data_room p call id)) (Some NoDataSpace) None))) (there_is id meta_used)
+    ap (λ (b : Bool). cond (not b) (Some NoSuchDevice) (cond (nat_lt 0 (length xs) && not (has_metadata_room p 512)) (Some NoMetadataSpace) (cond (not (has_data_room p call id)) (Some NoDataSpace) None))) (there_is id meta_used low)
     ∙ ap (λ (b : Bool). cond (nat_lt 0 (length xs) && not (has_metadata_room p 512)) (Some NoMetadataSpace) (cond (not b) (Some NoDataSpace) None)) (roomy id meta_used call) in
     subst (λ (o : Option Refusal). (o ≡ None) ⊎ (o ≡ Some NoMetadataSpace)) (sym tests) (by_room (has_metadata_room p 512) (nat_lt 0 (length xs)))
 
@@ -163,15 +175,15 @@ room_beside n is = omega (arith, is)
 
 pub blank_leaves : (id sector : ℕ) (xs : List Sector) (s : PlainPool) → IsBlank id s → BoundLeavesRoom s (Write id sector xs false)
 blank_leaves id sector xs s is =
-    subst (λ (p : PlainPool). BoundLeavesRoom p (Write id sector xs false)) (sym is.1) (room_beside (metadata_bound users_geometry (mapped_in (blank id is.0))) (blank_bound id is.0))
+    subst (λ (p : PlainPool). BoundLeavesRoom p (Write id sector xs false)) (sym is.1) (refl, room_beside (metadata_bound users_geometry (mapped_in (blank id is.0))) (blank_bound id is.0))
 
-pub writable : (id sector : ℕ) (xs : List Sector) (s : PlainPool) → IsBlank id s → IsRoomTested s (Write id sector xs false)
-writable id sector xs s is = subst (λ (p : PlainPool). IsRoomTested p (Write id sector xs false)) (sym is.1) (write_tests id is.0 sector xs)
+pub writable : (id sector : ℕ) (xs : List Sector) (s : PlainPool) → id < 2 ^ 24 → IsBlank id s → IsRoomTested s (Write id sector xs false)
+writable id sector xs s low is = subst (λ (p : PlainPool). IsRoomTested p (Write id sector xs false)) (sym is.1) (write_tests id is.0 sector xs low)
 
 -- a pool that works bears what was written to a volume of it
-pub put_is_borne : (id sector : ℕ) (bytes : List ℕ) (s q : PlainPool) → s.geometry ≡ users_geometry → s.mode ≡ mode.Writable → s.needs_check ≡ false
+pub put_is_borne : (id sector : ℕ) (bytes : List ℕ) (s q : PlainPool) → id < 2 ^ 24 → s.geometry ≡ users_geometry → s.mode ≡ mode.Writable → s.needs_check ≡ false
     → sector + length bytes / 512 ≤ length (volume_sectors s id) → Edits s (Write id sector (sectors_of bytes) false) id q → Bears id sector bytes q
-put_is_borne id sector bytes s q sizes works clean fits e =
+put_is_borne id sector bytes s q low sizes works clean fits e =
     let xs = sectors_of bytes in
     let many : length xs ≡ length bytes / 512 = length-sectors_of bytes in
     let zs = volume_sectors s id in
@@ -182,17 +194,17 @@ put_is_borne id sector bytes s q sizes works clean fits e =
       geometry = ap (λ (p : PlainPool). p.geometry) e.rest ∙ sizes;
       works = ap (λ (p : PlainPool). p.mode) e.rest ∙ works;
       clean = ap (λ (p : PlainPool). p.needs_check) e.rest ∙ clean;
-      there = ap is_some e.volume;
+      there = device_there q id low (ap is_some e.volume);
       inside = omega (arith, long, fits);
       bytes_are = ap (λ n. take n (drop sector (volume_sectors q id))) (sym many) ∙ ap (λ l. take (length xs) (drop sector l)) made ∙ overlaid_at xs zs sector (omega (arith, many, fits));
     }
 
 -- it bears what was written to it
-pub written_is_borne : (id sector : ℕ) (bytes : List ℕ) (s q : PlainPool) → IsBlank id s → sector + length bytes / 512 ≤ 2048
+pub written_is_borne : (id sector : ℕ) (bytes : List ℕ) (s q : PlainPool) → id < 2 ^ 24 → IsBlank id s → sector + length bytes / 512 ≤ 2048
     → Edits s (Write id sector (sectors_of bytes) false) id q → Bears id sector bytes q
-written_is_borne id sector bytes s q is fits e =
+written_is_borne id sector bytes s q low is fits e =
     let long : length (volume_sectors s id) ≡ 2048 = ap (λ (p : PlainPool). length (volume_sectors p id)) is.1 ∙ blank_sectors id is.0 in
-    put_is_borne id sector bytes s q (ap (λ (p : PlainPool). p.geometry) is.1) (ap (λ (p : PlainPool). p.mode) is.1) (ap (λ (p : PlainPool). p.needs_check) is.1) (omega (arith, long, fits)) e
+    put_is_borne id sector bytes s q low (ap (λ (p : PlainPool). p.geometry) is.1) (ap (λ (p : PlainPool). p.mode) is.1) (ap (λ (p : PlainPool). p.needs_check) is.1) (omega (arith, long, fits)) e
 
 -- what is opened again bears it too
 pub reopened_bears : (id sector : ℕ) (bytes : List ℕ) (s P : PlainPool) → Bears id sector bytes s → P ≡ reopened s → Bears id sector bytes P

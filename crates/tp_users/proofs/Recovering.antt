@@ -1,14 +1,14 @@
 -- A pool that was refused for want of metadata room, and what becomes of it.
 use Rattle.std.proofs.Common.{◌≡◌, inl, inr, ℕ, Bool, true, cond, None, Some, Option, List, refl, sym, ap, subst, ◌∙◌, arith}
-use Rattle.std.specs.Prelude.{MatchOption, nat_lt, not}
+use Rattle.std.specs.Prelude.{MatchOption, nat_lt, not, ◌&&◌, ◌==◌}
 use Rattle.std.specs.Option.{unwrap_or}
-use Rattle.std.proofs.lemmas.Bool.{false≢true}
+use Rattle.std.proofs.lemmas.Bool.{eq-eqb, false≢true}
 use Rattle.tp_model.specs.declared.refusal.Refusal.{Refusal}
 use Rattle.tp_model.specs.declared.refusal.Refusal.TheVariants.{Busy, NoMetadataSpace, NoSuchDevice}
 use Rattle.tp_model.specs.Refusals.{refusal_number}
 use Rattle.tp_model.specs.Sectors.{Sector}
 use Rattle.tp_model.specs.Pool.{PlainPool, hold_count}
-use Rattle.tp_model.specs.Calls.{Call, CreateThin, Delete, Done, Makes, Refused, Takes, after_refusal, exists, refusal_of, reply}
+use Rattle.tp_model.specs.Calls.{Call, CreateThin, Delete, Done, Makes, Refused, Takes, after_refusal, exists, has_metadata_room, refusal_of, reply}
 use Rattle.tp_model.specs.PoolStops.{reopened}
 use Rattle.tp_model.specs.Disk.{DiskState, fresh}
 use Rattle.tp_model.specs.DiskStops.{AfterStop}
@@ -49,16 +49,18 @@ short_kept old new id s image disk is was called stop =
 -- ---- it is used again
 
 -- no test refuses to remove a volume of it
-removable : (s : PlainPool) (id : ℕ) → exists s id ≡ true → refusal_of (recovered s) (Delete id) ≡ None
-removable s id there =
-    ap (λ (b : Bool). cond (not b) (Some NoSuchDevice) (cond (nat_lt 0 (hold_count (recovered s).holds id)) (Some Busy) None)) there
-    ∙ ap (λ (o : Option ℕ). cond (nat_lt 0 (unwrap_or o 0)) (Some Busy) None) (get_empty {X = ℕ} id)
+removable : (s : PlainPool) (id : ℕ) → s.held_root ≡ 0 → exists s id ≡ true → refusal_of (recovered s) (Delete id) ≡ None
+removable s id none there =
+    let short_of : Bool = not (has_metadata_room s 256) in
+    ap (λ (b : Bool). cond (not b) (Some NoSuchDevice) (cond (nat_lt 0 (hold_count (recovered s).holds id)) (Some Busy) (cond (not (s.held_root == 0) && short_of) (Some NoMetadataSpace) None))) there
+    ∙ ap (λ (o : Option ℕ). cond (nat_lt 0 (unwrap_or o 0)) (Some Busy) (cond (not (s.held_root == 0) && short_of) (Some NoMetadataSpace) None)) (get_empty {X = ℕ} id)
+    ∙ ap (λ (b : Bool). cond (not b && short_of) (Some NoMetadataSpace) None) (eq-eqb s.held_root 0 none)
 
-pub removal_refused : (old new : Held Meta) (id : ℕ) (reason : Refusal) (s : PlainPool) → Shows old (recovered s) → exists s id ≡ true
+pub removal_refused : (old new : Held Meta) (id : ℕ) (reason : Refusal) (s : PlainPool) → Shows old (recovered s) → s.held_root ≡ 0 → exists s id ≡ true
     → PoolRefused geometry_of metadata.StandsFor old new (Delete id) reason → IsOutside reason
-removal_refused old new id reason s was there called =
+removal_refused old new id reason s was none there called =
     let m = called.called.meets (recovered s) was in
-    inr (fault_alone (recovered s) (Delete id) reason m.0 m.1 (removable s id there) m.2)
+    inr (fault_alone (recovered s) (Delete id) reason m.0 m.1 (removable s id none there) m.2)
 
 pub removal_done : (old new : Held Meta) (id : ℕ) (s : PlainPool) → Shows old (recovered s) → PoolCalled geometry_of metadata.StandsFor old new (Delete id) Done
     → (after : PlainPool) × Makes (recovered s) (Delete id) after × Shows new after

@@ -1,17 +1,17 @@
 -- What a removal leaves, and what it gives back.
 use Rattle.std.proofs.Common.{◌≡◌, ◌⊎◌, inl, inr, ℕ, ◌+◌, ◌/◌, ◌<◌, ◌≤◌, ◌==◌, Bool, true, false, cond, Option, Some, None, Result, Ok, Err, List, [], ◌∷◌, length, refl, sym, ap, subst, ◌∙◌, arith}
-use Rattle.std.specs.Prelude.{MatchOption, OnOk, not, nat_lt, ◌&&◌, if◌then◌else◌}
+use Rattle.std.specs.Prelude.{◌≢◌, MatchOption, OnOk, not, nat_lt, ◌&&◌, if◌then◌else◌}
 use Rattle.std.specs.Option.{is_some, option_map_or}
 use Rattle.std.specs.List.{count_by, range_with_len}
 use Rattle.std.specs.FinMap.{get, remove}
-use Rattle.std.proofs.lemmas.Bool.{and_parts, false≢true, leb-false}
+use Rattle.std.proofs.lemmas.Bool.{and_parts, eq-eqb, false≢true, leb-false}
 use Rattle.tp_model.specs.declared.mode.Mode.TheVariants as mode
 use Rattle.tp_model.specs.declared.refusal.Refusal.{Refusal}
 use Rattle.tp_model.specs.declared.refusal.Refusal.TheVariants.{Busy, Failed, NoDataSpace, NoMetadataSpace, NoSuchDevice, ReadOnly}
 use Rattle.tp_model.specs.Geometry.{Geometry}
 use Rattle.tp_model.specs.Refusals.{refusal_number}
 use Rattle.tp_model.specs.Sectors.{Sector, sectors_of}
-use Rattle.tp_model.specs.Pool.{PlainPool, Volume, hold_count, is_exclusive, used, volume_sectors}
+use Rattle.tp_model.specs.Pool.{PlainPool, Volume, hold_count, is_exclusive, is_now, used, volume_sectors}
 use Rattle.tp_model.specs.Calls.{Answer, Call, Delete, Done, Keeps, Owns, Makes, Refused, Step, Takes, Write, after_refusal, effect_at, exists, first_failed, has_data_room, has_metadata_room, is_failed, is_owning, is_read_only, need, refusal_of, reply, touches}
 use Rattle.tp_model.specs.Clauses.{Called, View, found_now, found_since}
 use Rattle.tp_model.specs.PoolStops.{During, Event, GivenBy, MayReopen, Nothing, reopened}
@@ -22,7 +22,7 @@ use Rattle.tp_model.proofs.Removing.{count_less, used_without, without}
 use Rattle.tp_stored.specs.Contents.{Contents}
 use Rattle.tp_model.specs.Disk.{DiskState}
 use Rattle.tp_pool.specs.Held.{Held, PoolAnswered, PoolCalled, PoolRefused, shows}
-use Rattle.tp_users.specs.Users.{IsWholeOrGone, blocks_touched, own_blocks}
+use Rattle.tp_users.specs.Users.{IsWholeOrGone, blocks_touched, own_blocks, short}
 use Rattle.tp_users.proofs.Plain.{done_makes, is_refused, reason_of}
 
 -- ---- all or nothing
@@ -30,27 +30,45 @@ use Rattle.tp_users.proofs.Plain.{done_makes, is_refused, reason_of}
 abbrev IsAfter : ℕ → PlainPool → PlainPool → Type 0
 IsAfter id s q = (meta_used : ℕ) × (q ≡ record s { volumes = remove s.volumes id; meta_used = meta_used })
 
-by_tests : (a b c d : Bool) (s after : PlainPool) (answer : Answer) (A : Type 0)
-    → MatchOption (first_failed ((a, Failed) ∷ (b, ReadOnly) ∷ (c, NoSuchDevice) ∷ (d, Busy) ∷ [])) A (λ reason. (answer ≡ Refused reason) × (after ≡ after_refusal reason s)) → A ⊎ (after ≡ s)
-by_tests true b c d s after answer A h = inr h.1
-by_tests false true c d s after answer A h = inr h.1
-by_tests false false true d s after answer A h = inr h.1
-by_tests false false false true s after answer A h = inr h.1
-by_tests false false false false s after answer A h = inl h
+-- refused for want of metadata room, which it is only where a root is held
+abbrev IsShort : PlainPool → PlainPool → Type 0
+IsShort s q = (s.held_root ≢ 0) × (q ≡ short s)
 
-from_step : (id : ℕ) (s after : PlainPool) (answer : Answer) → Step s (Delete id) answer after → (after ≡ s) ⊎ IsAfter id s after
+-- what it makes: nothing, the pool behind it, or that one
+abbrev IsMade : ℕ → PlainPool → PlainPool → Type 0
+IsMade id s q = (q ≡ s) ⊎ IsShort s q ⊎ IsAfter id s q
+
+held_if_short : (root : ℕ) (none short_of : Bool) → (root ≡ 0 → none ≡ true) → (not none && short_of) ≡ true → root ≢ 0
+held_if_short root true short_of is t zero = false≢true t
+held_if_short root false short_of is t zero = false≢true (is zero)
+
+by_tests : (a b c d e : Bool) (s after : PlainPool) (answer : Answer) (A : Type 0) → (e ≡ true → s.held_root ≢ 0)
+    → MatchOption (first_failed ((a, Failed) ∷ (b, ReadOnly) ∷ (c, NoSuchDevice) ∷ (d, Busy) ∷ (e, NoMetadataSpace) ∷ [])) A (λ reason. (answer ≡ Refused reason) × (after ≡ after_refusal reason s))
+    → A ⊎ (after ≡ s) ⊎ IsShort s after
+by_tests true b c d e s after answer A held h = inr (inl h.1)
+by_tests false true c d e s after answer A held h = inr (inl h.1)
+by_tests false false true d e s after answer A held h = inr (inl h.1)
+by_tests false false false true e s after answer A held h = inr (inl h.1)
+by_tests false false false false true s after answer A held h = inr (inr (held refl, h.1))
+by_tests false false false false false s after answer A held h = inl h
+
+from_step : (id : ℕ) (s after : PlainPool) (answer : Answer) → Step s (Delete id) answer after → IsMade id s after
 from_step id s after answer step =
-    elim (by_tests (is_failed s.mode) (is_read_only s.mode) (not (exists s id)) (nat_lt 0 (hold_count s.holds id)) s after answer ((answer ≡ reply s (Delete id)) × Makes s (Delete id) after) step) [
-      | inl h ↦ inr (after.meta_used, h.1)
-      | inr e ↦ inl e
+    let short_of : Bool = not (has_metadata_room s 256) in
+    let held : (not (s.held_root == 0) && short_of) ≡ true → s.held_root ≢ 0 = held_if_short s.held_root (s.held_root == 0) short_of (eq-eqb s.held_root 0) in
+    elim (by_tests (is_failed s.mode) (is_read_only s.mode) (not (exists s id)) (nat_lt 0 (hold_count s.holds id)) (not (s.held_root == 0) && short_of) s after answer
+    ((answer ≡ reply s (Delete id)) × Makes s (Delete id) after) held step) [
+      | inl h ↦ inr (inr (after.meta_used, h.1))
+      | inr (inl e) ↦ inl e
+      | inr (inr w) ↦ inr (inl w)
     ]
 
 -- what a removal makes, or would have made
-made_by : (id : ℕ) (s made after : PlainPool) (answer : Answer) → Takes s (Delete id) answer made after → (made ≡ s) ⊎ IsAfter id s made
-made_by id s made after answer (inl step) = subst (λ (q : PlainPool). (q ≡ s) ⊎ IsAfter id s q) (sym step.1) (from_step id s after answer step.0)
+made_by : (id : ℕ) (s made after : PlainPool) (answer : Answer) → Takes s (Delete id) answer made after → IsMade id s made
+made_by id s made after answer (inl step) = subst (λ (q : PlainPool). IsMade id s q) (sym step.1) (from_step id s after answer step.0)
 made_by id s made after answer (inr fault) = failed fault.1
   where
-    failed : ((meant : Answer) × Step s (Delete id) meant made) × (after ≡ record made { mode = mode.Failed }) → (made ≡ s) ⊎ IsAfter id s made
+    failed : ((meant : Answer) × Step s (Delete id) meant made) × (after ≡ record made { mode = mode.Failed }) → IsMade id s made
     failed w = from_step id s made w.0.0 w.0.1
 
 none_given : (S P : PlainPool) (e : Event) (id : ℕ) → e.call ≡ Delete id → MayReopen S (GivenBy e) P → MayReopen S Nothing P
@@ -61,6 +79,7 @@ none_given S P e id is h = record {
   transaction_id = h.transaction_id;
   needs_check = h.needs_check;
   meta_used = h.meta_used;
+  held_root = h.held_root;
   mode = h.mode;
   holds = h.holds;
   sectors = λ i k. elim (h.sectors i k) [
@@ -84,7 +103,8 @@ left_by id s q made after P answer Older only takes (inl w) =
 left_by id s q made after P answer Older only takes (inr h) =
     elim (made_by id s made after answer takes) [
       | inl e ↦ inl (MayReopen-nothing made P h ∙ ap reopened e)
-      | inr w ↦ inr (w.0, MayReopen-nothing made P h ∙ ap reopened w.1)
+      | inr (inl w) ↦ inr (inl (w.0, MayReopen-nothing made P h ∙ ap reopened w.1))
+      | inr (inr w) ↦ inr (inr (w.0, MayReopen-nothing made P h ∙ ap reopened w.1))
     ]
 
 module _ {D : Type 0} (v : View D) where
@@ -133,7 +153,8 @@ room_behind : (s q : PlainPool) (id other sector : ℕ) (xs : List Sector) → M
 room_behind s q id other sector xs is there full =
     let call = Write other sector xs false in
     let at : get q.volumes other ≡ cond (other == id) None (get s.volumes other) = ap (λ (p : PlainPool). get p.volumes other) is ∙ get_remove s.volumes id other in
-    let volume : get q.volumes other ≡ get s.volumes other = at ∙ another_is (other == id) (get s.volumes other) (sym (ap is_some at) ∙ there) in
+    let listed : is_some (get q.volumes other) ≡ true = (and_parts (is_now other) (is_some (get q.volumes other)) there).1 in
+    let volume : get q.volumes other ≡ get s.volumes other = at ∙ another_is (other == id) (get s.volumes other) (sym (ap is_some at) ∙ listed) in
     let sizes : q.geometry ≡ s.geometry = ap (λ (p : PlainPool). p.geometry) is in
     let long : length (volume_sectors q other) ≡ length (volume_sectors s other) = ap (λ (o : Option Volume). length (option_map_or (λ v. v.sectors) o [])) volume in
     let touched : blocks_touched q other sector (length xs) ≡ blocks_touched s other sector (length xs)

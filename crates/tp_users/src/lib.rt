@@ -7,6 +7,7 @@ mod checked;
 mod first;
 mod found;
 mod grown;
+mod held;
 mod kept;
 mod out_of_room;
 mod parted;
@@ -23,6 +24,7 @@ pub use checked::{check_left, check_stopped, check_then_open, stops_leave_clean_
 pub use first::{first_session_is_answered, serve_first};
 pub use found::{held_volume_is_there, kept_state_is_found_alone};
 pub use grown::grown_blocks_read_zero;
+pub use held::{held_mapping_keeps_its_bytes, released_blocks_are_free};
 pub use kept::{closed_bytes_are_read, flushed_bytes_are_read};
 pub use out_of_room::{short_pool_is_used_again, stop_short_pool};
 pub use parted::snapshot_keeps_its_bytes;

@@ -100,7 +100,7 @@ fn cleared(alloc: Global, disk: MemDisk) -> Result<MemDisk, Refusal>
 /// Opens what a stop left of a pool that was refused for want of metadata room, and finds it read-only; clears its flag, opens it to be
 /// read only and then to be used, and removes a volume.
 ///
-/// Of a pool that has the volume it refuses only where there is no memory, or where the disk fails.
+/// Of a pool that has the volume and holds no metadata root it refuses only where there is no memory, or where the disk fails.
 pub fn short_pool_is_used_again(
     alloc: Global,
     disk: MemDisk,
@@ -108,7 +108,7 @@ pub fn short_pool_is_used_again(
 ) -> Result<Pool<MemDisk, Meta>, Refusal>
     ensures removed { IfOk result (λ pool. (s : PlainPool) → IsKept (short s) (mem_state disk)
         → (after : PlainPool) × Makes (recovered s) (Delete removed) after × shows geometry_of StandsFor pool after) }
-    ensures only { (s : PlainPool) → IsKept (short s) (mem_state disk) → exists s removed ≡ true → IfErr result (λ reason. IsOutside reason) }
+    ensures only { (s : PlainPool) → IsKept (short s) (mem_state disk) → s.held_root ≡ 0 → exists s removed ≡ true → IfErr result (λ reason. IsOutside reason) }
 {
     let disk = found_read_only(alloc, disk)?;
     let disk = cleared(alloc, disk)?;

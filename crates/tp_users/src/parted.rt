@@ -36,7 +36,7 @@ fn parted_pool(
 }
 
 /// Flushes a pool, stops it in a way of one's choice, and opens it again.
-fn stop_and_open(
+pub(crate) fn stop_and_open(
     alloc: Global,
     pool: Pool<MemDisk, Meta>,
     picks: &[u64],

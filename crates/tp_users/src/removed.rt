@@ -39,7 +39,7 @@ pub fn removed_blocks_are_used_again<D: Disk, M: Metadata>(
 }
 
 /// Where all of a pool is kept, a stop at any moment of the removal of a volume, also where the disk fails in it, leaves the pool as it was, that volume
-/// whole; or the pool behind the removal. So none of its blocks is another one's before the removal is kept.
+/// whole; or the pool behind the removal. Where a metadata root is held it may leave the pool as it was, which wants a check. So none of its blocks is another one's before the removal is kept.
 pub fn removals_leave_all_or_nothing<V: Volumes>()
     ensures { (old new : V) (s : PlainPool) (id : ℕ) (answer : Answer) → V.view.shows old s → ((P : PlainPool) → found_now V.view old P → P ≡ reopened s)
         → Called V.view old new (Delete id) answer → (P : PlainPool) → found_since V.view new (V.view.moment old) P → IsWholeOrGone id s P }

@@ -14,7 +14,7 @@ use tp_pool::Pool;
 /// how many bytes each has.
 ///
 /// The lines tell that with the snapshot at most three metadata blocks more are in use, whatever the volume maps, and that behind its
-/// removal no more are in use than with it. In all else the pool is as it was.
+/// removal no more are in use than with it, where no metadata root is held. In all else the pool is as it was.
 ///
 /// It refuses where the snapshot or its removal is refused.
 pub fn snapshot_costs_three_blocks<D: Disk, M: Metadata>(

@@ -44,6 +44,8 @@ LINE is one word of the command line, so it stands in quotes:
   'grow ID BLOCKS'              the volume has BLOCKS blocks from now on, where no client holds it: no fewer than before, 16777216 at
                                 most. What is new reads zero
   'set_transaction_id OLD NEW'  sets a number of the user's own that the pool keeps, where it is OLD now
+  reserve_metadata_snap         the mapping of all volumes is held as it is now, where none is
+  release_metadata_snap         what is held is given up, and its blocks are free again
 An ID is a number from 0 to 16777215, OLD and NEW are numbers of 64 bits. BLOCKS are of the pool's own block size:
 with blocks of 64 KiB, 16384 make 1 GiB, and 3276800 make 200 GiB. What a message does is on the disk before 'ok' is printed.
 
@@ -51,8 +53,8 @@ with blocks of 64 KiB, 16384 make 1 GiB, and 3276800 make 200 GiB. What a messag
   thinpool message pool.img 'grow 0 3276800'";
 
 const STATUS_HELP: &str = "\
-A pool's line: transaction id, used/all metadata blocks of 4096 bytes, used/all data blocks, '-', mode (rw, ro, out_of_data_space
-or Fail), no_discard_passdown, error_if_no_space, needs_check or '-', 512 (the bytes of a sector).
+A pool's line: transaction id, used/all metadata blocks of 4096 bytes, used/all data blocks, '-' or the root of a held
+mapping, mode (rw, ro, out_of_data_space or Fail), no_discard_passdown, error_if_no_space, needs_check or '-', 512 (the bytes of a sector).
 A volume's line: how many of its sectors are mapped, and the highest of them or '-'.
 
 Of a pool of 10 GiB with one volume in which nothing is written:

@@ -107,7 +107,7 @@ returns-then-node-top-clause-damaged g t c e honest opens held s k low high w fi
 -- the read and the block that was opened
 opened_ran : (g : Over) (t : ℕ) (c : After-node_in-node g t) → Ran 1 false c.args.tm.now c.shadow.new.self (g.D.Disk.state c.args.disk.now) (g.D.Disk.state c.shadow.new.disk)
 opened_ran g t c =
-    ran_read 1 false c.args.tm.now c.shadow.new.self (g.D.Disk.state c.args.disk.now) (g.D.Disk.state c.shadow.new.disk) c.in_ok-own.ensures.kept.0 c.in_ok-own.ensures.kept.1 c.in_ok-own.ensures.kept.2 c.in_ok-own.ensures.free c.in_ok-own.ensures.used c.in_ok-own.ensures.state
+    ran_read 1 false c.args.tm.now c.shadow.new.self (g.D.Disk.state c.args.disk.now) (g.D.Disk.state c.shadow.new.disk) c.in_ok-own.ensures.kept.0 c.in_ok-own.ensures.kept.1 c.in_ok-own.ensures.kept.2 c.in_ok-own.ensures.kept.3 c.in_ok-own.ensures.free c.in_ok-own.ensures.used c.in_ok-own.ensures.state
 
 pub returns-then-node-top-clause-ran : goal.returns-then-node-top-clause-ran
 returns-then-node-top-clause-ran g t c =

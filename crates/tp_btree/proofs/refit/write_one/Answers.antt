@@ -20,7 +20,7 @@ returns-in_err-abandon-clause-ran g c =
     let f = c.in_err-abandon.ensures.fewer in
     let d = g.D.Disk.state c.args.disk.now in
     subst (λ b. Ran 0 b c.args.tm.now c.abandon.new.self d d) (sym (fault_is c.from_residual.result p.0 Damaged p.1 (p.2 ∙ c.in_err-abandon.ensures.err.0)))
-    (ran_still 0 c.args.tm.now c.abandon.new.self d f.geometry f.metadata_kept f.data_kept (omega (arith, c.in_err-abandon.ensures.free)) (omega (arith, c.in_err-abandon.ensures.used)))
+    (ran_still 0 c.args.tm.now c.abandon.new.self d f.geometry f.metadata_kept f.data_kept f.held_root (omega (arith, c.in_err-abandon.ensures.free)) (omega (arith, c.in_err-abandon.ensures.used)))
 
 pub returns-clause-written : goal.returns-clause-written
 returns-clause-written g c = on_ok_weaker c.write.result

@@ -39,7 +39,7 @@ returns-in_err-abandon-clause-ran g c =
     let f = c.in_err-abandon.ensures.fewer in
     let d = g.D.Disk.state c.args.disk.now in
     subst (λ b. Ran 0 b c.args.tm.now c.abandon.new.self d d) (sym (fault_is c.from_residual-in_err-abandon.result p.0 Damaged p.1 (p.2 ∙ c.in_err-abandon.ensures.err.0)))
-    (ran_still 0 c.args.tm.now c.abandon.new.self d f.geometry f.metadata_kept f.data_kept (omega (arith, c.in_err-abandon.ensures.free)) (omega (arith, c.in_err-abandon.ensures.used)))
+    (ran_still 0 c.args.tm.now c.abandon.new.self d f.geometry f.metadata_kept f.data_kept f.held_root (omega (arith, c.in_err-abandon.ensures.free)) (omega (arith, c.in_err-abandon.ensures.used)))
 
 pub returns-then-is_single-clause-settled : goal.returns-then-is_single-clause-settled
 returns-then-is_single-clause-settled g c opens held s k high root key was told cut branches =
@@ -51,7 +51,7 @@ returns-then-is_single-clause-settled g c opens held s k high root key was told 
 pub returns-then-is_single-clause-ran : goal.returns-then-is_single-clause-ran
 returns-then-is_single-clause-ran g c =
     let f = c.in_ok-abandon.ensures.fewer in
-    ran_still 0 c.args.tm.now c.abandon.new.self (g.D.Disk.state c.args.disk.now) f.geometry f.metadata_kept f.data_kept (omega (arith, c.in_ok-abandon.ensures.free)) (omega (arith, c.in_ok-abandon.ensures.used))
+    ran_still 0 c.args.tm.now c.abandon.new.self (g.D.Disk.state c.args.disk.now) f.geometry f.metadata_kept f.data_kept f.held_root (omega (arith, c.in_ok-abandon.ensures.free)) (omega (arith, c.in_ok-abandon.ensures.used))
 
 pub returns-clause-settled : goal.returns-clause-settled
 returns-clause-settled g c opens held s k high root key was told cut branches =

@@ -1,9 +1,10 @@
-use Rattle.std.proofs.Common.{◌≡◌, ℕ, ◌≤◌, length, sym, ◌∙◌, subst, arith}
+use Rattle.std.proofs.Common.{◌≡◌, ℕ, ◌≤◌, List, length, sym, ◌∙◌, subst, arith}
 use Rattle.std.specs.Prelude.{IsTrue}
 use Rattle.std.proofs.lemmas.List.{length-map}
 use Rattle.std.proofs.lemmas.Result.{err_from_is_err_and, on_ok_weaker}
 use Rattle.tp_model.specs.Disk.{DiskState, newest, seen}
 use Rattle.tp_model.specs.Geometry.{Geometry, sectors_of_image}
+use Rattle.tp_layout.specs.Super.{roots_of}
 use Rattle.tp_layout.specs.declared.superblock.Version.{Version}
 use Rattle.tp_image.specs.Clean.{HasTrueCounts}
 use Rattle.tp_image.specs.Faults.{HasBadCount}
@@ -31,10 +32,10 @@ returns-in_err-walk_all-clause-fault g c =
     let state : g.D.Disk.state c.superblock_on.new.disk ≡ disk = c.in_ok-superblock.ensures.state in
     err_passed (λ (e : CheckError). IsTrue disk.is_honest → HasFault (seen disk.cells) e) c.from_residual-in_err-walk_all.result p.0 err p.1 p.2 (λ honest.
     tree_told (seen disk.cells) s (c.in_ok-superblock.ensures.found honest) (whole g (goal.at.returns-in_err-walk_all-clause-fault g c).In_ok-superblock) err
-    (subst (λ (v : Version). HasTreeFault (seen disk.cells) v s.geometry s.root err) c.in-Ok.ensures.version_is
-    (subst (λ (x : ℕ). HasTreeFault (seen disk.cells) c.in-Ok.walk.version s.geometry x err) c.in-Ok.ensures.root_is
-    (subst (λ (x : Geometry). HasTreeFault (seen disk.cells) c.in-Ok.walk.version x c.in-Ok.walk.root err) c.in-Ok.ensures.geometry
-    (subst (λ (z : DiskState). HasTreeFault (seen z.cells) c.in-Ok.walk.version c.in-Ok.walk.geometry c.in-Ok.walk.root err) state
+    (subst (λ (v : Version). HasTreeFault (seen disk.cells) v s.geometry (roots_of s) err) c.in-Ok.ensures.version_is
+    (subst (λ (x : List ℕ). HasTreeFault (seen disk.cells) c.in-Ok.walk.version s.geometry x err) c.in-Ok.ensures.roots_is
+    (subst (λ (x : Geometry). HasTreeFault (seen disk.cells) c.in-Ok.walk.version x c.in-Ok.walk.roots err) c.in-Ok.ensures.geometry
+    (subst (λ (z : DiskState). HasTreeFault (seen z.cells) c.in-Ok.walk.version c.in-Ok.walk.geometry c.in-Ok.walk.roots err) state
     (c.in_err-walk_all.ensures.fault (subst (λ (z : DiskState). IsTrue z.is_honest) (sym state) honest)))))))
 
 -- what the whole walk found
@@ -57,7 +58,7 @@ returns-clause-clean g c =
     let w = found g a honest in
     let counts = subst (λ (z : DiskState). (v : IsWhole (seen z.cells) p) → HasTrueCounts (seen z.cells) s v.nodes) (still g a) (stored (subst (λ (z : DiskState). IsTrue z.is_honest) (sym (still g a)) honest)) w in
     clean_from (seen disk.cells) s (c.in_ok-superblock.ensures.found honest) (whole g (goal.at.returns-clause-clean g c).In_ok-superblock) p (c.in_ok-walk_all.ensures.same.version ∙ c.in-Ok.ensures.version_is) (c.in_ok-walk_all.ensures.same.geometry ∙ c.in-Ok.ensures.geometry)
-    (c.in_ok-walk_all.ensures.same.root ∙ c.in-Ok.ensures.root_is) w counts) c.test_stored.ensures.stored
+    (c.in_ok-walk_all.ensures.same.roots ∙ c.in-Ok.ensures.roots_is) w counts) c.test_stored.ensures.stored
 
 pub returns-clause-fault : goal.returns-clause-fault
 returns-clause-fault g c =

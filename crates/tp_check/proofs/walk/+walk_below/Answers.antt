@@ -1,4 +1,4 @@
-use Rattle.std.proofs.Common.{◌≡◌, ℕ, ◌<◌, Bool, false, Some, get_or, length, refl, sym, ap, ◌∙◌, subst, arith}
+use Rattle.std.proofs.Common.{◌≡◌, ℕ, List, ◌<◌, Bool, false, Some, get_or, length, refl, sym, ap, ◌∙◌, subst, arith}
 use Rattle.std.specs.Prelude.{if◌then◌else◌, not, slice_get}
 use Rattle.std.proofs.lemmas.Option.{slice_get-get_or}
 use Rattle.std.proofs.lemmas.Result.{err_from_is_err_and}
@@ -65,19 +65,19 @@ returns-in_err-summary-clause-fault g t c =
     let disk = g.D.Disk.state c.args.disk.now in
     let same = c.loop-i.invariant.same in
     let err = c.in_err-summary.field-0.0 in
-    err_passed (λ (e : CheckError). IsBegun disk c.args.walk.now c.args.demand.now → HasTreeFault (seen disk.cells) c.args.walk.now.version c.args.walk.now.geometry c.args.walk.now.root e)
+    err_passed (λ (e : CheckError). IsBegun disk c.args.walk.now c.args.demand.now → HasTreeFault (seen disk.cells) c.args.walk.now.version c.args.walk.now.geometry c.args.walk.now.roots e)
     c.from_residual-in_err-summary.result p.0 err p.1 p.2 (λ begun.
     let told = c.in_err-summary.ensures.fault (begun_here g t (goal.at.returns-in_err-summary-clause-fault g t c).After-demand_under-child begun) in
-    subst (λ (v : Version). HasTreeFault (seen disk.cells) v c.args.walk.now.geometry c.args.walk.now.root err) same.version
-    (subst (λ (x : ℕ). HasTreeFault (seen disk.cells) c.loop-i.walk.version c.args.walk.now.geometry x err) same.root
-    (subst (λ (x : Geometry). HasTreeFault (seen disk.cells) c.loop-i.walk.version x c.loop-i.walk.root err) same.geometry
-    (subst (λ (z : DiskState). HasTreeFault (seen z.cells) c.loop-i.walk.version c.loop-i.walk.geometry c.loop-i.walk.root err) c.loop-i.invariant.state told))))
+    subst (λ (v : Version). HasTreeFault (seen disk.cells) v c.args.walk.now.geometry c.args.walk.now.roots err) same.version
+    (subst (λ (x : List ℕ). HasTreeFault (seen disk.cells) c.loop-i.walk.version c.args.walk.now.geometry x err) same.roots
+    (subst (λ (x : Geometry). HasTreeFault (seen disk.cells) c.loop-i.walk.version x c.loop-i.walk.roots err) same.geometry
+    (subst (λ (z : DiskState). HasTreeFault (seen z.cells) c.loop-i.walk.version c.loop-i.walk.geometry c.loop-i.walk.roots err) c.loop-i.invariant.state told))))
 
 pub returns-in_err-test-clause-fault : goal.returns-in_err-test-clause-fault
 returns-in_err-test-clause-fault g t c =
     let p = err_from_is_err_and c.from_residual-in_err-test.result c.from_residual-in_err-test.ensures.1 in
     let disk = g.D.Disk.state c.args.disk.now in
-    err_passed (λ (e : CheckError). IsBegun disk c.args.walk.now c.args.demand.now → HasTreeFault (seen disk.cells) c.args.walk.now.version c.args.walk.now.geometry c.args.walk.now.root e)
+    err_passed (λ (e : CheckError). IsBegun disk c.args.walk.now c.args.demand.now → HasTreeFault (seen disk.cells) c.args.walk.now.version c.args.walk.now.geometry c.args.walk.now.roots e)
     c.from_residual-in_err-test.result p.0 c.in_err-test.field-0.0 p.1 p.2 (λ begun.
     let a = (goal.at.returns-in_err-test-clause-fault g t c).After-demand_under-child in
     let h = here g t a in
@@ -89,7 +89,7 @@ same_through : (a b c : Progress) → IsSame a b → IsSame b c → IsSame a c
 same_through a b c f h = record {
   version = h.version ∙ f.version;
   geometry = h.geometry ∙ f.geometry;
-  root = h.root ∙ f.root;
+  roots = h.roots ∙ f.roots;
   known_long = h.known_long ∙ f.known_long;
   metadata_long = h.metadata_long ∙ f.metadata_long;
   others_long = h.others_long ∙ f.others_long;
@@ -113,12 +113,12 @@ loop-i-preserved g t c = record {
 pub loop-i-init : goal.loop-i-init
 loop-i-init g t c = record {
   state = c.in_ok-read.ensures.state;
-  same = record { version = refl; geometry = refl; root = refl; known_long = refl; metadata_long = refl; others_long = refl };
+  same = record { version = refl; geometry = refl; roots = refl; known_long = refl; metadata_long = refl; others_long = refl };
   on = λ begun. record {
     walked = begun.2;
     grows = λ b kept. kept;
     kept = λ k e lt at. absurd (omega (arith, lt));
-    under = none_below (seen (g.D.Disk.state c.args.disk.now).cells) c.args.walk.now.geometry c.args.walk.now.root c.args.demand.now c.in_ok-node.node;
+    under = none_below (seen (g.D.Disk.state c.args.disk.now).cells) c.args.walk.now.geometry c.args.walk.now.roots c.args.demand.now c.in_ok-node.node;
   };
 }
 

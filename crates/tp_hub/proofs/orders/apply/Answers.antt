@@ -1,3 +1,4 @@
+use Rattle.std.proofs.Common.{rules}
 use Rattle.tp_hub.proofs.orders.apply.Goals as goal
 
 pub returns-in-CreateThin : goal.returns-in-CreateThin
@@ -14,3 +15,9 @@ returns-in-SetTransactionId g c = rw c.in-SetTransactionId.is c.set_transaction_
 
 pub returns-in-Grow : goal.returns-in-Grow
 returns-in-Grow g c = rw c.in-Grow.is c.grow.ensures
+
+pub returns-in-ReserveMetadataSnap : goal.returns-in-ReserveMetadataSnap
+returns-in-ReserveMetadataSnap g c = search rules
+
+pub returns-in-ReleaseMetadataSnap : goal.returns-in-ReleaseMetadataSnap
+returns-in-ReleaseMetadataSnap g c = search rules

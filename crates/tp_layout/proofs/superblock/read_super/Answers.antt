@@ -1,7 +1,7 @@
 use Rattle.std.proofs.Common.{sym, ap, ◌∙◌, arith}
 use Rattle.tp_layout.specs.declared.superblock.Slot.TheVariants.{Foreign, Other, Bad, Good}
 use Rattle.tp_layout.specs.Super.{HasMagic, HasVersion, StandsIn, version_number}
-use Rattle.tp_layout.proofs.SuperLaws.{magic_from_number, number_from_magic, version_from_number, number_from_version, super_spelled, super_laid, one_kind}
+use Rattle.tp_layout.proofs.SuperLaws.{magic_from_number, number_from_magic, version_from_number, number_from_version, super_spelled, super_laid, version_same, one_kind}
 use Rattle.tp_layout.proofs.superblock.read_super.Goals as goal
 
 pub returns-then-u64_at-ne-MAGIC : goal.returns-then-u64_at-ne-MAGIC
@@ -25,5 +25,11 @@ pub returns-in-None : goal.returns-in-None
 returns-in-None c =
     let magic : HasMagic c.args.sector.now = magic_from_number c.args.sector.now c.fits-sector (omega (arith, c.told-sector)) (sym c.u64_at.ensures ∙ c.if-u64_at-ne-MAGIC.false) in
     let version : HasVersion c.args.sector.now = version_from_number c.args.sector.now _ c.fits-sector (omega (arith, c.told-sector)) (sym c.u32_at.ensures ∙ c.in-Some.ensures.some) in
-    let stands : StandsIn c.args.slot c.args.sector.now Bad = (magic, version, (λ s good e. c.in-None.ensures.none s good (super_laid c.args.slot s c.args.sector.now good e).fields)) in
+    let stands : StandsIn c.args.slot c.args.sector.now Bad = (
+      magic,
+      version,
+      (λ s good e.
+          let laid = super_laid c.args.slot s c.args.sector.now good e in
+          c.in-None.ensures.none s (version_same s.version c.in-Some.version (sym laid.version ∙ (sym c.u32_at.ensures ∙ c.in-Some.ensures.some))) good laid.fields),
+    ) in
     record { found = stands; only = λ other h. one_kind c.args.slot c.args.sector.now Bad other stands h }

@@ -1,4 +1,4 @@
-use Rattle.std.proofs.Common.{rules, ◌≡◌, ◌<◌, ℕ, List, [], Err, IsTrue, Some, None, false, ap, refl, sym, subst, arith}
+use Rattle.std.proofs.Common.{rules, ◌≡◌, ℕ, List, [], Err, IsTrue, Some, None, false, refl, sym, subst, arith}
 use Rattle.std.specs.Prelude.{◌^◌, Option}
 use Rattle.tp_counts.specs.declared.error.StoreError.TheVariants.{Damaged}
 use Rattle.tp_model.specs.Disk.{DiskState}
@@ -26,7 +26,7 @@ use Rattle.tp_mapping.proofs.emptying.free_slot.Goals.{In_ok-lookup}
 
 -- the volume's tree
 ready : (geo : Geometry) (t : Tm) (d : DiskState) (root : ℕ) (v : Volume) (slots : List BlockSlot) (now : Volumes) → (h : HoldVolume geo t d root v slots now)
-    → HoldsSlots t d [] (held_by geo root) h.trees.store (2 ^ 24) v
+    → HoldsSlots t d [] (held_by geo root t.held_root) h.trees.store (2 ^ 24) v
 ready geo t d root v slots now h = volume_slots geo t d root [] v slots now h (omega arith)
 
 pub returns-in_err-lookup-clause-damaged : goal.returns-in_err-lookup-clause-damaged
@@ -35,7 +35,7 @@ returns-in_err-lookup-clause-damaged g c e honest geo root slots now h =
     let d = g.D.Disk.state c.args.disk.now in
     let v = c.args.volume in
     let f : c.lookup.result ≡ Err Damaged = search (rules, e) in
-    c.lookup.ensures.damaged f honest _ _ h.trees.store _ _ (slots_stand t d [] (held_by geo root) h.trees.store (2 ^ 24) v (ready geo t d root v slots now h))
+    c.lookup.ensures.damaged f honest _ _ h.trees.store _ _ (slots_stand t d [] (held_by geo root t.held_root) h.trees.store (2 ^ 24) v (ready geo t d root v slots now h))
     (omega (arith, c.number-key.ensures.below, c.number-key.ensures.value))
 
 -- what the tree has there
@@ -50,7 +50,7 @@ there g c honest geo root slots now h o is =
     let v = c.args.volume.root in
     subst (Told t.geometry.metadata_blocks Mapping (found c.args.block (content 1 s v)) (is_shared_path (height 1 s v) s c.args.block v)) is
     (subst (λ k. Told t.geometry.metadata_blocks Mapping (found k (content 1 s v)) (is_shared_path (height 1 s v) s k v) c.in_ok-lookup.field-0) c.number-key.ensures.value
-    (c.in_ok-lookup.ensures.told honest _ _ s _ _ (slots_stand t d [] (held_by geo root) s (2 ^ 24) c.args.volume (ready geo t d root c.args.volume slots now h))
+    (c.in_ok-lookup.ensures.told honest _ _ s _ _ (slots_stand t d [] (held_by geo root t.held_root) s (2 ^ 24) c.args.volume (ready geo t d root c.args.volume slots now h))
     (omega (arith, c.number-key.ensures.below, c.number-key.ensures.value))))
 
 pub returns-in-Some-clause-changed : goal.returns-in-Some-clause-changed
@@ -62,8 +62,8 @@ returns-in-Some-clause-changed g c = if_ok_two c.without_slot.result
     let d2 = g.D.Disk.state c.without_slot.new.disk in
     let w = there g (goal.at.returns-in-Some-clause-changed g c).In_ok-lookup honest geo root slots now h (Some _) c.in-Some.is in
     volume_without geo t d root [] c.args.volume slots now h c.without_slot.new.tm d2 (same_commit _ _ _ _ d1 d2 c.without_slot.ensures.ran) changed c.args.block size
-    (f (subst (λ (z : DiskState). IsTrue z.is_honest) (sym c.in_ok-lookup.ensures.state) honest) [] (held_by geo root) h.trees.store (2 ^ 24)
-    (subst (λ (z : DiskState). HoldsSlots t z [] (held_by geo root) h.trees.store (2 ^ 24) c.args.volume) (sym c.in_ok-lookup.ensures.state) (ready geo t d root c.args.volume slots now h)) _ w.0))
+    (f (subst (λ (z : DiskState). IsTrue z.is_honest) (sym c.in_ok-lookup.ensures.state) honest) [] (held_by geo root t.held_root) h.trees.store (2 ^ 24)
+    (subst (λ (z : DiskState). HoldsSlots t z [] (held_by geo root t.held_root) h.trees.store (2 ^ 24) c.args.volume) (sym c.in_ok-lookup.ensures.state) (ready geo t d root c.args.volume slots now h)) _ w.0))
     c.without_slot.ensures.changed c.without_slot.ensures.size
 
 pub returns-in-Some-clause-damaged : goal.returns-in-Some-clause-damaged
@@ -71,8 +71,8 @@ returns-in-Some-clause-damaged g c e honest geo root slots now h =
     let t = c.args.tm.now in
     let d = g.D.Disk.state c.args.disk.now in
     let w = there g (goal.at.returns-in-Some-clause-damaged g c).In_ok-lookup honest geo root slots now h (Some _) c.in-Some.is in
-    c.without_slot.ensures.damaged e (subst (λ (z : DiskState). IsTrue z.is_honest) (sym c.in_ok-lookup.ensures.state) honest) [] (held_by geo root) h.trees.store (2 ^ 24)
-    (subst (λ (z : DiskState). HoldsSlots t z [] (held_by geo root) h.trees.store (2 ^ 24) c.args.volume) (sym c.in_ok-lookup.ensures.state) (ready geo t d root c.args.volume slots now h)) _ w.0
+    c.without_slot.ensures.damaged e (subst (λ (z : DiskState). IsTrue z.is_honest) (sym c.in_ok-lookup.ensures.state) honest) [] (held_by geo root t.held_root) h.trees.store (2 ^ 24)
+    (subst (λ (z : DiskState). HoldsSlots t z [] (held_by geo root t.held_root) h.trees.store (2 ^ 24) c.args.volume) (sym c.in_ok-lookup.ensures.state) (ready geo t d root c.args.volume slots now h)) _ w.0
 
 pub returns-in-None-clause-changed : goal.returns-in-None-clause-changed
 returns-in-None-clause-changed g c honest geo root slots now h =
@@ -85,4 +85,4 @@ returns-in-None-clause-changed g c honest geo root slots now h =
 
 pub returns-in-None-clause-ran : goal.returns-in-None-clause-ran
 returns-in-None-clause-ran g c =
-    ran_read 7 false c.args.tm.now c.args.tm.now (g.D.Disk.state c.args.disk.now) (g.D.Disk.state c.lookup.new.disk) refl refl refl (omega arith) (omega arith) c.in_ok-lookup.ensures.state
+    ran_read 7 false c.args.tm.now c.args.tm.now (g.D.Disk.state c.args.disk.now) (g.D.Disk.state c.lookup.new.disk) refl refl refl refl (omega arith) (omega arith) c.in_ok-lookup.ensures.state

@@ -19,7 +19,7 @@ loop-done-init g c =
       inside = c.requires.inside;
       mapped = c.requires.few;
       size = refl;
-      ran = ran_still (7 * 0) t t (g.D.Disk.state c.args.disk.now) refl refl refl (omega arith) (omega arith);
+      ran = ran_still (7 * 0) t t (g.D.Disk.state c.args.disk.now) refl refl refl refl (omega arith) (omega arith);
       changed = λ honest geo root slots now h. h;
     }
 

@@ -14,7 +14,7 @@ returns-clause-dropped g c = on_ok_weaker c.drop_tree.result
     let d = g.D.Disk.state c.args.disk.now in
     let n = subst (λ b. HoldsOld geo t d top b now) (sym c.in_ok-block.ensures.inside.0) h in
     old_dropped geo t d top c.in_ok-block.block now n c.drop_tree.new.tm (g.D.Disk.state c.drop_tree.new.disk)
-    (record { geometry = c.drop_tree.ensures.fewer.geometry; metadata_kept = c.drop_tree.ensures.fewer.metadata_kept; data_kept = c.drop_tree.ensures.fewer.data_kept }) (f honest _ _ n.trees.store _ _ (old_stands geo t d top c.in_ok-block.block now n))) c.drop_tree.ensures.dropped
+    (record { geometry = c.drop_tree.ensures.fewer.geometry; metadata_kept = c.drop_tree.ensures.fewer.metadata_kept; data_kept = c.drop_tree.ensures.fewer.data_kept; held_root = c.drop_tree.ensures.fewer.held_root }) (f honest _ _ n.trees.store _ _ (old_stands geo t d top c.in_ok-block.block now n))) c.drop_tree.ensures.dropped
 
 pub returns-clause-damaged : goal.returns-clause-damaged
 returns-clause-damaged g c e honest geo top now h =
@@ -30,4 +30,4 @@ returns-clause-used g c = on_ok_weaker c.drop_tree.result
     let d = g.D.Disk.state c.args.disk.now in
     let n = subst (λ b. HoldsOld geo t d top b now) (sym c.in_ok-block.ensures.inside.0) h in
     old_in_use geo t d top c.in_ok-block.block now n c.drop_tree.new.tm (g.D.Disk.state c.drop_tree.new.disk)
-    (record { geometry = c.drop_tree.ensures.fewer.geometry; metadata_kept = c.drop_tree.ensures.fewer.metadata_kept; data_kept = c.drop_tree.ensures.fewer.data_kept }) (f honest _ _ n.trees.store _ _ (old_stands geo t d top c.in_ok-block.block now n))) c.drop_tree.ensures.dropped
+    (record { geometry = c.drop_tree.ensures.fewer.geometry; metadata_kept = c.drop_tree.ensures.fewer.metadata_kept; data_kept = c.drop_tree.ensures.fewer.data_kept; held_root = c.drop_tree.ensures.fewer.held_root }) (f honest _ _ n.trees.store _ _ (old_stands geo t d top c.in_ok-block.block now n))) c.drop_tree.ensures.dropped

@@ -1,4 +1,4 @@
-use Rattle.std.proofs.Common.{rules, ◌≡◌, ◌≤◌, [], Err, IsTrue, Some, arith, subst, sym}
+use Rattle.std.proofs.Common.{rules, ◌≡◌, ◌++◌, ◌≤◌, [], Err, IsTrue, Some, arith, subst, sym}
 use Rattle.std.specs.Prelude.{◌^◌, IsSome}
 use Rattle.std.proofs.lemmas.Result.{err_from_is_err_and}
 use Rattle.tp_counts.specs.declared.error.StoreError.TheVariants.{Damaged}
@@ -6,7 +6,7 @@ use Rattle.tp_model.specs.Geometry.{Geometry}
 use Rattle.tp_layout.specs.declared.entry.Entry.{Entry}
 use Rattle.tp_layout.specs.declared.kind.TreeKind.TheVariants.{Device}
 use Rattle.tp_layout.specs.Entries.{found}
-use Rattle.tp_sharing.specs.Forest.{content}
+use Rattle.tp_sharing.specs.Forest.{content, held_refs}
 use Rattle.tp_sharing.specs.Volumes.{Volumes, device_of, without_device}
 use Rattle.tp_stored.specs.Commit.{fixed_blocks}
 use Rattle.tp_btree.specs.Inserts.{Ran}
@@ -22,11 +22,11 @@ use Rattle.tp_mapping.proofs.forest.take_out.Goals.{After-drop_volume, After-rem
 
 ready : (g : Over) (c : After-remove g) → (geo : Geometry) (now : Volumes) → (h : HoldTrees geo c.args.tm.now (g.D.Disk.state c.args.disk.now) c.args.root [] now) → (old : Entry)
     → found c.args.device (content 5 h.store c.args.root) ≡ Some old
-    → CanRemove c.args.tm.now (g.D.Disk.state c.args.disk.now) Device [] (fixed_blocks geo) h.store (height 5 h.store c.args.root) 0 (2 ^ 24) c.args.root c.number-key.result old
+    → CanRemove c.args.tm.now (g.D.Disk.state c.args.disk.now) Device [] (held_refs c.args.tm.now.held_root ++ fixed_blocks geo) h.store (height 5 h.store c.args.root) 0 (2 ^ 24) c.args.root c.number-key.result old
 ready g c geo now h old there =
     let t = c.args.tm.now in
     let d = g.D.Disk.state c.args.disk.now in
-    subst (λ x. CanRemove t d Device [] (fixed_blocks geo) h.store (height 5 h.store c.args.root) 0 (2 ^ 24) c.args.root x old) (sym c.number-key.ensures.value)
+    subst (λ x. CanRemove t d Device [] (held_refs t.held_root ++ fixed_blocks geo) h.store (height 5 h.store c.args.root) 0 (2 ^ 24) c.args.root x old) (sym c.number-key.ensures.value)
     (may_take geo t d c.args.root now h c.args.device (omega (arith, c.number-key.ensures.below)) old there)
 
 pub returns-in_err-done-clause-changed : goal.returns-in_err-done-clause-changed
@@ -34,7 +34,7 @@ returns-in_err-done-clause-changed g c = record {
   made = search rules;
   damaged = λ e honest geo now h some.
       let f : c.remove.result ≡ Err Damaged = search (rules, e) in
-      let old = some_entry geo c.args.tm.now (g.D.Disk.state c.args.disk.now) c.args.root _ now h c.args.device some in
+      let old = some_entry geo c.args.tm.now (g.D.Disk.state c.args.disk.now) c.args.root _ now h c.args.device (omega (arith, c.number-key.ensures.below)) some in
       c.remove.ensures.damaged f honest _ _ _ _ _ _ (ready g (goal.at.returns-in_err-done-clause-changed g c).After-remove geo now h old.0 old.1);
   ran = search rules;
 }
@@ -47,9 +47,9 @@ taken g c honest geo now h some =
     let u = c.remove.new.tm in
     let d1 = g.D.Disk.state c.remove.new.disk in
     let k = height 5 h.store c.args.root in
-    let old = some_entry geo t d c.args.root _ now h c.args.device some in
+    let old = some_entry geo t d c.args.root _ now h c.args.device (omega (arith, c.number-key.ensures.below)) some in
     was_taken geo t d c.args.root now h c.args.device (omega (arith, c.number-key.ensures.below)) old.0 old.1 u d1 (same_commit _ _ _ _ d d1 c.in_ok-done.ensures.ran) c.in_ok-done.done
-    (subst (λ x. WasRemoved t.geometry.metadata_blocks h.store u d1 Device [] (fixed_blocks geo) k (2 ^ 24) c.args.root x old.0 c.in_ok-done.done) c.number-key.ensures.value
+    (subst (λ x. WasRemoved t.geometry.metadata_blocks h.store u d1 Device [] (held_refs t.held_root ++ fixed_blocks geo) k (2 ^ 24) c.args.root x old.0 c.in_ok-done.done) c.number-key.ensures.value
     (c.in_ok-done.ensures.removed honest _ _ _ _ _ _ (ready g (goal.at.After-drop_volume g c).After-remove geo now h old.0 old.1)))
 
 pub returns-in_err-drop_volume-clause-changed : goal.returns-in_err-drop_volume-clause-changed
@@ -76,23 +76,23 @@ returns-clause-changed g c = record {
       ran_then 5 0 5 _ c.args.tm.now c.remove.new.tm c.drop_volume.new.tm (g.D.Disk.state c.args.disk.now) (g.D.Disk.state c.remove.new.disk) (g.D.Disk.state c.drop_volume.new.disk) (omega arith) c.in_ok-done.ensures.ran c.in_ok-drop_volume.ensures.ran;
 }
 
-removed_in_use : (g : Over) (c : After-drop_volume g) → IsTrue (g.D.Disk.state c.args.disk.now).is_honest → (geo : Geometry) (now : Volumes) → HoldTrees geo c.args.tm.now (g.D.Disk.state c.args.disk.now) c.args.root [] now
+removed_in_use : (g : Over) (c : After-drop_volume g) → c.args.tm.now.held_root ≡ 0 → IsTrue (g.D.Disk.state c.args.disk.now).is_honest → (geo : Geometry) (now : Volumes) → HoldTrees geo c.args.tm.now (g.D.Disk.state c.args.disk.now) c.args.root [] now
     → IsSome (device_of c.args.device now) → in_use c.remove.new.tm ≤ in_use c.args.tm.now
-removed_in_use g c honest geo now h some =
+removed_in_use g c none_held honest geo now h some =
     let t = c.args.tm.now in
     let d = g.D.Disk.state c.args.disk.now in
     let u = c.remove.new.tm in
     let d1 = g.D.Disk.state c.remove.new.disk in
     let k = height 5 h.store c.args.root in
-    let old = some_entry geo t d c.args.root _ now h c.args.device some in
-    taken_in_use geo t d c.args.root now h c.args.device (omega (arith, c.number-key.ensures.below)) old.0 old.1 u d1 (same_commit _ _ _ _ d d1 c.in_ok-done.ensures.ran) c.in_ok-done.done
-    (subst (λ x. WasRemoved t.geometry.metadata_blocks h.store u d1 Device [] (fixed_blocks geo) k (2 ^ 24) c.args.root x old.0 c.in_ok-done.done) c.number-key.ensures.value
+    let old = some_entry geo t d c.args.root _ now h c.args.device (omega (arith, c.number-key.ensures.below)) some in
+    taken_in_use geo t d c.args.root now h c.args.device (omega (arith, c.number-key.ensures.below)) old.0 old.1 none_held u d1 (same_commit _ _ _ _ d d1 c.in_ok-done.ensures.ran) c.in_ok-done.done
+    (subst (λ x. WasRemoved t.geometry.metadata_blocks h.store u d1 Device [] (held_refs t.held_root ++ fixed_blocks geo) k (2 ^ 24) c.args.root x old.0 c.in_ok-done.done) c.number-key.ensures.value
     (c.in_ok-done.ensures.removed honest _ _ _ _ _ _ (ready g (goal.at.After-drop_volume g c).After-remove geo now h old.0 old.1)))
 
 pub returns-clause-used : goal.returns-clause-used
-returns-clause-used g c honest geo now h some =
+returns-clause-used g c none_held honest geo now h some =
     let a = (goal.at.returns-clause-used g c).After-drop_volume in
-    let first : in_use c.remove.new.tm ≤ in_use c.args.tm.now = removed_in_use g a honest geo now h some in
+    let first : in_use c.remove.new.tm ≤ in_use c.args.tm.now = removed_in_use g a none_held honest geo now h some in
     let second : in_use c.drop_volume.new.tm ≤ in_use c.remove.new.tm =
     c.in_ok-drop_volume.ensures.used (subst IsTrue (sym c.in_ok-done.ensures.ran.same_disk.is_honest) honest) geo _ _ (taken g a honest geo now h some) in
     omega (arith, first, second)

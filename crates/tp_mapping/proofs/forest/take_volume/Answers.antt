@@ -1,5 +1,5 @@
-use Rattle.std.proofs.Common.{rules, ◌≡◌, ◌≤◌, ◌∷◌, ◌++◌, ℕ, List, [], Err, IsTrue, Some, length, ◌∙◌, ap, arith, refl, subst, sym}
-use Rattle.std.specs.Prelude.{◌^◌, IsSome}
+use Rattle.std.proofs.Common.{rules, ◌≡◌, ◌≤◌, ◌++◌, ℕ, List, [], Err, IsTrue, Some, length, ◌∙◌, ap, arith, subst, sym}
+use Rattle.std.specs.Prelude.{◌^◌}
 use Rattle.std.proofs.lemmas.Result.{err_from_is_err_and}
 use Rattle.tp_counts.specs.declared.error.StoreError.TheVariants.{Damaged}
 use Rattle.tp_model.specs.Geometry.{Geometry}
@@ -8,7 +8,7 @@ use Rattle.tp_layout.specs.declared.entry.Entry.{Entry}
 use Rattle.tp_layout.specs.declared.kind.TreeKind.TheVariants.{Device}
 use Rattle.tp_layout.specs.Entries.{found}
 use Rattle.tp_refs.specs.Store.{first_named, moved_by}
-use Rattle.tp_sharing.specs.Forest.{content}
+use Rattle.tp_sharing.specs.Forest.{content, held_refs}
 use Rattle.tp_sharing.specs.Volumes.{Volumes, with_device}
 use Rattle.tp_stored.specs.Commit.{fixed_blocks}
 use Rattle.tp_btree.specs.Inserts.{Ran}
@@ -32,20 +32,20 @@ made g c geo more now h = c.in_ok-without_slots.ensures.made geo c.args.root mor
 
 ready : (g : Over) (c : After-replace g) → (geo : Geometry) (more : List ℕ) (now : Volumes) → length more ≤ 8 → (h : HoldTrees geo c.args.tm.now (g.D.Disk.state c.args.disk.now) c.args.root more now) → (old : Entry)
     → found c.args.device (content 5 (made g c geo more now h).trees.store c.args.root) ≡ Some old
-    → CanReplace c.new_volume.new.tm (g.D.Disk.state c.new_volume.new.disk) Device [] (more ++ fixed_blocks geo) (made g c geo more now h).trees.store (height 5 (made g c geo more now h).trees.store c.args.root) 0 (2 ^ 24) c.args.root
+    → CanReplace c.new_volume.new.tm (g.D.Disk.state c.new_volume.new.disk) Device [] (more ++ (held_refs c.new_volume.new.tm.held_root ++ fixed_blocks geo)) (made g c geo more now h).trees.store (height 5 (made g c geo more now h).trees.store c.args.root) 0 (2 ^ 24) c.args.root
     (moved_by (first_named c.new_volume.new.tm.geometry.metadata_blocks Device 0) c.device_entry-entry.result) old
 ready g c geo more now few h old there =
     let t = c.new_volume.new.tm in
     let d = g.D.Disk.state c.new_volume.new.disk in
     let s = (made g c geo more now h).trees.store in
-    subst (λ (y : Entry). CanReplace t d Device [] (more ++ fixed_blocks geo) s (height 5 s c.args.root) 0 (2 ^ 24) c.args.root (moved_by (first_named t.geometry.metadata_blocks Device 0) y) old) (sym c.device_entry-entry.ensures.value)
+    subst (λ (y : Entry). CanReplace t d Device [] (more ++ (held_refs t.held_root ++ fixed_blocks geo)) s (height 5 s c.args.root) 0 (2 ^ 24) c.args.root (moved_by (first_named t.geometry.metadata_blocks Device 0) y) old) (sym c.device_entry-entry.ensures.value)
     (may_exchange geo t d c.args.root more c.in_ok-without_slots.without_slots now (made g c geo more now h) (omega (arith, few)) c.args.device c.device_entry-entry.ensures.below old there)
 
 pub returns-in_err-done-clause-damaged : goal.returns-in_err-done-clause-damaged
 returns-in_err-done-clause-damaged g c e honest geo more now few h some =
     let a = (goal.at.returns-in_err-done-clause-damaged g c).After-replace in
     let f : c.replace.result ≡ Err Damaged = search (rules, e) in
-    let old = some_entry geo c.new_volume.new.tm (g.D.Disk.state c.new_volume.new.disk) c.args.root _ now (made g a geo more now h).trees c.args.device some in
+    let old = some_entry geo c.new_volume.new.tm (g.D.Disk.state c.new_volume.new.disk) c.args.root _ now (made g a geo more now h).trees c.args.device c.device_entry-entry.ensures.below some in
     c.replace.ensures.damaged f (subst IsTrue (sym c.in_ok-without_slots.ensures.ran.same_disk.is_honest) honest) _ _ _ _ _ _ (ready g a geo more now few h old.0 old.1)
 
 pub returns-in_err-done-clause-ran : goal.returns-in_err-done-clause-ran
@@ -60,13 +60,13 @@ returns-in_err-done-clause-ran g c =
 -- what stands then
 swapped : (g : Over) (c : After-volume_in g) → IsTrue (g.D.Disk.state c.args.disk.now).is_honest → (geo : Geometry) (more : List ℕ) (now : Volumes) → length more ≤ 8 → (h : HoldTrees geo c.args.tm.now (g.D.Disk.state c.args.disk.now) c.args.root more now) → (old : Entry)
     → found c.args.device (content 5 (made g (goal.at.After-volume_in g c).After-replace geo more now h).trees.store c.args.root) ≡ Some old
-    → Swapped c.new_volume.new.tm.geometry.metadata_blocks (made g (goal.at.After-volume_in g c).After-replace geo more now h).trees.store c.replace.new.tm (g.D.Disk.state c.replace.new.disk) Device [] (more ++ fixed_blocks geo)
+    → Swapped c.new_volume.new.tm.geometry.metadata_blocks (made g (goal.at.After-volume_in g c).After-replace geo more now h).trees.store c.replace.new.tm (g.D.Disk.state c.replace.new.disk) Device [] (more ++ (held_refs c.new_volume.new.tm.held_root ++ fixed_blocks geo))
     (height 5 (made g (goal.at.After-volume_in g c).After-replace geo more now h).trees.store c.args.root) 0 (2 ^ 24) c.args.root (moved_by (first_named c.new_volume.new.tm.geometry.metadata_blocks Device 0) (entry_of c.args.device c.in_ok-without_slots.without_slots)) old c.in_ok-done.done
 swapped g c honest geo more now few h old there =
     let a = (goal.at.After-volume_in g c).After-replace in
     let t = c.new_volume.new.tm in
     let s = (made g a geo more now h).trees.store in
-    subst (λ (y : Entry). Swapped t.geometry.metadata_blocks s c.replace.new.tm (g.D.Disk.state c.replace.new.disk) Device [] (more ++ fixed_blocks geo) (height 5 s c.args.root) 0 (2 ^ 24) c.args.root (moved_by (first_named t.geometry.metadata_blocks Device 0) y) old c.in_ok-done.done) c.device_entry-entry.ensures.value
+    subst (λ (y : Entry). Swapped t.geometry.metadata_blocks s c.replace.new.tm (g.D.Disk.state c.replace.new.disk) Device [] (more ++ (held_refs t.held_root ++ fixed_blocks geo)) (height 5 s c.args.root) 0 (2 ^ 24) c.args.root (moved_by (first_named t.geometry.metadata_blocks Device 0) y) old c.in_ok-done.done) c.device_entry-entry.ensures.value
     (c.in_ok-done.ensures.replaced (subst IsTrue (sym c.in_ok-without_slots.ensures.ran.same_disk.is_honest) honest) _ _ _ _ _ _ (ready g a geo more now few h old there))
 
 pub returns-in_err-volume-clause-damaged : goal.returns-in_err-volume-clause-damaged
@@ -78,7 +78,7 @@ returns-in_err-volume-clause-damaged g c e honest geo more now few h some =
     let u = c.replace.new.tm in
     let d2 = g.D.Disk.state c.replace.new.disk in
     let m = made g a geo more now h in
-    let old = some_entry geo t d c.args.root _ now m.trees c.args.device some in
+    let old = some_entry geo t d c.args.root _ now m.trees c.args.device c.device_entry-entry.ensures.below some in
     let r = swapped g v honest geo more now few h old.0 old.1 in
     let same = same_commit _ _ _ _ d d2 c.in_ok-done.ensures.ran in
     c.in_err-volume.ensures.err.1
@@ -105,7 +105,7 @@ returns-clause-taken g c honest geo more now few h slots is =
     let u = c.replace.new.tm in
     let d2 = g.D.Disk.state c.replace.new.disk in
     let m = made g a geo more now h in
-    let old = some_entry geo t d c.args.root _ now m.trees c.args.device (is_there _ slots is) in
+    let old = some_entry geo t d c.args.root _ now m.trees c.args.device c.device_entry-entry.ensures.below (is_there _ slots is) in
     subst (λ n. HoldBeside geo u d2 c.in_ok-done.done.root more c.in_ok-volume.volume slots (with_device (record { id = c.args.device; size = n; slots = [] }) now)) c.in_ok-without_slots.ensures.size
     (was_exchanged geo t d c.args.root more c.in_ok-without_slots.without_slots now m (omega (arith, few)) c.args.device c.device_entry-entry.ensures.below old.0 old.1 u d2
     (same_commit _ _ _ _ d d2 c.in_ok-done.ensures.ran) c.in_ok-done.done (swapped g v honest geo more now few h old.0 old.1) c.in_ok-volume.volume c.in_ok-volume.ensures.value.0 c.in_ok-volume.ensures.value.1 c.in_ok-volume.ensures.value.2 slots is)
@@ -119,7 +119,7 @@ returns-clause-told g c honest geo more now few h some =
     let u = c.replace.new.tm in
     let d2 = g.D.Disk.state c.replace.new.disk in
     let m = made g a geo more now h in
-    let old = some_entry geo t d c.args.root _ now m.trees c.args.device some in
+    let old = some_entry geo t d c.args.root _ now m.trees c.args.device c.device_entry-entry.ensures.below some in
     was_told geo t d c.args.root more c.in_ok-without_slots.without_slots now m (omega (arith, few)) c.args.device c.device_entry-entry.ensures.below old.0 old.1 u d2
     (same_commit _ _ _ _ d d2 c.in_ok-done.ensures.ran) c.in_ok-done.done (swapped g v honest geo more now few h old.0 old.1)
     ∙ ap Some (sym c.in_ok-volume.ensures.value.2)
@@ -132,7 +132,7 @@ returns-clause-ran g c =
     ran_then 1 3 4 _ c.args.tm.now c.new_volume.new.tm c.replace.new.tm d d1 d2 (omega arith) c.in_ok-without_slots.ensures.ran c.in_ok-done.ensures.ran
 
 pub returns-clause-used : goal.returns-clause-used
-returns-clause-used g c honest geo now h some =
+returns-clause-used g c none_held honest geo now h some =
     let v = (goal.at.returns-clause-used g c).After-volume_in in
     let a = (goal.at.After-volume_in g v).After-replace in
     let t = c.new_volume.new.tm in
@@ -140,7 +140,7 @@ returns-clause-used g c honest geo now h some =
     let u = c.replace.new.tm in
     let d2 = g.D.Disk.state c.replace.new.disk in
     let m = made g a geo [] now h in
-    let old = some_entry geo t d c.args.root _ now m.trees c.args.device some in
-    let over : in_use u ≤ in_use t = over_in_use geo t d c.args.root c.in_ok-without_slots.without_slots [] now m c.args.device c.device_entry-entry.ensures.below old.0 old.1 u d2
+    let old = some_entry geo t d c.args.root _ now m.trees c.args.device c.device_entry-entry.ensures.below some in
+    let over : in_use u ≤ in_use t = over_in_use geo t d c.args.root c.in_ok-without_slots.without_slots [] now m c.args.device c.device_entry-entry.ensures.below (c.in_ok-without_slots.ensures.ran.held_root ∙ none_held) old.0 old.1 u d2
     (same_commit _ _ _ _ d d2 c.in_ok-done.ensures.ran) c.in_ok-done.done (swapped g v honest geo [] now (omega arith) h old.0 old.1) in
     omega (arith, over, in_use_metadata t c.geometry.ensures.sized, c.in_ok-without_slots.ensures.ran.used, metadata_in_row c.args.tm.now)

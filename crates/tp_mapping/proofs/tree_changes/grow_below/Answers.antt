@@ -48,13 +48,13 @@ returns-clause-changed g c = record {
 
 pub returns-clause-used : goal.returns-clause-used
 returns-clause-used g c = IfOk-weaker c.put_over.result _ _
-    (λ top f honest geo now h some may more.
+    (λ top f none_held honest geo now h some may more.
     let o = some_there (device_of c.args.device now) some in
     let told = c.in_ok-taken.ensures.told honest geo [] now (omega arith) h some in
     let put = with_device (record { id = c.args.device; size = 0; slots = [] }) now in
-    let first : in_use c.take_volume.new.tm ≤ in_use c.args.tm.now + 1 = c.in_ok-taken.ensures.used honest geo now h some in
+    let first : in_use c.take_volume.new.tm ≤ in_use c.args.tm.now + 1 = c.in_ok-taken.ensures.used none_held honest geo now h some in
     let second : in_use c.put_over.new.tm ≤ in_use c.take_volume.new.tm =
-    f (subst IsTrue (sym c.in_ok-taken.ensures.ran.same_disk.is_honest) honest) geo o.0 put
+    f (c.in_ok-taken.ensures.ran.held_root ∙ none_held) (subst IsTrue (sym c.in_ok-taken.ensures.ran.same_disk.is_honest) honest) geo o.0 put
     (subst (λ (v : Volume). HoldVolume geo c.take_volume.new.tm (g.D.Disk.state c.take_volume.new.disk) c.in_ok-taken.taken.root v o.0 put) (sym c.with_size-volume.ensures)
     (beside_resized geo c.take_volume.new.tm (g.D.Disk.state c.take_volume.new.disk) c.in_ok-taken.taken.root [] c.in_ok-taken.taken.volume o.0 put (c.in_ok-taken.ensures.taken honest geo [] now (omega arith) h o.0 o.1) c.args.size may
     (more c.in_ok-taken.taken.volume.size told))) (put_there (record { id = c.args.device; size = 0; slots = [] }) now) in

@@ -30,9 +30,9 @@ returns-clause-changed g c = record {
 
 pub returns-clause-used : goal.returns-clause-used
 returns-clause-used g c = IfOk-weaker c.put_new.result _ _
-    (λ top f honest geo now h none few some.
+    (λ top f none_held honest geo now h none few some.
     let o = some_there (device_of c.args.origin now) some in
     let first : in_use c.named_again.new.tm ≤ in_use c.args.tm.now = c.in_ok-volume.ensures.used honest geo now h in
     let second : in_use c.put_new.new.tm ≤ in_use c.named_again.new.tm + 3 =
-    f (subst IsTrue (sym c.in_ok-volume.ensures.ran.same_disk.is_honest) honest) geo o.0 now (c.in_ok-volume.ensures.held honest geo now h o.0 o.1) none few in
+    f (c.in_ok-volume.ensures.ran.held_root ∙ none_held) (subst IsTrue (sym c.in_ok-volume.ensures.ran.same_disk.is_honest) honest) geo o.0 now (c.in_ok-volume.ensures.held honest geo now h o.0 o.1) none few in
     omega (arith, first, second)) c.put_new.ensures.used

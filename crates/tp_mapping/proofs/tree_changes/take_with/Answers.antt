@@ -40,10 +40,10 @@ below g c honest geo now h some inside =
 -- it can be changed
 ready : (g : Over) (c : After-with_slot g) → (honest : IsTrue (g.D.Disk.state c.args.disk.now).is_honest) → (geo : Geometry) (now : Volumes) → (h : HoldTrees geo c.args.tm.now (g.D.Disk.state c.args.disk.now) c.args.root ((geo.metadata_blocks + c.args.place) ∷ []) now)
     → (slots : List BlockSlot) → (is : device_of c.args.device now ≡ Some slots)
-    → HoldsSlots c.take_volume.new.tm (g.D.Disk.state c.take_volume.new.disk) [] ((c.take_volume.new.tm.geometry.metadata_blocks + c.args.place) ∷ held_by geo c.in_ok-taken.taken.root) (taken g c honest geo now h slots is).trees.store (2 ^ 24) c.in_ok-taken.taken.volume
+    → HoldsSlots c.take_volume.new.tm (g.D.Disk.state c.take_volume.new.disk) [] ((c.take_volume.new.tm.geometry.metadata_blocks + c.args.place) ∷ held_by geo c.in_ok-taken.taken.root c.take_volume.new.tm.held_root) (taken g c honest geo now h slots is).trees.store (2 ^ 24) c.in_ok-taken.taken.volume
 ready g c honest geo now h slots is =
     let b = taken g c honest geo now h slots is in
-    subst (λ (n : ℕ). HoldsSlots c.take_volume.new.tm (g.D.Disk.state c.take_volume.new.disk) [] ((n + c.args.place) ∷ held_by geo c.in_ok-taken.taken.root) b.trees.store (2 ^ 24) c.in_ok-taken.taken.volume)
+    subst (λ (n : ℕ). HoldsSlots c.take_volume.new.tm (g.D.Disk.state c.take_volume.new.disk) [] ((n + c.args.place) ∷ held_by geo c.in_ok-taken.taken.root c.take_volume.new.tm.held_root) b.trees.store (2 ^ 24) c.in_ok-taken.taken.volume)
     (sym (ap (λ (z : Geometry). z.metadata_blocks) b.trees.geometry))
     (volume_slots geo c.take_volume.new.tm (g.D.Disk.state c.take_volume.new.disk) c.in_ok-taken.taken.root ((geo.metadata_blocks + c.args.place) ∷ []) c.in_ok-taken.taken.volume slots (with_device (record { id = c.args.device; size = 0; slots = [] }) now) b (omega arith))
 

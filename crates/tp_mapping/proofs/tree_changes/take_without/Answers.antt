@@ -1,4 +1,4 @@
-use Rattle.std.proofs.Common.{rules, ◌≡◌, ◌+◌, ◌≤◌, ◌∷◌, ◌∙◌, ℕ, List, [], Err, IsTrue, Some, ap, sym, subst, arith}
+use Rattle.std.proofs.Common.{rules, ◌≡◌, ◌+◌, ◌≤◌, ◌∙◌, List, [], Err, IsTrue, Some, ap, sym, subst, arith}
 use Rattle.std.specs.Prelude.{◌^◌}
 use Rattle.std.proofs.lemmas.Result.{err_from_is_err_and}
 use Rattle.tp_counts.specs.declared.error.StoreError.TheVariants.{Damaged}
@@ -26,7 +26,7 @@ taken g c honest geo now h slots is = c.in_ok-taken.ensures.taken honest geo _ n
 -- it can be changed
 ready : (g : Over) (c : After-without_slot g) → (honest : IsTrue (g.D.Disk.state c.args.disk.now).is_honest) → (geo : Geometry) (now : Volumes) → (h : HoldTrees geo c.args.tm.now (g.D.Disk.state c.args.disk.now) c.args.root [] now)
     → (slots : List BlockSlot) → (is : device_of c.args.device now ≡ Some slots)
-    → HoldsSlots c.take_volume.new.tm (g.D.Disk.state c.take_volume.new.disk) [] (held_by geo c.in_ok-taken.taken.root) (taken g c honest geo now h slots is).trees.store (2 ^ 24) c.in_ok-taken.taken.volume
+    → HoldsSlots c.take_volume.new.tm (g.D.Disk.state c.take_volume.new.disk) [] (held_by geo c.in_ok-taken.taken.root c.take_volume.new.tm.held_root) (taken g c honest geo now h slots is).trees.store (2 ^ 24) c.in_ok-taken.taken.volume
 ready g c honest geo now h slots is =
     volume_slots geo c.take_volume.new.tm (g.D.Disk.state c.take_volume.new.disk) c.in_ok-taken.taken.root [] c.in_ok-taken.taken.volume slots (with_device (record { id = c.args.device; size = 0; slots = [] }) now) (taken g c honest geo now h slots is) (omega arith)
 
@@ -73,11 +73,11 @@ returns-clause-ran g c =
     ran_then 4 7 11 _ c.args.tm.now c.take_volume.new.tm c.without_slot.new.tm d d1 d2 (omega arith) c.in_ok-taken.ensures.ran c.in_ok-volume.ensures.ran
 
 pub returns-clause-used : goal.returns-clause-used
-returns-clause-used g c honest geo now h some =
+returns-clause-used g c none_held honest geo now h some =
     let u = c.take_volume.new.tm in
     let w = c.without_slot.new.tm in
     let o = slots_there c.args.block (device_of c.args.device now) some in
-    let first : in_use u ≤ in_use c.args.tm.now + 1 = c.in_ok-taken.ensures.used honest geo now h (is_there (device_of c.args.device now) o.0 o.1) in
+    let first : in_use u ≤ in_use c.args.tm.now + 1 = c.in_ok-taken.ensures.used none_held honest geo now h (is_there (device_of c.args.device now) o.0 o.1) in
     omega (arith, first, metadata_in_row u, c.in_ok-volume.ensures.ran.used, in_use_metadata w c.geometry.ensures.sized)
 
 pub returns-clause-told : goal.returns-clause-told

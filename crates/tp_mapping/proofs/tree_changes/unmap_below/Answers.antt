@@ -35,10 +35,10 @@ returns-clause-changed g c = record {
 
 pub returns-clause-used : goal.returns-clause-used
 returns-clause-used g c = IfOk-weaker c.put_over.result _ _
-    (λ top f honest geo now h some.
+    (λ top f none_held honest geo now h some.
     let o = slots_there c.args.block (device_of c.args.device now) some in
-    let first : in_use c.take_without.new.tm ≤ in_use c.args.tm.now + 8 = c.in_ok-taken.ensures.used honest geo now h some in
+    let first : in_use c.take_without.new.tm ≤ in_use c.args.tm.now + 8 = c.in_ok-taken.ensures.used none_held honest geo now h some in
     let second : in_use c.put_over.new.tm ≤ in_use c.take_without.new.tm =
-    f (subst IsTrue (sym c.in_ok-taken.ensures.ran.same_disk.is_honest) honest) geo (without_place c.args.block o.0) (with_device (record { id = c.args.device; size = 0; slots = [] }) now) (c.in_ok-taken.ensures.changed honest geo now h o.0 o.1 o.2)
+    f (c.in_ok-taken.ensures.ran.held_root ∙ none_held) (subst IsTrue (sym c.in_ok-taken.ensures.ran.same_disk.is_honest) honest) geo (without_place c.args.block o.0) (with_device (record { id = c.args.device; size = 0; slots = [] }) now) (c.in_ok-taken.ensures.changed honest geo now h o.0 o.1 o.2)
     (put_there (record { id = c.args.device; size = 0; slots = [] }) now) in
     omega (arith, first, second)) c.put_over.ensures.used

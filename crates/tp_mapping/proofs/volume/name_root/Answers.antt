@@ -22,5 +22,5 @@ returns-clause-used c = on_ok_weaker c.share.result
     let t = c.args.tm.now in
     let u = c.share.new.tm in
     let live = has_live geo t disk root more now device (record { root = c.args.block; mapped = mapped; size = size }) h in
-    use_passed t u disk disk h.trees.store (more ++ held_by geo root) (c.args.block ∷ (more ++ held_by geo root)) (shared_ran c.share.result t u c.args.block _ _ disk c.requires.inside c.share.ensures.more c.share.ensures.err).geometry h.trees.holds
-    (f disk _ _ h.trees.store h.trees.holds live refl) (named_live h.trees.store (more ++ held_by geo root) c.args.block h.trees.holds.balanced live)) c.share.ensures.named
+    use_passed t u disk disk h.trees.store (more ++ held_by geo root t.held_root) (c.args.block ∷ (more ++ held_by geo root t.held_root)) (shared_ran c.share.result t u c.args.block _ _ disk c.requires.inside c.share.ensures.more c.share.ensures.err).geometry h.trees.holds
+    (f disk _ _ h.trees.store h.trees.holds live refl) (named_live h.trees.store (more ++ held_by geo root t.held_root) c.args.block h.trees.holds.balanced live)) c.share.ensures.named

@@ -32,4 +32,7 @@ returns-clause-found g c honest part area is =
     (c.in_ok-others.ensures.found (ap (λ (d : DiskState). d.is_honest) same ∙ honest)) in
     subst (λ (t : Tm). HoldsCounts (seen old.cells) sb.geometry part area (now_of t part)) (sym c.new.ensures)
     (found_parts (seen old.cells) sb.geometry slot
-    (record { geometry = sb.geometry; metadata_now = c.in_ok-metadata.metadata.now; metadata_kept = c.in_ok-metadata.metadata.kept; data_now = c.in_ok-others.others.now; data_kept = c.in_ok-others.others.kept }) metadata others part area (c.slot-area.ensures ∙ sym is))
+    (record { geometry = sb.geometry; metadata_now = c.in_ok-metadata.metadata.now; metadata_kept = c.in_ok-metadata.metadata.kept; data_now = c.in_ok-others.others.now; data_kept = c.in_ok-others.others.kept; held_root = sb.held_root }) metadata others part area (c.slot-area.ensures ∙ sym is))
+
+pub returns-clause-held : goal.returns-clause-held
+returns-clause-held g c = ap (λ (t : Tm). t.held_root) c.new.ensures

@@ -1,5 +1,5 @@
 use Rattle.std.proofs.Common.{rules}
 use Rattle.tp_msg.proofs.reading.by_word.Goals as goal
 
-pub returns-else-eq-5 : goal.returns-else-eq-5
-returns-else-eq-5 c = search rules
+pub returns-else-is_some : goal.returns-else-is_some
+returns-else-is_some c = search rules

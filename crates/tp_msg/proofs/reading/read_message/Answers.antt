@@ -1,4 +1,4 @@
-use Rattle.std.proofs.Common.{arith}
+use Rattle.std.proofs.Common.{sym, arith, ◌∙◌}
 use Rattle.std.specs.Prelude.{Err}
 use Rattle.tp_model.specs.declared.refusal.Refusal.TheVariants.{BadSyntax}
 use Rattle.tp_msg.proofs.Spelled.{accepted, refused, reading_long, reading_words}
@@ -10,9 +10,11 @@ returns-then-line-gt-MAX_LINE-clause-refused c = refused c.args.line.now (Err Ba
 pub returns-clause-spelled : goal.returns-clause-spelled
 returns-clause-spelled c =
     accepted c.args.line.now c.by_word.result
-    (reading_words c.args.line.now _ _ c.by_word.result (omega (arith, c.if-line-gt-MAX_LINE.false)) c.cut.ensures.word c.cut.ensures.rest c.by_word.ensures)
+    (reading_words c.args.line.now _ _ c.by_word.result (omega (arith, c.if-line-gt-MAX_LINE.false)) (sym c.in_default.is ∙ c.one_word.ensures)
+    c.cut.ensures.word c.cut.ensures.rest c.by_word.ensures)
 
 pub returns-clause-refused : goal.returns-clause-refused
 returns-clause-refused c =
     refused c.args.line.now c.by_word.result
-    (reading_words c.args.line.now _ _ c.by_word.result (omega (arith, c.if-line-gt-MAX_LINE.false)) c.cut.ensures.word c.cut.ensures.rest c.by_word.ensures)
+    (reading_words c.args.line.now _ _ c.by_word.result (omega (arith, c.if-line-gt-MAX_LINE.false)) (sym c.in_default.is ∙ c.one_word.ensures)
+    c.cut.ensures.word c.cut.ensures.rest c.by_word.ensures)

@@ -6,7 +6,7 @@ use Rattle.tp_model.specs.Geometry.{Geometry}
 use Rattle.tp_model.specs.Disk.{DiskState, seen}
 use Rattle.tp_shown.specs.Shown.{blocks_touched, values_at}
 use Rattle.tp_meta.specs.declared.metadata.Home.{Home}
-use Rattle.tp_pool.specs.Reading.{IsRun}
+use Rattle.tp_pool.specs.Reading.{IsRun, id_read}
 use Rattle.tp_pool.specs.Writing.{old_place}
 use Rattle.tp_pool.proofs.Fetching.{part_is, same_length, read_more}
 use Rattle.tp_pool.proofs.Rooms.{are_run, index_is, read_fits, read_inside}
@@ -19,7 +19,7 @@ together-requires-clause-inside g c =
     let gm = M.geometry c.args.metadata.now in
     let done = c.loop-done.done in
     let count = length c.args.out.now / 512 in
-    let homes = c.look_up_run.new.homes in
+    let homes = c.look_up_places.new.homes in
     let pos : 0 < gm.block_sectors = omega (arith, inv.limits.block_least) in
     let long = inv.touched ∙ ap (blocks_touched gm c.args.sector) inv.counted in
     let index : c.index_of-index.result ≡ (c.args.sector + done) / gm.block_sectors - c.args.sector / gm.block_sectors =
@@ -34,7 +34,7 @@ bounds-homes-index g c =
     let gm = M.geometry c.args.metadata.now in
     let done = c.loop-done.done in
     let count = length c.args.out.now / 512 in
-    let homes = c.look_up_run.new.homes in
+    let homes = c.look_up_places.new.homes in
     let pos : 0 < gm.block_sectors = omega (arith, inv.limits.block_least) in
     let long = inv.touched ∙ ap (blocks_touched gm c.args.sector) inv.counted in
     let index : c.index_of-index.result ≡ (c.args.sector + done) / gm.block_sectors - c.args.sector / gm.block_sectors =
@@ -52,7 +52,7 @@ read_part-requires-clause-inside g c =
     let gm = M.geometry c.args.metadata.now in
     let done = c.loop-done.done in
     let count = length c.args.out.now / 512 in
-    let homes = c.look_up_run.new.homes in
+    let homes = c.look_up_places.new.homes in
     let pos : 0 < gm.block_sectors = omega (arith, inv.limits.block_least) in
     let long = inv.touched ∙ ap (blocks_touched gm c.args.sector) inv.counted in
     let index : c.index_of-index.result ≡ (c.args.sector + done) / gm.block_sectors - c.args.sector / gm.block_sectors =
@@ -84,7 +84,7 @@ read_part-requires-clause-place g c =
     let gm = M.geometry c.args.metadata.now in
     let done = c.loop-done.done in
     let count = length c.args.out.now / 512 in
-    let homes = c.look_up_run.new.homes in
+    let homes = c.look_up_places.new.homes in
     let pos : 0 < gm.block_sectors = omega (arith, inv.limits.block_least) in
     let long = inv.touched ∙ ap (blocks_touched gm c.args.sector) inv.counted in
     let index : c.index_of-index.result ≡ (c.args.sector + done) / gm.block_sectors - c.args.sector / gm.block_sectors =
@@ -114,7 +114,7 @@ loop-done-preserved g c =
     let gm = M.geometry c.args.metadata.now in
     let done = c.loop-done.done in
     let count = length c.args.out.now / 512 in
-    let homes = c.look_up_run.new.homes in
+    let homes = c.look_up_places.new.homes in
     let pos : 0 < gm.block_sectors = omega (arith, inv.limits.block_least) in
     let long = inv.touched ∙ ap (blocks_touched gm c.args.sector) inv.counted in
     let index : c.index_of-index.result ≡ (c.args.sector + done) / gm.block_sectors - c.args.sector / gm.block_sectors =
@@ -136,6 +136,7 @@ loop-done-preserved g c =
     let part_long : length (take (512 * (done + n) - 512 * done) (drop (512 * done) c.loop-done.out)) / 512 ≡ n = part_is c.loop-done.out done n fits in
     let disk = g.D.Disk.state c.args.disk.now in
     let sector = c.args.sector + done in
+    let id = id_read c.args.is_copy c.args.id in
     record {
       counted = inv.counted;
       within = omega (arith, c.part_of-part.ensures.most);
@@ -150,14 +151,14 @@ loop-done-preserved g c =
       inside = inv.inside;
       bytes = λ now kept stands.
           let told = inv.told (omega (arith, c.loop-done-test.true)) now kept stands in
-          let are = are_run gm homes c.args.sector done count pos c.loop-done-test.true long n run c.together.ensures.some most part_fits alone runs c.args.id now.volumes (M.marks c.args.metadata.now) told in
-          let run_is : IsRun c.geometry-geometry.result c.args.id sector (length (take (512 * (done + n) - 512 * done) (drop (512 * done) c.loop-done.out)) / 512) now.volumes (old_place c.index-homes-index.result) =
-          subst (λ (o : Option Home). IsRun c.geometry-geometry.result c.args.id sector (length (take (512 * (done + n) - 512 * done) (drop (512 * done) c.loop-done.out)) / 512) now.volumes (old_place o)) (sym is)
-          (subst (λ (k : ℕ). IsRun c.geometry-geometry.result c.args.id sector k now.volumes (old_place (slice_index_or homes place None))) (sym part_long)
-          (subst (λ (x : Geometry). IsRun x c.args.id sector n now.volumes (old_place (slice_index_or homes place None))) (sym inv.sizes) are)) in
+          let are = are_run gm homes c.args.sector done count pos c.loop-done-test.true long n run c.together.ensures.some most part_fits alone runs id now.volumes told in
+          let run_is : IsRun c.geometry-geometry.result id sector (length (take (512 * (done + n) - 512 * done) (drop (512 * done) c.loop-done.out)) / 512) now.volumes (old_place c.index-homes-index.result) =
+          subst (λ (o : Option Home). IsRun c.geometry-geometry.result id sector (length (take (512 * (done + n) - 512 * done) (drop (512 * done) c.loop-done.out)) / 512) now.volumes (old_place o)) (sym is)
+          (subst (λ (k : ℕ). IsRun c.geometry-geometry.result id sector k now.volumes (old_place (slice_index_or homes place None))) (sym part_long)
+          (subst (λ (x : Geometry). IsRun x id sector n now.volumes (old_place (slice_index_or homes place None))) (sym inv.sizes) are)) in
           let honest : IsTrue (g.D.Disk.state c.loop-done.disk).is_honest = subst (λ (d : DiskState). IsTrue d.is_honest) (sym inv.state) (g.met.M.Metadata.honest c.args.metadata.now disk now kept stands) in
           let whole = 512 * (done + n) - 512 * done in
-          read_more c.loop-done.out c.read_part.new.out done n fits c.read_part.ensures.length gm now.volumes (seen disk.cells) c.args.id c.args.sector (inv.bytes now kept stands)
-          (c.in_ok-read_part.ensures.bytes honest c.args.id now.volumes run_is
-          ∙ (λ j. concat (values_at (inv.sizes j) now.volumes (seen (inv.state j).cells) c.args.id sector (length (take whole (drop (512 * done) c.loop-done.out)) / 512))));
+          read_more c.loop-done.out c.read_part.new.out done n fits c.read_part.ensures.length gm now.volumes (seen disk.cells) id c.args.sector (inv.bytes now kept stands)
+          (c.in_ok-read_part.ensures.bytes honest id now.volumes run_is
+          ∙ (λ j. concat (values_at (inv.sizes j) now.volumes (seen (inv.state j).cells) id sector (length (take whole (drop (512 * done) c.loop-done.out)) / 512))));
     }

@@ -5,6 +5,7 @@ use Rattle.tp_model.specs.Disk.{seen}
 use Rattle.tp_sharing.specs.Volumes.{device_of}
 use Rattle.tp_stored.specs.Contents.{Contents}
 use Rattle.tp_shown.specs.Shown.{values_at}
+use Rattle.tp_pool.specs.Reading.{id_read}
 use Rattle.tp_pool.proofs.reading.read_range.Given as goal
 
 abbrev pub invariant-loop-is_there : goal.invariant-loop-is_there
@@ -13,9 +14,9 @@ invariant-loop-is_there g l = record {
   within : l.done ≤ l.count;
   long : length l.out ≡ length l.fn.out;
   state : g.D.Disk.state l.disk ≡ g.D.Disk.state l.fn.disk;
-  there : (now kept : Contents) → g.M.Metadata.stands l.metadata (g.D.Disk.state l.fn.disk) now kept → l.is_there ≡ is_some (device_of l.id now.volumes);
+  there : (now kept : Contents) → g.M.Metadata.stands l.metadata (g.D.Disk.state l.fn.disk) now kept → l.is_there ≡ is_some (device_of (id_read l.is_copy l.id) now.volumes);
   bytes : l.is_there ≡ true → (now kept : Contents) → g.M.Metadata.stands l.metadata (g.D.Disk.state l.fn.disk) now kept
-      → take (512 * l.done) l.out ≡ concat (values_at (g.M.Metadata.geometry l.metadata) now.volumes (seen (g.D.Disk.state l.fn.disk).cells) l.id l.sector l.done);
+      → take (512 * l.done) l.out ≡ concat (values_at (g.M.Metadata.geometry l.metadata) now.volumes (seen (g.D.Disk.state l.fn.disk).cells) (id_read l.is_copy l.id) l.sector l.done);
 }
 
 abbrev pub decreases-loop-is_there : goal.decreases-loop-is_there

@@ -1,5 +1,6 @@
 use Rattle.tp_sharing.proofs.InUse.{shared_is_other, slots_are_within}
-use Rattle.tp_sharing.proofs.Slots.{lists_ascend, lookups_are_listed, mapped_is_told, slots_are_listed}
+use Rattle.tp_sharing.proofs.Copies.{copies_are_listed, lists_ascend}
+use Rattle.tp_sharing.proofs.Slots.{lookups_are_listed, mapped_is_told, slots_are_listed}
 use Rattle.tp_sharing.proofs.laws.trees_stand_for_lists.Goals as goal
 
 pub returns-clause-slots : goal.returns-clause-slots
@@ -19,3 +20,6 @@ returns-clause-lookups c = lookups_are_listed
 
 pub returns-clause-within : goal.returns-clause-within
 returns-clause-within c = slots_are_within
+
+pub returns-clause-copies : goal.returns-clause-copies
+returns-clause-copies c = copies_are_listed

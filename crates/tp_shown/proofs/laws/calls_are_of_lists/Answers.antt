@@ -1,6 +1,7 @@
 use Rattle.tp_shown.proofs.Edited.{edits_are_listed}
 use Rattle.tp_shown.proofs.Made.{create_makes, delete_makes, grow_makes, snapshot_makes}
 use Rattle.tp_shown.proofs.Ranges.{read_gives}
+use Rattle.tp_shown.proofs.Reserved.{release_makes, reserve_makes}
 use Rattle.tp_shown.proofs.Trimmed.{trim_makes}
 use Rattle.tp_shown.proofs.laws.calls_are_of_lists.Goals as goal
 
@@ -24,3 +25,9 @@ returns-clause-trim c = trim_makes
 
 pub returns-clause-grow : goal.returns-clause-grow
 returns-clause-grow c = grow_makes
+
+pub returns-clause-reserve : goal.returns-clause-reserve
+returns-clause-reserve c = reserve_makes
+
+pub returns-clause-release : goal.returns-clause-release
+returns-clause-release c = release_makes

@@ -1,5 +1,5 @@
 use Rattle.tp_shown.proofs.Ordered.{highest_is_last, slots_are_entries}
-use Rattle.tp_shown.proofs.Tests.{count_is_listed, exists_is_listed, need_is_wanted, need_zeroes, used_fits, used_is_listed}
+use Rattle.tp_shown.proofs.Tests.{copy_is_listed, count_is_listed, exists_is_listed, need_is_wanted, need_zeroes, used_fits, used_is_listed}
 use Rattle.tp_shown.proofs.laws.tests_are_of_lists.Goals as goal
 
 pub returns-clause-used : goal.returns-clause-used
@@ -7,6 +7,9 @@ returns-clause-used c = used_is_listed
 
 pub returns-clause-exists : goal.returns-clause-exists
 returns-clause-exists c = exists_is_listed
+
+pub returns-clause-copy : goal.returns-clause-copy
+returns-clause-copy c = copy_is_listed
 
 pub returns-clause-count : goal.returns-clause-count
 returns-clause-count c = count_is_listed

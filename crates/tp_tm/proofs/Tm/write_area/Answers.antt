@@ -15,8 +15,8 @@ returns-in-Metadata-clause-holds g c opens held s h none =
     let old = g.D.Disk.state c.args.disk.now in
     let new = g.D.Disk.state c.write_area.new.disk in
     let area = c.args.area in
-    let after : record { geometry = c.self.inside.geometry; metadata_now = c.write_area.new.self.now; metadata_kept = c.write_area.new.self.kept; data_now = c.self.inside.data_counts.now; data_kept = c.self.inside.data_counts.kept } ≡ c.args.self.now =
-    (λ i. record { geometry = c.self.inside.geometry; metadata_now = (c.write_area.ensures.unchanged i).now; metadata_kept = (c.write_area.ensures.unchanged i).kept; data_now = c.self.inside.data_counts.now; data_kept = c.self.inside.data_counts.kept }) ∙ c.self.view_is in
+    let after : record { geometry = c.self.inside.geometry; metadata_now = c.write_area.new.self.now; metadata_kept = c.write_area.new.self.kept; data_now = c.self.inside.data_counts.now; data_kept = c.self.inside.data_counts.kept; held_root = c.self.inside.held_root } ≡ c.args.self.now =
+    (λ i. record { geometry = c.self.inside.geometry; metadata_now = (c.write_area.ensures.unchanged i).now; metadata_kept = (c.write_area.ensures.unchanged i).kept; data_now = c.self.inside.data_counts.now; data_kept = c.self.inside.data_counts.kept; held_root = c.self.inside.held_root }) ∙ c.self.view_is in
     subst (λ (t : Tm). Holds t new opens held s) (sym after)
     (area_holds c.args.self.now old new Metadata area opens held s
     (subst (λ (t : Tm). SameOutside (counts_sector t.geometry Metadata area) (counts_sectors t.geometry Metadata) (seen old.cells) (seen new.cells)) c.self.view_is
@@ -28,8 +28,8 @@ returns-in-Data-clause-holds g c opens held s h none =
     let old = g.D.Disk.state c.args.disk.now in
     let new = g.D.Disk.state c.write_area-in-Data.new.disk in
     let area = c.args.area in
-    let after : record { geometry = c.self.inside.geometry; metadata_now = c.self.inside.metadata_counts.now; metadata_kept = c.self.inside.metadata_counts.kept; data_now = c.write_area-in-Data.new.self.now; data_kept = c.write_area-in-Data.new.self.kept } ≡ c.args.self.now =
-    (λ i. record { geometry = c.self.inside.geometry; metadata_now = c.self.inside.metadata_counts.now; metadata_kept = c.self.inside.metadata_counts.kept; data_now = (c.write_area-in-Data.ensures.unchanged i).now; data_kept = (c.write_area-in-Data.ensures.unchanged i).kept }) ∙ c.self.view_is in
+    let after : record { geometry = c.self.inside.geometry; metadata_now = c.self.inside.metadata_counts.now; metadata_kept = c.self.inside.metadata_counts.kept; data_now = c.write_area-in-Data.new.self.now; data_kept = c.write_area-in-Data.new.self.kept; held_root = c.self.inside.held_root } ≡ c.args.self.now =
+    (λ i. record { geometry = c.self.inside.geometry; metadata_now = c.self.inside.metadata_counts.now; metadata_kept = c.self.inside.metadata_counts.kept; data_now = (c.write_area-in-Data.ensures.unchanged i).now; data_kept = (c.write_area-in-Data.ensures.unchanged i).kept; held_root = c.self.inside.held_root }) ∙ c.self.view_is in
     subst (λ (t : Tm). Holds t new opens held s) (sym after)
     (area_holds c.args.self.now old new Data area opens held s
     (subst (λ (t : Tm). SameOutside (counts_sector t.geometry Data area) (counts_sectors t.geometry Data) (seen old.cells) (seen new.cells)) c.self.view_is

@@ -1,4 +1,4 @@
-use Rattle.std.proofs.Common.{sym, subst}
+use Rattle.std.proofs.Common.{rules, ◌<◌, ◌^◌, sym, subst}
 use Rattle.std.specs.Prelude.{IfErr, Result}
 use Rattle.std.proofs.lemmas.Result.{err_from_is_err_and}
 use Rattle.tp_model.specs.declared.refusal.Refusal.{Refusal}
@@ -9,10 +9,13 @@ use Rattle.tp_users.proofs.blank.written_pool.Goals as goal
 
 pub returns-in_err-write-clause-only : goal.returns-in_err-write-clause-only
 returns-in_err-write-clause-only c =
+    let low : c.args.id < 2 ^ 24 = search rules in
     let p = err_from_is_err_and c.from_residual-in_err-write.result c.from_residual-in_err-write.ensures.1 in
     subst (λ (r : Result _ Refusal). IfErr r (λ reason. IsOutside reason)) (sym p.1)
     (subst (λ (reason : Refusal). IsOutside reason) (sym p.2)
-    (write_refused c.in_ok-pool.pool c.write.new.self c.args.id c.args.sector (sectors_of c.args.bytes.now) c.in_err-write.field-0.0 c.room_lasts_to_the_bound.ensures.called c.in_ok-pool.ensures.shows c.in_err-write.ensures.called))
+    (write_refused c.in_ok-pool.pool c.write.new.self c.args.id c.args.sector (sectors_of c.args.bytes.now) c.in_err-write.field-0.0 low c.room_lasts_to_the_bound.ensures.called c.in_ok-pool.ensures.shows c.in_err-write.ensures.called))
 
 pub returns-clause-shows : goal.returns-clause-shows
-returns-clause-shows c = written c.in_ok-pool.pool c.write.new.self c.args.id c.args.sector c.args.bytes.now c.in_ok-pool.ensures.shows c.requires.range c.in_ok-write.ensures.called
+returns-clause-shows c =
+    let low : c.args.id < 2 ^ 24 = search rules in
+    written c.in_ok-pool.pool c.write.new.self c.args.id c.args.sector c.args.bytes.now low c.in_ok-pool.ensures.shows c.requires.range c.in_ok-write.ensures.called

@@ -1,8 +1,7 @@
-use Rattle.std.specs.Prelude.{IsTrue}
 use Rattle.std.proofs.lemmas.Result.{IfErr-weaker, IfOk-weaker}
 use Rattle.tp_model.specs.Pool.{PlainPool}
 use Rattle.tp_meta.specs.Standing.{StandsFor, geometry_of}
-use Rattle.tp_pool.specs.Held.{Held, shows}
+use Rattle.tp_pool.specs.Held.{shows}
 use Rattle.tp_users.proofs.Stopped.{any_ok, either_cause, error_cause, found_alone, opened_if_clean, told_outside}
 use Rattle.tp_users.proofs.checked.check_then_open.Goals as goal
 

@@ -1,4 +1,4 @@
-use Rattle.std.proofs.Common.{◌≡◌, ◌/◌, ◌%◌, ap, drop, length, sym, take, ◌∙◌, false}
+use Rattle.std.proofs.Common.{◌/◌, ◌%◌, ap, drop, length, sym, take, ◌∙◌, false}
 use Rattle.tp_model.specs.Pool.{volume_sectors}
 use Rattle.tp_model.specs.Calls.{Trim}
 use Rattle.tp_users.proofs.Blanks.{spared, zeroed}

@@ -1,5 +1,5 @@
-use Rattle.std.proofs.Common.{◌≡◌, ◌/◌, ap, length, sym, ◌∙◌, subst, List, take, drop, ℕ}
-use Rattle.tp_model.specs.Sectors.{Sector, sectors_of}
+use Rattle.std.proofs.Common.{◌≡◌, ◌/◌, ap, length, sym, ◌∙◌, subst, take, drop, ℕ}
+use Rattle.tp_model.specs.Sectors.{sectors_of}
 use Rattle.tp_model.specs.Pool.{volume_sectors}
 use Rattle.tp_model.specs.Calls.{Makes, WriteZeroes}
 use Rattle.tp_model.proofs.DiskLaws.{length-sectors_of}

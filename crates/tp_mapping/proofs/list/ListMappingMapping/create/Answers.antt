@@ -20,5 +20,7 @@ returns-clause-changed g c = record {
       c.add.ensures.value c.add.ensures.sized c.add.ensures.room;
   damaged = search rules;
   ran = search rules;
+  used = search rules;
   same_kept = search rules;
+  same_held = search rules;
 }

@@ -24,5 +24,7 @@ returns g c = record {
       ];
   damaged = search rules;
   ran = search rules;
+  used = search rules;
   same_kept = search rules;
+  same_held = search rules;
 }

@@ -1,4 +1,4 @@
-use Rattle.std.proofs.Common.{rules, ◌≡◌, ◌+◌, ◌∙◌, ap, arith, sym}
+use Rattle.std.proofs.Common.{rules, ◌∙◌, ap, arith, sym}
 use Rattle.std.specs.Prelude.{is_some}
 use Rattle.std.proofs.lemmas.Bool.{false≢true}
 use Rattle.std.proofs.lemmas.Result.{IfErr-at_err}
@@ -29,5 +29,7 @@ returns g c = record {
       let p = IfErr-at_err _ e c.resize.ensures.err in
       false≢true (ap is_some (sym (ap (device_of c.args.device) s.listed ∙ p.1)) ∙ some);
   ran = search rules;
+  used = search rules;
   same_kept = search rules;
+  same_held = search rules;
 }

@@ -12,7 +12,9 @@ returns-in_default-clause-changed g c = record {
       ∙ c.in_default.ensures.free p (omega (arith, l, c.data_blocks.ensures.value)));
   damaged = search rules;
   ran = search rules;
+  used = search rules;
   same_kept = search rules;
+  same_held = search rules;
 }
 
 pub returns-in_err-put_slot-clause-changed : goal.returns-in_err-put_slot-clause-changed
@@ -20,7 +22,9 @@ returns-in_err-put_slot-clause-changed g c = record {
   made = search rules;
   damaged = λ e honest now kept s some below. not_full c.args.self.now now kept s c.args.device some c.in_err-put_slot.ensures.err.1;
   ran = search rules;
+  used = search rules;
   same_kept = search rules;
+  same_held = search rules;
 }
 
 pub returns-clause-changed : goal.returns-clause-changed
@@ -37,5 +41,7 @@ returns-clause-changed g c = record {
       );
   damaged = search rules;
   ran = search rules;
+  used = search rules;
   same_kept = search rules;
+  same_held = search rules;
 }

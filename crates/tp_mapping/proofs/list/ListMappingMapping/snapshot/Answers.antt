@@ -1,4 +1,4 @@
-use Rattle.std.proofs.Common.{rules, refl, ◌∙◌, ap, arith, sym, ◌+◌}
+use Rattle.std.proofs.Common.{rules, ◌∙◌, ap, arith, sym, ◌+◌}
 use Rattle.tp_sharing.specs.Volumes.{device_of, with_device}
 use Rattle.tp_mapping.specs.List.{volumes}
 use Rattle.tp_mapping.proofs.Changing.{on_ok_three, popped}
@@ -13,7 +13,9 @@ returns-in_err-copy_of g c = record {
       let had = popped (m.most_blocks + 1) c.in-Some.spare m.spare.items c.pop.new.self.items c.in-Some.ensures.items s.spare_roomy in
       copy_fits m now kept s c.deref.result.now c.deref.ensures.value c.args.origin some _ had.0 c.in_err-copy_of.ensures.err.1;
   ran = search rules;
+  used = search rules;
   same_kept = search rules;
+  same_held = search rules;
 }
 
 pub returns : goal.returns
@@ -37,5 +39,7 @@ returns g c = record {
       c.add.ensures.value c.add.ensures.sized c.add.ensures.room;
   damaged = search rules;
   ran = search rules;
+  used = search rules;
   same_kept = search rules;
+  same_held = search rules;
 }

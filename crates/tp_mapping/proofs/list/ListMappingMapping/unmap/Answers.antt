@@ -14,5 +14,7 @@ returns g c = record {
       )) c.take_slot.ensures.value c.take_slot.ensures.room;
   damaged = search rules;
   ran = search rules;
+  used = search rules;
   same_kept = search rules;
+  same_held = search rules;
 }

@@ -9,5 +9,7 @@ returns-clause-changed g c = record {
       c.args.device c.args.first c.args.count c.drop_slots.ensures.value c.drop_slots.ensures.room c.drop_slots.ensures.capacity;
   damaged = search rules;
   ran = search rules;
+  used = search rules;
   same_kept = search rules;
+  same_held = search rules;
 }

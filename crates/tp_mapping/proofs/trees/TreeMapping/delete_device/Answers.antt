@@ -21,8 +21,10 @@ returns-in_err-root g c = record {
       let t = c.args.self.now.tm in
       let d = g.D.Disk.state c.args.disk.now in
       subst (λ b. told.Ran 16 b (free_metadata t) (free_metadata t) t.metadata_kept t.metadata_kept t.geometry t.geometry d d) (sym (fault_is c.from_residual.result p.0 Damaged p.1 (p.2 ∙ c.in_err-root.ensures.only)))
-      (ran_as 0 16 _ t t d d (omega arith) (ran_still 0 t t d refl refl refl (omega arith) (omega arith)));
+      (ran_as 0 16 _ t t d d (omega arith) (ran_still 0 t t d refl refl refl refl (omega arith) (omega arith)));
+  used = search rules;
   same_kept = search rules;
+  same_held = search rules;
 }
 
 pub returns-in_err-top : goal.returns-in_err-top
@@ -41,7 +43,9 @@ returns-in_err-top g c = record {
       let d1 = g.D.Disk.state c.take_out.new.disk in
       subst (λ b. told.Ran 16 b (free_metadata t) (free_metadata u) t.metadata_kept u.metadata_kept t.geometry u.geometry d d1) (sym (fault_is c.from_residual-in_err-top.result p.0 c.in_err-top.field-0.0 p.1 p.2))
       (ran_as 5 16 _ t u d d1 (omega arith) c.in_err-top.ensures.changed.ran);
+  used = search rules;
   same_kept = search rules;
+  same_held = search rules;
 }
 
 pub returns : goal.returns
@@ -52,9 +56,9 @@ returns g c = record {
       let u = c.take_out.new.tm in
       let d1 = g.D.Disk.state c.take_out.new.disk in
       let trees = subst (λ b. HoldTrees t.geometry t d b [] now) (sym c.in_ok-root.ensures.inside.0) (held_trees c.args.self.now d now kept s) in
-      let told : in_use u ≤ in_use t = c.in_ok-top.ensures.used honest t.geometry now trees some in (
+      let told : t.held_root ≡ 0 → in_use u ≤ in_use t = λ none_held. c.in_ok-top.ensures.used none_held honest t.geometry now trees some in (
         stand_again c.args.self.now d now kept s (record { tm = u; root = c.in_ok-top.top }) d1 _ (same_commit _ _ _ _ d d1 c.in_ok-top.ensures.changed.ran) (c.in_ok-top.ensures.changed.made honest t.geometry now trees some),
-        omega (arith, told, in_use_metadata t c.geometry.ensures.sized, metadata_in_row u),
+        λ none_held. omega (arith, told none_held, in_use_metadata t c.geometry.ensures.sized, metadata_in_row u),
       );
   damaged = search rules;
   ran =
@@ -63,5 +67,7 @@ returns g c = record {
       let u = c.take_out.new.tm in
       let d1 = g.D.Disk.state c.take_out.new.disk in
       ran_as 5 16 _ t u d d1 (omega arith) c.in_ok-top.ensures.changed.ran;
+  used = search rules;
   same_kept = search rules;
+  same_held = search rules;
 }

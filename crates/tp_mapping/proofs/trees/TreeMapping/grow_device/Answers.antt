@@ -33,8 +33,10 @@ returns-in_err-root g c = record {
       let t = c.args.self.now.tm in
       let d = g.D.Disk.state c.args.disk.now in
       subst (λ b. told.Ran 8 b (free_metadata t) (free_metadata t) t.metadata_kept t.metadata_kept t.geometry t.geometry d d) (sym (fault_is c.from_residual.result p.0 Damaged p.1 (p.2 ∙ c.in_err-root.ensures.only)))
-      (ran_as 0 8 _ t t d d (omega arith) (ran_still 0 t t d refl refl refl (omega arith) (omega arith)));
+      (ran_as 0 8 _ t t d d (omega arith) (ran_still 0 t t d refl refl refl refl (omega arith) (omega arith)));
+  used = search rules;
   same_kept = search rules;
+  same_held = search rules;
 }
 
 pub returns-in_err-top : goal.returns-in_err-top
@@ -53,7 +55,9 @@ returns-in_err-top g c = record {
       let d1 = g.D.Disk.state c.grow_below.new.disk in
       subst (λ b. told.Ran 8 b (free_metadata t) (free_metadata u) t.metadata_kept u.metadata_kept t.geometry u.geometry d d1) (sym (fault_is c.from_residual-in_err-top.result p.0 c.in_err-top.field-0.0 p.1 p.2))
       (ran_as 7 8 _ t u d d1 (omega arith) c.in_err-top.ensures.changed.ran);
+  used = search rules;
   same_kept = search rules;
+  same_held = search rules;
 }
 
 pub returns : goal.returns
@@ -64,10 +68,10 @@ returns g c = record {
       let u = c.grow_below.new.tm in
       let d1 = g.D.Disk.state c.grow_below.new.disk in
       let trees = subst (λ b. HoldTrees t.geometry t d b [] now) (sym c.in_ok-root.ensures.inside.0) (held_trees c.args.self.now d now kept s) in
-      let used : in_use u ≤ in_use t + 1 = c.in_ok-top.ensures.used honest t.geometry now trees some (may_as t.geometry c.args.blocks c.size_for-size.result may (c.size_for-size.ensures ∙ ap (λ (z : Geometry). size_for z c.args.blocks) c.geometry-geometry.ensures.value)) (more_as t.geometry now c.args.device c.args.blocks c.size_for-size.result more (c.size_for-size.ensures ∙ ap (λ (z : Geometry). size_for z c.args.blocks) c.geometry-geometry.ensures.value)) in (
+      let used : t.held_root ≡ 0 → in_use u ≤ in_use t + 1 = λ none_held. c.in_ok-top.ensures.used none_held honest t.geometry now trees some (may_as t.geometry c.args.blocks c.size_for-size.result may (c.size_for-size.ensures ∙ ap (λ (z : Geometry). size_for z c.args.blocks) c.geometry-geometry.ensures.value)) (more_as t.geometry now c.args.device c.args.blocks c.size_for-size.result more (c.size_for-size.ensures ∙ ap (λ (z : Geometry). size_for z c.args.blocks) c.geometry-geometry.ensures.value)) in (
         stand_again c.args.self.now d now kept s (record { tm = u; root = c.in_ok-top.top }) d1 (resized c.args.device (size_for t.geometry c.args.blocks) now) (same_commit _ _ _ _ d d1 c.in_ok-top.ensures.changed.ran) (subst (λ n. HoldTrees t.geometry u d1 c.in_ok-top.top [] (resized c.args.device n now)) (c.size_for-size.ensures ∙ ap (λ (z : Geometry). size_for z c.args.blocks) c.geometry-geometry.ensures.value)
             (c.in_ok-top.ensures.changed.made honest t.geometry now trees some (may_as t.geometry c.args.blocks c.size_for-size.result may (c.size_for-size.ensures ∙ ap (λ (z : Geometry). size_for z c.args.blocks) c.geometry-geometry.ensures.value)) (more_as t.geometry now c.args.device c.args.blocks c.size_for-size.result more (c.size_for-size.ensures ∙ ap (λ (z : Geometry). size_for z c.args.blocks) c.geometry-geometry.ensures.value)))),
-        omega (arith, used, in_use_metadata t c.geometry-geometry.ensures.sized, metadata_in_row u),
+        λ none_held. omega (arith, used none_held, in_use_metadata t c.geometry-geometry.ensures.sized, metadata_in_row u),
       );
   damaged = search rules;
   ran =
@@ -76,5 +80,7 @@ returns g c = record {
       let u = c.grow_below.new.tm in
       let d1 = g.D.Disk.state c.grow_below.new.disk in
       ran_as 7 8 _ t u d d1 (omega arith) c.in_ok-top.ensures.changed.ran;
+  used = search rules;
   same_kept = search rules;
+  same_held = search rules;
 }

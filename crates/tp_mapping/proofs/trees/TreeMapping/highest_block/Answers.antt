@@ -6,8 +6,8 @@ use Rattle.tp_sharing.specs.Volumes.{place_or_none}
 use Rattle.tp_mapping.specs.Telling.{IsThere}
 use Rattle.tp_mapping.proofs.trees.TreeMapping.highest_block.Goals as goal
 
-pub returns-in_err-volume : goal.returns-in_err-volume
-returns-in_err-volume g c = record {
+pub returns-in_err-there : goal.returns-in_err-there
+returns-in_err-there g c = record {
   told = search rules;
   damaged = λ e honest now kept s.
       let f : c.volume_of.result ≡ Err Damaged = search (rules, e) in c.volume_of.ensures.looked.damaged f honest now kept s;
@@ -19,19 +19,19 @@ returns-in-Some g c = record {
   told = IfOk-weaker c.last_block.result _ _
       (λ answer f honest now kept s.
       let m = c.args.self.now in
-      f (subst (λ (z : DiskState). IsTrue z.is_honest) (sym c.in_ok-volume.ensures.looked.state) honest) m.tm.geometry m.root now c.args.device
-      (subst (IsThere m (g.D.Disk.state c.volume_of.new.disk) now c.args.device) c.in-Some.is (c.in_ok-volume.ensures.looked.told honest now kept s))) c.last_block.ensures.told;
+      f (subst (λ (z : DiskState). IsTrue z.is_honest) (sym c.in_ok-there.ensures.looked.state) honest) m.tm.geometry m.root now c.args.device
+      (subst (IsThere m (g.D.Disk.state c.volume_of.new.disk) now c.args.device) c.in-Some.is (c.in_ok-there.ensures.looked.told honest now kept s)).volume) c.last_block.ensures.told;
   damaged = λ e honest now kept s.
       let m = c.args.self.now in
-      c.last_block.ensures.damaged e (subst (λ (z : DiskState). IsTrue z.is_honest) (sym c.in_ok-volume.ensures.looked.state) honest) m.tm.geometry m.root now c.args.device
-      (subst (IsThere m (g.D.Disk.state c.volume_of.new.disk) now c.args.device) c.in-Some.is (c.in_ok-volume.ensures.looked.told honest now kept s));
+      c.last_block.ensures.damaged e (subst (λ (z : DiskState). IsTrue z.is_honest) (sym c.in_ok-there.ensures.looked.state) honest) m.tm.geometry m.root now c.args.device
+      (subst (IsThere m (g.D.Disk.state c.volume_of.new.disk) now c.args.device) c.in-Some.is (c.in_ok-there.ensures.looked.told honest now kept s)).volume;
   state = search rules;
 }
 
 pub returns-in-None : goal.returns-in-None
 returns-in-None g c = record {
   told = λ honest now kept s. λ block.
-      ap (place_or_none block) (subst (IsThere c.args.self.now (g.D.Disk.state c.volume_of.new.disk) now c.args.device) c.in-None.is (c.in_ok-volume.ensures.looked.told honest now kept s));
+      ap (place_or_none block) (subst (IsThere c.args.self.now (g.D.Disk.state c.volume_of.new.disk) now c.args.device) c.in-None.is (c.in_ok-there.ensures.looked.told honest now kept s));
   damaged = search rules;
   state = search rules;
 }

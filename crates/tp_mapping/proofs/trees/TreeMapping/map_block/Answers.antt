@@ -14,7 +14,9 @@ returns-in_err-root-clause-changed g c = record {
   damaged = λ e honest now kept s some below.
       let f : c.device_root.result ≡ Err Damaged = search (rules, e) in c.device_root.ensures.damaged f (g.D.Disk.state c.args.disk.now) now kept s;
   ran = search rules;
+  used = search rules;
   same_kept = search rules;
+  same_held = search rules;
 }
 
 pub returns-in_default-clause-changed : goal.returns-in_default-clause-changed
@@ -22,7 +24,9 @@ returns-in_default-clause-changed g c = record {
   made = λ honest now kept s some below. none_is_free c.args.self.now (g.D.Disk.state c.args.disk.now) now kept s c.geometry.ensures.sized c.in_default.ensures.found;
   damaged = search rules;
   ran = search rules;
+  used = search rules;
   same_kept = search rules;
+  same_held = search rules;
 }
 
 pub returns-in_err-top-clause-changed : goal.returns-in_err-top-clause-changed
@@ -38,7 +42,11 @@ returns-in_err-top-clause-changed g c = record {
       let h = fresh_held t t1 d m.root now (held_trees m d now kept s) p c.in-Some.ensures.taken c.in-Some.ensures.holds in
       c.map_below.ensures.damaged f honest t.geometry now (subst (λ b. HoldTrees t.geometry t1 d b ((t.geometry.metadata_blocks + p) ∷ []) now) (sym c.in_ok-root.ensures.inside.0) h) some below;
   ran = search rules;
+  used =
+      let same : used_metadata c.fresh_data.new.self ≡ used_metadata c.args.self.now.tm = ap used_metadata c.in-Some.ensures.taken in
+      omega (arith, same, c.map_below.ensures.ran.used);
   same_kept = search rules;
+  same_held = search rules;
 }
 
 pub returns-clause-changed : goal.returns-clause-changed
@@ -64,7 +72,11 @@ returns-clause-changed g c = record {
       let d1 = g.D.Disk.state c.map_below.new.disk in
       subst (λ (z : Tm). told.Ran 16 false (free_metadata z) (free_metadata u) z.metadata_kept u.metadata_kept z.geometry u.geometry d d1) c.in-Some.ensures.taken
       (ran_as 16 16 _ c.fresh_data.new.self u d d1 (omega arith) c.in_ok-top.ensures.ran);
+  used =
+      let same : used_metadata c.fresh_data.new.self ≡ used_metadata c.args.self.now.tm = ap used_metadata c.in-Some.ensures.taken in
+      omega (arith, same, c.map_below.ensures.ran.used);
   same_kept = search rules;
+  same_held = search rules;
 }
 
 pub returns-in_err-top-clause-used : goal.returns-in_err-top-clause-used

@@ -20,8 +20,10 @@ returns-in_err-root-clause-changed g c = record {
       let t = c.args.self.now.tm in
       let d = g.D.Disk.state c.args.disk.now in
       subst (λ b. told.Ran (7 * c.args.count + 7) b (free_metadata t) (free_metadata t) t.metadata_kept t.metadata_kept t.geometry t.geometry d d) (sym (fault_is c.from_residual.result p.0 Damaged p.1 (p.2 ∙ c.in_err-root.ensures.only)))
-      (ran_as 0 (7 * c.args.count + 7) _ t t d d (omega arith) (ran_still 0 t t d refl refl refl (omega arith) (omega arith)));
+      (ran_as 0 (7 * c.args.count + 7) _ t t d d (omega arith) (ran_still 0 t t d refl refl refl refl (omega arith) (omega arith)));
+  used = search rules;
   same_kept = search rules;
+  same_held = search rules;
 }
 
 pub returns-in_err-top-clause-changed : goal.returns-in_err-top-clause-changed
@@ -40,7 +42,9 @@ returns-in_err-top-clause-changed g c = record {
       let d1 = g.D.Disk.state c.unmap_run_below.new.disk in
       subst (λ b. told.Ran (7 * c.args.count + 7) b (free_metadata t) (free_metadata u) t.metadata_kept u.metadata_kept t.geometry u.geometry d d1) (sym (fault_is c.from_residual-in_err-top.result p.0 c.in_err-top.field-0.0 p.1 p.2))
       (ran_as (7 * c.args.count + 7) (7 * c.args.count + 7) _ t u d d1 (omega arith) c.in_err-top.ensures.ran);
+  used = search rules;
   same_kept = search rules;
+  same_held = search rules;
 }
 
 pub returns-clause-changed : goal.returns-clause-changed
@@ -58,5 +62,7 @@ returns-clause-changed g c = record {
       let u = c.unmap_run_below.new.tm in
       let d1 = g.D.Disk.state c.unmap_run_below.new.disk in
       ran_as (7 * c.args.count + 7) (7 * c.args.count + 7) _ t u d d1 (omega arith) c.in_ok-top.ensures.ran;
+  used = search rules;
   same_kept = search rules;
+  same_held = search rules;
 }

@@ -2,6 +2,7 @@ use Rattle.std.proofs.Common.{rules, ◌≡◌, [], Err, sym, subst}
 use Rattle.tp_counts.specs.declared.error.StoreError.TheVariants.{Damaged}
 use Rattle.tp_mapping.specs.Held.{HoldTrees}
 use Rattle.tp_mapping.proofs.Between.{held_trees}
+use Rattle.tp_mapping.proofs.Holding.{now_root}
 use Rattle.tp_mapping.proofs.Telling.{told_there}
 use Rattle.tp_mapping.proofs.trees.TreeMapping.volume_of.Goals as goal
 
@@ -19,6 +20,7 @@ returns-clause-looked g c = record {
   damaged = λ e honest now kept s.
       let m = c.args.self.now in
       let d = g.D.Disk.state c.args.disk.now in
-      c.volume_at.ensures.looked.damaged e honest m.tm.geometry [] now (subst (λ b. HoldTrees m.tm.geometry m.tm d b [] now) (sym c.in_ok-root.ensures.inside.0) (held_trees m d now kept s));
+      let h = subst (λ b. HoldTrees m.tm.geometry m.tm d b [] now) (sym c.in_ok-root.ensures.inside.0) (held_trees m d now kept s) in
+      c.volume_at.ensures.looked.damaged e honest m.tm.geometry _ h.store (now_root m.tm.geometry m.tm d c.in_ok-root.root [] now h);
   state = search rules;
 }

@@ -1,6 +1,6 @@
 use Rattle.std.proofs.Common.{rules, ◌≡◌, ◌+◌, ◌≤◌, ◌∙◌, arith, ap, length, sym, [], true, Err, None, refl}
 use Rattle.tp_counts.specs.declared.error.StoreError.TheVariants.{Damaged}
-use Rattle.tp_sharing.specs.Volumes.{DeviceSlots, with_device}
+use Rattle.tp_sharing.specs.Volumes.{DeviceSlots, devices_in, with_device}
 use Rattle.tp_tm.specs.Tm.{Tm, used_metadata}
 use Rattle.tp_meta.specs.declared.whole.Meta.{Meta}
 use Rattle.tp_meta.proofs.Altered.{altered, altered_marks, is_changing, tracked_device}
@@ -29,7 +29,8 @@ returns-clause-altered g c = record {
       let volumes = with_device x now.volumes in
       let stands = altered m disk now kept st new after volumes None
       (c.in_ok-create.ensures.changed.made st.honest now.volumes kept.volumes st.mapping none few)
-      (added_numbered c.one_more-self.result x now.volumes none (c.one_more-self.ensures (length now.volumes) st.numbered))
+      c.create.ensures.changed.same_held
+      (added_numbered c.one_more-self.result x now.volumes c.number.ensures.below none (c.one_more-self.ensures (devices_in now.volumes) st.numbered))
       (ran.same_disk.is_honest ∙ st.honest) ran.geometry ran.counts_kept c.create.ensures.changed.same_kept refl
       ran.any_moment refl refl refl refl refl (tracked_device m disk now kept st x none) (ap (λ (t : Tm). length t.metadata_now) (sym c.store.ensures) ∙ c.geometry.ensures.sized.metadata_now ∙ ap (λ (t : Tm). t.geometry.metadata_blocks) c.store.ensures) in (
         (used_metadata new.mapping.tm, stands),

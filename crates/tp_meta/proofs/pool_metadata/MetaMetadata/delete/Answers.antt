@@ -1,18 +1,18 @@
-use Rattle.std.proofs.Common.{rules, ◌≡◌, ◌≤◌, ◌∙◌, Err, ap, arith, length, refl, subst, sym, true}
+use Rattle.std.proofs.Common.{rules, ◌≡◌, ◌+◌, ◌≤◌, ◌∙◌, Err, ap, arith, length, refl, subst, sym, true}
 use Rattle.std.specs.Prelude.{IsTrue, not}
 use Rattle.std.proofs.lemmas.Result.{err_from_is_err_and}
 use Rattle.tp_counts.specs.declared.error.StoreError.TheVariants.{Damaged}
 use Rattle.tp_counts.specs.StoreErrors.{is_fault}
 use Rattle.tp_counts.proofs.Refusing.{fault_is}
 use Rattle.tp_model.specs.Disk.{DiskState}
-use Rattle.tp_sharing.specs.Volumes.{without_device}
+use Rattle.tp_sharing.specs.Volumes.{devices_in, without_device}
 use Rattle.tp_tm.specs.Tm.{Tm, free_metadata, used_metadata}
 use Rattle.tp_tm.proofs.Keeping.{joins_kept, read_kept, starts_kept}
 use Rattle.tp_mapping.specs.Mapping.{slots_of}
 use Rattle.tp_mapping.specs.Trees.{StandForVolumes}
 use Rattle.tp_meta.specs.Metadata.{Ran, marked_all}
 use Rattle.tp_meta.specs.declared.whole.Meta.{Meta}
-use Rattle.tp_meta.proofs.Altered.{altered_to, as_many_marks, is_changing, marks_without, tracked_without_device}
+use Rattle.tp_meta.proofs.Altered.{altered_to, as_many_marks, few_more, is_changing, marks_without, tracked_without_device}
 use Rattle.tp_meta.proofs.Numbered.{one_more_than}
 use Rattle.tp_meta.proofs.Times.{ran_behind}
 use Rattle.tp_meta.proofs.pool_metadata.MetaMetadata.delete.Goals as goal
@@ -68,12 +68,14 @@ returns g c = record {
       c.in_ok-mark_device.ensures.told st.honest now.volumes kept.volumes st.mapping in
       let new : Meta = record m { mapping = c.delete.new.self; devices = c.one_fewer-self.result; marks = c.mark_device.new.marks; is_changed = true } in
       let done = c.in_ok-delete.ensures.made honest now.volumes kept.volumes mapping there in
-      let used : used_metadata new.mapping.tm ≤ now.meta_used =
-      omega (arith, st.meta_used, done.1) in
+      let none : now.held_root ≡ 0 → used_metadata new.mapping.tm ≤ now.meta_used = λ unheld. let few = done.1 (st.held_root ∙ unheld) in omega (arith, st.meta_used, few) in
+      let more : used_metadata new.mapping.tm ≤ used_metadata m.mapping.tm + 16 = c.delete.ensures.used in
+      let most : used_metadata new.mapping.tm ≤ now.meta_used + 16 = omega (arith, st.meta_used, more) in
+      let used = few_more now.held_root 16 now.meta_used (used_metadata new.mapping.tm) none most in
       let read = read_kept (not (is_fault c.mark_device.result)) (starts_kept m.mapping.tm.metadata_kept disk) c.mark_device.ensures.state in
       let stands =
       altered_to m disk now kept st new after volumes (marked_all lost m.marks)
-      done.0 (c.one_fewer-self.ensures (length volumes) (one_more_than m.devices device now.volumes there st.numbered))
+      done.0 c.delete.ensures.same_held (c.one_fewer-self.ensures (devices_in volumes) (one_more_than m.devices device now.volumes c.number.ensures.below there st.numbered))
       (ran.same_disk.is_honest ∙ honest) ran.geometry ran.counts_kept c.delete.ensures.same_kept refl
       (joins_kept read ran.any_moment) refl refl refl refl marks (as_many_marks m disk now kept st lost)
       (tracked_without_device m disk now kept st device)

@@ -30,6 +30,7 @@ returns-clause-altered g c = record {
       let volumes = resized c.args.device size now.volumes in
       let stands = altered m disk now kept st new after volumes None
       (c.in_ok-grow.ensures.made st.honest now.volumes kept.volumes st.mapping there may more).0
+      c.grow.ensures.same_held
       (resized_numbered m.devices c.args.device size now.volumes st.numbered)
       (ran.same_disk.is_honest ∙ st.honest) ran.geometry ran.counts_kept c.grow.ensures.same_kept refl
       ran.any_moment refl refl refl refl refl (tracked_resized m disk now kept st c.args.device size)
@@ -45,6 +46,6 @@ returns-clause-altered g c = record {
 }
 
 pub returns-clause-used : goal.returns-clause-used
-returns-clause-used g c now kept next last st then there may more =
-    let few : used_metadata c.grow.new.self.tm ≤ used_metadata c.args.self.now.mapping.tm + 1 = (c.in_ok-grow.ensures.made st.honest now.volumes kept.volumes st.mapping there may more).1 in
+returns-clause-used g c now kept next last st then there may more unheld =
+    let few : used_metadata c.grow.new.self.tm ≤ used_metadata c.args.self.now.mapping.tm + 1 = (c.in_ok-grow.ensures.made st.honest now.volumes kept.volumes st.mapping there may more).1 (st.held_root ∙ unheld) in
     omega (arith, st.meta_used, then.meta_used, few)

@@ -91,7 +91,7 @@ returns-clause-altered g c = record {
       let new : Meta = record m { mapping = c.map.new.self; marks = c.lose.new.marks; is_changed = true } in
       let read = read_kept (not (is_fault c.look_up.result)) (starts_kept m.mapping.tm.metadata_kept disk) c.look_up.ensures.looked.state in
       let stands =
-      altered m disk now kept st new after volumes was given.1
+      altered m disk now kept st new after volumes was given.1 c.map.ensures.changed.same_held
       (slots_numbered m.devices device (with_place (record { block = block; place = c.in-Some.place })) now.volumes st.numbered) (ran.same_disk.is_honest ∙ honest) ran.geometry ran.counts_kept c.map.ensures.changed.same_kept refl
       (joins_kept read ran.any_moment) refl refl refl refl marks
       (tracked_slot m disk now kept st device block c.in-Some.place)

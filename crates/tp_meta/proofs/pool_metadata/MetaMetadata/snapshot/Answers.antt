@@ -1,6 +1,6 @@
 use Rattle.std.proofs.Common.{rules, ◌≡◌, ◌+◌, ◌≤◌, ◌∙◌, arith, ap, length, sym, true, Err, None, Some, refl}
 use Rattle.tp_counts.specs.declared.error.StoreError.TheVariants.{Damaged}
-use Rattle.tp_sharing.specs.Volumes.{DeviceSlots, with_device}
+use Rattle.tp_sharing.specs.Volumes.{DeviceSlots, devices_in, with_device}
 use Rattle.tp_tm.specs.Tm.{Tm, used_metadata}
 use Rattle.tp_mapping.specs.Mapping.{size_or_none, slots_of}
 use Rattle.tp_mapping.proofs.Between.{size_there}
@@ -34,7 +34,8 @@ returns-clause-altered g c = record {
       let volumes = with_device x now.volumes in
       let stands = altered m disk now kept st new after volumes None
       ((c.in_ok-snapshot.ensures.made st.honest now.volumes kept.volumes st.mapping none few there).0 slots (size_or_none now.volumes c.args.origin) (slots_there c.args.origin now.volumes there) (size.1 ∙ ap Some (sym is)))
-      (added_numbered c.one_more-self.result x now.volumes none (c.one_more-self.ensures (length now.volumes) st.numbered))
+      c.snapshot.ensures.same_held
+      (added_numbered c.one_more-self.result x now.volumes c.number.ensures.below none (c.one_more-self.ensures (devices_in now.volumes) st.numbered))
       (ran.same_disk.is_honest ∙ st.honest) ran.geometry ran.counts_kept c.snapshot.ensures.same_kept refl
       ran.any_moment refl refl refl refl refl (tracked_device m disk now kept st x none)
       (ap (λ (t : Tm). length t.metadata_now) (sym c.store.ensures) ∙ c.geometry.ensures.sized.metadata_now ∙ ap (λ (t : Tm). t.geometry.metadata_blocks) c.store.ensures) in (
@@ -49,6 +50,6 @@ returns-clause-altered g c = record {
 }
 
 pub returns-clause-used : goal.returns-clause-used
-returns-clause-used g c now kept next last st then none few there =
-    let more : used_metadata c.snapshot.new.self.tm ≤ used_metadata c.args.self.now.mapping.tm + 3 = (c.in_ok-snapshot.ensures.made st.honest now.volumes kept.volumes st.mapping none few there).1 in
+returns-clause-used g c now kept next last st then none few there unheld =
+    let more : used_metadata c.snapshot.new.self.tm ≤ used_metadata c.args.self.now.mapping.tm + 3 = (c.in_ok-snapshot.ensures.made st.honest now.volumes kept.volumes st.mapping none few there).1 (st.held_root ∙ unheld) in
     omega (arith, st.meta_used, then.meta_used, more)

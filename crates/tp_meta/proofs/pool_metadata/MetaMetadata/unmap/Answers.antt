@@ -79,7 +79,7 @@ returns-clause-altered g c = record {
       let new : Meta = record m { mapping = c.unmap.new.self; marks = c.lose.new.marks; is_changed = true } in
       let read = read_kept (not (is_fault c.look_up.result)) (starts_kept m.mapping.tm.metadata_kept disk) c.look_up.ensures.looked.state in
       let stands =
-      altered m disk now kept st new after volumes was taken (slots_numbered m.devices device (without_place block) now.volumes st.numbered)
+      altered m disk now kept st new after volumes was taken c.unmap.ensures.same_held (slots_numbered m.devices device (without_place block) now.volumes st.numbered)
       (ran.same_disk.is_honest ∙ honest) ran.geometry ran.counts_kept c.unmap.ensures.same_kept refl
       (joins_kept read ran.any_moment) refl refl refl refl marks
       (tracked_unmapped m disk now kept st device block)
@@ -102,14 +102,14 @@ returns-clause-none g c now kept st none =
     absurd (false≢true (sym (ap is_some none) ∙ some))
 
 pub returns-then-is_none-clause-used : goal.returns-then-is_none-clause-used
-returns-then-is_none-clause-used g c now kept next last st then = omega (arith, st.meta_used, then.meta_used)
+returns-then-is_none-clause-used g c now kept next last st then unheld = omega (arith, st.meta_used, then.meta_used)
 
 pub returns-clause-used : goal.returns-clause-used
-returns-clause-used g c now kept next last st then =
+returns-clause-used g c now kept next last st then unheld =
     let m = c.args.self.now in
     let stays = sym c.in_ok-taken.ensures.looked.state in
     let some = lost_some c.args.device c.args.block now.volumes c.in_ok-taken.taken (c.in_ok-taken.ensures.looked.told st.honest now.volumes kept.volumes st.mapping) (c.is_none.ensures ∙ ap not c.if-is_none.false) in
     let more : used_metadata c.unmap.new.self.tm ≤ used_metadata m.mapping.tm + 8 =
     (c.in_ok-unmap.ensures.made (subst (λ (z : DiskState). IsTrue z.is_honest) stays st.honest) now.volumes kept.volumes
-    (subst (λ (z : DiskState). StandForVolumes m.mapping z now.volumes kept.volumes) stays st.mapping) some).1 in
+    (subst (λ (z : DiskState). StandForVolumes m.mapping z now.volumes kept.volumes) stays st.mapping) some).1 (st.held_root ∙ unheld) in
     omega (arith, st.meta_used, then.meta_used, more)

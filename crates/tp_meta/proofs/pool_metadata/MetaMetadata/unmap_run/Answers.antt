@@ -105,7 +105,7 @@ returns-clause-altered g c = record {
       let new : Meta = record m { mapping = c.unmap_run.new.self; marks = c.lose_each.new.marks; is_changed = true } in
       let read = read_kept (not (is_fault c.look_up_run.result)) (starts_kept m.mapping.tm.metadata_kept disk) c.look_up_run.ensures.looked.state in
       let stands =
-      altered_to m disk now kept st new after volumes lost taken (run_numbered m.devices id first n now.volumes st.numbered) (ran.same_disk.is_honest ∙ honest) ran.geometry ran.counts_kept c.unmap_run.ensures.changed.same_kept refl
+      altered_to m disk now kept st new after volumes lost taken c.unmap_run.ensures.changed.same_held (run_numbered m.devices id first n now.volumes st.numbered) (ran.same_disk.is_honest ∙ honest) ran.geometry ran.counts_kept c.unmap_run.ensures.changed.same_kept refl
       (joins_kept read ran.any_moment) refl refl refl refl marks (length-marked_run id first n now.volumes m.marks)
       (tracked_run m disk now kept st id first n)
       (ap (λ (t : Tm). length t.metadata_now) (sym c.store.ensures) ∙ c.geometry.ensures.sized.metadata_now ∙ ap (λ (t : Tm). t.geometry.metadata_blocks) c.store.ensures) in (

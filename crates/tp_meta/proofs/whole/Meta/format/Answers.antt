@@ -27,9 +27,9 @@ returns-clause-stands g c honest =
     let commit = subst (λ (x : Superblock). Leaves (λ image. IsCommit image x s) new.cells) (sym is) (settled_leaves _ s new.cells done.settled done.commit) in
     let still : IsTrue new.is_honest = done.same.is_honest ∙ honest in
     let own = ap (λ (t : Tm). t.geometry) done.answer in
-    let holds = subst (λ (x : Superblock). Holds tm new [] (held_by x.geometry x.root) s) (sym is) done.holds in
+    let holds = subst (λ (x : Superblock). Holds tm new [] (held_by x.geometry x.root x.held_root) s) (sym is) done.holds in
     let alike : kept_now tm ≡ tm = subst (λ (t : Tm). kept_now t ≡ t) (sym done.answer) refl in
-    let stands = c.unchanged-meta.ensures.stands new s still commit holds (own ∙ sym (ap (λ (x : Superblock). x.geometry) is)) alike
+    let stands = c.unchanged-meta.ensures.stands new s still commit holds (own ∙ sym (ap (λ (x : Superblock). x.geometry) is)) (ap (λ (t : Tm). t.held_root) done.answer ∙ sym (ap (λ (x : Superblock). x.held_root) is)) alike
     (c.in-Ok.ensures.marks ∙ ap (λ n. replicate {A = Bool} n false) (c.data_blocks.ensures.value ∙ sym (ap (λ (x : Superblock). x.geometry.data_blocks) is))) c.in-Ok.ensures.stale in
     let contents : contents_of last s ≡ _ = ap (λ (x : Superblock). contents_of x s) is ∙ first_contents sizes c.data_blocks.ensures.within in (
       counted_stands c.unchanged-meta.result (Some 0) new (fresh_contents sizes) (fresh_contents sizes)

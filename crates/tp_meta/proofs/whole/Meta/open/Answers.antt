@@ -30,7 +30,7 @@ returns-clause-stands g c honest settled sizes contents holds =
     let commit = subst (λ (x : Superblock). IsCommit (seen old.cells) x holds.1) (sym same) holds.2 in
     let left = subst (λ (d : DiskState). Leaves (λ image. IsCommit image opened.superblock holds.1) d.cells) (sym stays) (settled_leaves opened.superblock holds.1 old.cells settled commit) in
     let still : IsTrue mid.is_honest = ap (λ (d : DiskState). d.is_honest) stays ∙ honest in
-    let stands = c.unchanged-meta.ensures.stands mid holds.1 still left (subst (λ (x : Superblock). Holds opened.tm mid [] (held_by x.geometry x.root) holds.1) (sym same) found.1) done.alike.0 done.alike.1 (c.in-Ok.ensures.marks ∙ ap (λ n. replicate {A = Bool} n false) c.data_blocks-blocks.ensures.value) c.in-Ok.ensures.stale in
+    let stands = c.unchanged-meta.ensures.stands mid holds.1 still left (subst (λ (x : Superblock). Holds opened.tm mid [] (held_by x.geometry x.root x.held_root) holds.1) (sym same) found.1) done.alike.0 done.held done.alike.1 (c.in-Ok.ensures.marks ∙ ap (λ n. replicate {A = Bool} n false) c.data_blocks-blocks.ensures.value) c.in-Ok.ensures.stale in
     let is : contents_of opened.superblock holds.1 ≡ contents = ap (λ (x : Superblock). contents_of x holds.1) same ∙ sym holds.4 in
     let meta = c.unchanged-meta.result in
     let devices = c.in-Ok-count_devices.devices in

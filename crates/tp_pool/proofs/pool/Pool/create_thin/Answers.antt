@@ -1,11 +1,12 @@
 use Rattle.std.proofs.Common.{ap, refl, sym, ◌∙◌, None, false, not, true}
 use Rattle.std.specs.Prelude.{nat_le}
-use Rattle.std.specs.FinMap.{len}
+use Rattle.tp_model.specs.Pool.{device_count}
 use Rattle.tp_model.specs.Calls.{CreateThin, Refused, exists, has_metadata_room, is_failed, is_read_only}
 use Rattle.tp_pool.proofs.Create.{tests_are}
 use Rattle.tp_pool.specs.Held.{Held}
 use Rattle.tp_pool.proofs.Calling.{Laws, called_failed}
-use Rattle.tp_pool.proofs.Behind.{settled_uses}
+use Rattle.tp_pool.specs.Messages.{CountsBlocks}
+use Rattle.tp_pool.proofs.Behind.{settled_uses, uses_always}
 use Rattle.tp_pool.proofs.Answering.{failed_answers, settled_answers}
 use Rattle.tp_pool.proofs.Flushing.{flushed_failed, settled_flushes}
 use Rattle.tp_model.specs.declared.refusal.Refusal.TheVariants.{Failed}
@@ -17,7 +18,7 @@ returns-then-is_failed-clause-called g c =
     let laws : Laws g.M.Metadata.geometry g.M.Metadata.stands g.M.Metadata.marks g.M.Metadata.room =
     record { within = met.within; honest = met.honest; left = met.left; frame = met.frame } in
     called_failed laws c.args.self.now (CreateThin c.args.id) (sym (ap (λ (h : Held g.row.M.Denot). is_failed h.mode) c.self.view_is) ∙ sym c.is_failed.ensures ∙ c.if-is_failed.true)
-    (λ s failed. tests_are s c.args.id None true (is_read_only s.mode) false (exists s c.args.id) (nat_le 65536 (len s.volumes)) (not (has_metadata_room s 512)) failed refl refl refl refl refl) refl
+    (λ s failed. tests_are s c.args.id None true (is_read_only s.mode) false (exists s c.args.id) (nat_le 65536 (device_count s)) (not (has_metadata_room s 512)) failed refl refl refl refl refl) refl
 
 pub returns-then-is_failed-clause-answered : goal.returns-then-is_failed-clause-answered
 returns-then-is_failed-clause-answered g c = failed_answers g.M.Metadata.geometry g.M.Metadata.stands c.args.self.now (CreateThin c.args.id) (sym (ap (λ (h : Held g.row.M.Denot). is_failed h.mode) c.self.view_is) ∙ sym c.is_failed.ensures ∙ c.if-is_failed.true) refl
@@ -41,4 +42,5 @@ returns-clause-flushes g c =
 pub returns-clause-used : goal.returns-clause-used
 returns-clause-used g c =
     let t = c.try_create-answer in
-    settled_uses g.M.Metadata.geometry g.M.Metadata.stands c.args.self.now t.new.self c.settle.new.self 8 t.result c.settle.result c.settle.ensures.same c.settle.ensures.ok t.ensures.used
+    settled_uses g.M.Metadata.geometry g.M.Metadata.stands c.args.self.now t.new.self c.settle.new.self 8 t.result c.settle.result c.settle.ensures.same c.settle.ensures.ok
+    (uses_always g.M.Metadata.geometry g.M.Metadata.stands (CountsBlocks None) (λ root. tt) c.args.self.now t.new.self 8 t.result t.ensures.used)

@@ -3,9 +3,9 @@ use Rattle.std.specs.Prelude.{nat_lt}
 use Rattle.tp_model.specs.Calls.{Delete, Refused, exists, is_failed, is_read_only}
 use Rattle.tp_model.specs.Pool.{hold_count}
 use Rattle.tp_pool.specs.Held.{Held}
-use Rattle.tp_pool.proofs.Calling.{Laws, called_failed}
-use Rattle.tp_pool.proofs.Behind.{settled_uses}
-use Rattle.tp_pool.proofs.Deleting.{deletion_tests, never_short}
+use Rattle.tp_pool.proofs.Calling.{Laws, called_failed, settled}
+use Rattle.tp_pool.proofs.Behind.{settled_unheld}
+use Rattle.tp_pool.proofs.Deleting.{deletion_tests, is_short, never_short}
 use Rattle.tp_pool.proofs.Answering.{failed_answers, settled_answers}
 use Rattle.tp_pool.proofs.Flushing.{flushed_failed, settled_flushes}
 use Rattle.tp_model.specs.declared.refusal.Refusal.TheVariants.{Failed}
@@ -17,7 +17,7 @@ returns-then-is_failed-clause-called g c =
     let laws : Laws g.M.Metadata.geometry g.M.Metadata.stands g.M.Metadata.marks g.M.Metadata.room =
     record { within = met.within; honest = met.honest; left = met.left; frame = met.frame } in
     called_failed laws c.args.self.now (Delete c.args.id) (sym (ap (λ (h : Held g.row.M.Denot). is_failed h.mode) c.self.view_is) ∙ sym c.is_failed.ensures ∙ c.if-is_failed.true)
-    (λ s failed. deletion_tests s c.args.id true (is_read_only s.mode) (not (exists s c.args.id)) (nat_lt 0 (hold_count s.holds c.args.id)) failed refl refl refl) refl
+    (λ s failed. deletion_tests s c.args.id true (is_read_only s.mode) (not (exists s c.args.id)) (nat_lt 0 (hold_count s.holds c.args.id)) (is_short s) failed refl refl refl refl) refl
 
 pub returns-then-is_failed-clause-answered : goal.returns-then-is_failed-clause-answered
 returns-then-is_failed-clause-answered g c = failed_answers g.M.Metadata.geometry g.M.Metadata.stands c.args.self.now (Delete c.args.id) (sym (ap (λ (h : Held g.row.M.Denot). is_failed h.mode) c.self.view_is) ∙ sym c.is_failed.ensures ∙ c.if-is_failed.true) refl
@@ -41,7 +41,13 @@ returns-clause-flushes g c =
 pub returns-clause-used : goal.returns-clause-used
 returns-clause-used g c =
     let t = c.try_delete-answer in
-    settled_uses g.M.Metadata.geometry g.M.Metadata.stands c.args.self.now t.new.self c.settle.new.self 0 t.result c.settle.result c.settle.ensures.same c.settle.ensures.ok t.ensures.used
+    settled_unheld g.M.Metadata.geometry g.M.Metadata.stands c.args.self.now t.new.self c.settle.new.self 0 t.result c.settle.result c.settle.ensures.same c.settle.ensures.ok t.ensures.used
 
 pub returns-clause-room : goal.returns-clause-room
-returns-clause-room g c = never_short g.M.Metadata.geometry g.M.Metadata.stands c.args.self.now c.settle.new.self c.args.id c.settle.result (returns-clause-answered g c)
+returns-clause-room g c is s shown none =
+    let met = g.met.M.Metadata in
+    let laws : Laws g.M.Metadata.geometry g.M.Metadata.stands g.M.Metadata.marks g.M.Metadata.room =
+    record { within = met.within; honest = met.honest; left = met.left; frame = met.frame } in
+    let t = c.try_delete-answer in
+    never_short g.M.Metadata.geometry g.M.Metadata.stands c.args.self.now c.settle.new.self c.args.id c.settle.result
+    (settled laws (Delete c.args.id) c.args.self.now t.new.self c.settle.new.self t.result c.settle.result c.settle.ensures.same c.settle.ensures.ok c.settle.ensures.err t.ensures.called) is s shown none

@@ -6,7 +6,7 @@ use Rattle.tp_model.specs.declared.refusal.Refusal.TheVariants.{Failed}
 use Rattle.tp_pool.specs.Held.{Held}
 use Rattle.tp_pool.specs.Messages.{is_bad_size}
 use Rattle.tp_pool.proofs.Answering.{failed_answers, settled_answers}
-use Rattle.tp_pool.proofs.Behind.{settled_uses}
+use Rattle.tp_pool.proofs.Behind.{settled_unheld}
 use Rattle.tp_pool.proofs.Calling.{Laws, called_failed}
 use Rattle.tp_pool.proofs.Flushing.{flushed_failed, settled_flushes}
 use Rattle.tp_pool.proofs.Growing.{growth_tests}
@@ -54,4 +54,4 @@ pub returns-clause-used : goal.returns-clause-used
 returns-clause-used g c =
     let M = g.M.Metadata in
     let t = c.try_grow-answer in
-    settled_uses M.geometry M.stands c.args.self.now t.new.self c.settle.new.self 1 t.result c.settle.result c.settle.ensures.same c.settle.ensures.ok t.ensures.used
+    settled_unheld M.geometry M.stands c.args.self.now t.new.self c.settle.new.self 1 t.result c.settle.result c.settle.ensures.same c.settle.ensures.ok t.ensures.used

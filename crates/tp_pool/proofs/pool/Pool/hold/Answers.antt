@@ -1,4 +1,4 @@
-use Rattle.std.proofs.Common.{inl, Ok, ◌≡◌, false, not, Err, List, [], ◌∷◌, ◌++◌, refl, sym, ap, subst, ◌∙◌}
+use Rattle.std.proofs.Common.{rules, inl, Ok, ◌≡◌, false, not, Err, List, [], ◌∷◌, ◌++◌, refl, sym, ap, subst, ◌∙◌}
 use Rattle.std.specs.Prelude.{Result}
 use Rattle.std.proofs.lemmas.Result.{err_from_is_err_and}
 use Rattle.tp_model.specs.declared.refusal.Refusal.{Refusal}
@@ -43,7 +43,7 @@ returns-in_default-clause-called g c =
     let works : is_failed c.args.self.now.mode ≡ false = sym (ap (λ (h : Held g.row.M.Denot). is_failed h.mode) c.self.view_is) ∙ sym c.is_failed.ensures ∙ c.if-is_failed.false in
     let old = c.args.self.now in
     subst (λ (h : Held g.row.M.Denot). PoolCalled g.M.Metadata.geometry g.M.Metadata.stands old h (Hold c.args.id) (Refused NoSuchDevice)) (sym c.in_ok-blocks.ensures.held)
-    (none_there laws old (Hold c.args.id) c.args.id works refl (λ now kept st. no_size laws (g.M.Metadata.geometry old.metadata) now.volumes c.args.id c.in_ok-blocks.field-0 c.in_default.is (c.in_ok-blocks.ensures.told now kept st)) (λ s w e. no_device s c.args.id w e))
+    (none_there laws old (Hold c.args.id) c.args.id (search rules) works refl (λ now kept st. no_size laws (g.M.Metadata.geometry old.metadata) now.volumes c.args.id c.in_ok-blocks.field-0 c.in_default.is (c.in_ok-blocks.ensures.told now kept st)) (λ s w e. no_device s c.args.id w e))
 
 pub returns-clause-holds : goal.returns-clause-holds
 returns-clause-holds g c =
@@ -66,7 +66,7 @@ returns-clause-called g c =
     let items = c.push.ensures.items ∙ (λ i. (e i).holders ++ c.of.ensures i ∷ []) in
     subst (λ (h : Held g.row.M.Denot). PoolCalled g.M.Metadata.geometry g.M.Metadata.stands old (record h { holders = c.push.new.self.items }) (Hold c.args.id) Done) (sym e)
     (subst (λ (l : List Holding). PoolCalled g.M.Metadata.geometry g.M.Metadata.stands old (record old { holders = l }) (Hold c.args.id) Done) (sym items)
-    (hold_done laws old c.args.id c.in-Some.blocks works (λ now kept st. sym c.in-Some.is ∙ c.in_ok-blocks.ensures.told now kept st)))
+    (hold_done laws old c.args.id c.in-Some.blocks (search rules) works (λ now kept st. sym c.in-Some.is ∙ c.in_ok-blocks.ensures.told now kept st)))
 
 pub returns-then-is_failed-clause-answered : goal.returns-then-is_failed-clause-answered
 returns-then-is_failed-clause-answered g c =

@@ -1,5 +1,5 @@
-use Rattle.std.proofs.Common.{◌≡◌, false, [], ◌∷◌, Err, Ok, refl, sym, ap, subst, ◌∙◌}
-use Rattle.std.specs.Prelude.{MatchResult, is_ok}
+use Rattle.std.proofs.Common.{rules, ◌≡◌, ◌<◌, ◌^◌, false, [], ◌∷◌, Err, Ok, refl, sym, ap, subst, ◌∙◌}
+use Rattle.std.specs.Prelude.{IfSome, MatchResult, is_ok}
 use Rattle.std.proofs.lemmas.Bool.{true≢false}
 use Rattle.std.proofs.lemmas.Result.{err_from_is_err_and}
 use Rattle.tp_model.specs.declared.refusal.Refusal.TheVariants.{Damaged, Failed}
@@ -78,8 +78,9 @@ returns-clause-called g c =
     let met = g.met.M.Metadata in
     let laws : Laws M.geometry M.stands M.marks M.room = record { within = met.within; honest = met.honest; left = met.left; frame = met.frame } in
     let works : is_failed was.mode ≡ false = sym c.is_failed.ensures ∙ c.if-is_failed.false in
+    let small : IfSome c.in_ok-next_id.field-0 (λ id. id < 2 ^ 24) = search rules in
     subst (λ (h : Held g.row.M.Denot). PoolCalled M.geometry M.stands h new call (Found c.in_ok-next_id.field-0)) c.self.view_is
-    (next_by laws was new.disk c.args.from (Ok c.in_ok-next_id.field-0) works c.in_ok-next_id.ensures.state c.in_ok-next_id.ensures.told (λ e. absurd (true≢false (ap is_ok e))) tt)
+    (next_by laws was new.disk c.args.from (Ok c.in_ok-next_id.field-0) works c.in_ok-next_id.ensures.state (small, c.in_ok-next_id.ensures.told) (λ e. absurd (true≢false (ap is_ok e))) tt)
 
 pub returns-clause-answered : goal.returns-clause-answered
 returns-clause-answered g c =

@@ -27,6 +27,7 @@ returns g c s shown =
       data_blocks = c.data_blocks.result;
       mode = c.self.inside.mode;
       needs_check = c.needs_check.result;
+      held_root = c.held_root.result;
     } in
     pool_told laws old told refl (c.metadata_blocks.ensures.value ∙ ap (λ (x : Geometry). x.metadata_blocks) c.geometry-geometry.ensures)
     (c.data_blocks.ensures.value ∙ ap (λ (x : Geometry). x.data_blocks) c.geometry-geometry.ensures)
@@ -35,5 +36,6 @@ returns g c s shown =
       used_metadata = c.used_metadata.ensures old.disk now kept st;
       used_data = λ lt. let e = c.used_data.ensures old.disk now kept st in c.narrowed.ensures (omega (arith, e, lt)) ∙ e;
       needs_check = c.needs_check.ensures old.disk now kept st;
+      held_root = c.held_root.ensures old.disk now kept st;
     })
     s (subst (λ (h : Held g.row.M.Denot). shows g.M.Metadata.geometry g.M.Metadata.stands h s) (sym c.self.view_is) shown)

@@ -59,7 +59,7 @@ returns-then-not-is_there-clause-called g c =
     let works : is_failed was.mode ≡ false = sym c.is_failed.ensures ∙ c.if-is_failed.false in
     subst (λ (h : Held g.row.M.Denot). PoolCalled M.geometry M.stands h new call (Refused NoSuchDevice)) e
     (subst (λ (d : DiskState). PoolCalled M.geometry M.stands was (record was { disk = d }) call (Refused NoSuchDevice)) (sym c.in_ok-is_there.ensures.looked.state)
-    (none_there laws was call c.args.id works refl (λ now kept st. sym c.if-not-is_there.true ∙ c.in_ok-is_there.ensures.looked.told now kept st) (λ s w e. no_device s c.args.id w e)))
+    (none_there laws was call c.args.id (search rules) works refl (λ now kept st. sym c.if-not-is_there.true ∙ c.in_ok-is_there.ensures.looked.told now kept st) (λ s w e. no_device s c.args.id w e)))
 
 pub returns-clause-called : goal.returns-clause-called
 returns-clause-called g c =
@@ -76,7 +76,7 @@ returns-clause-called g c =
     λ now kept st. is_some_to (device_of c.args.id now.volumes) (sym c.if-not-is_there.false ∙ c.in_ok-is_there.ensures.looked.told now kept st) in
     subst (λ (h : Held g.row.M.Denot). PoolCalled M.geometry M.stands h new call (Gave (sectors_of c.read_range.new.out))) e
     (read_by laws was was.disk new.disk c.args.id c.args.sector (length c.args.out.now / 512) c.read_range.new.out (Ok tt) works refl there
-    (lies_in M.geometry M.stands (law_within met.within) was c.args.id (c.args.sector + length c.args.out.now / 512)
+    (lies_in M.geometry M.stands (law_within met.within) was c.args.id (c.args.sector + length c.args.out.now / 512) (search rules)
     (subst (λ (h : Held g.row.M.Denot). EndsInVolume (view M.geometry M.stands) h c.args.id (c.args.sector + length c.args.out.now / 512)) (sym e) c.requires.range))
     (g.met.D.Disk.well_formed c.self.inside.disk) c.self.invariant.1 c.in_ok-is_there.ensures.looked.state (c.in_ok-is_there.ensures.bytes (search (rules, c.if-not-is_there.false))) (λ eq. absurd (true≢false (ap is_ok eq))) tt)
 

@@ -1,4 +1,4 @@
-use Rattle.std.proofs.Common.{ap, subst, sym, take, ℕ, Err, Result}
+use Rattle.std.proofs.Common.{rules, ap, subst, sym, take, ℕ, Err, Result}
 use Rattle.std.specs.Prelude.{MatchResult}
 use Rattle.std.proofs.lemmas.Result.{err_from_is_err_and}
 use Rattle.tp_model.specs.declared.refusal.Refusal.{Refusal}
@@ -23,7 +23,7 @@ returns-in_err-status-clause-called g c =
     (λ reason. PoolRefused g.M.Metadata.geometry g.M.Metadata.stands old new (ThinStatus c.args.id) reason)) (sym p.1)
     (subst (λ (r : Refusal). PoolRefused g.M.Metadata.geometry g.M.Metadata.stands old new (ThinStatus c.args.id) r) (sym p.2)
     (subst (λ (h : Held g.row.M.Denot). PoolRefused g.M.Metadata.geometry g.M.Metadata.stands old h (ThinStatus c.args.id) x) (sym told.held)
-    (thin_refused laws old c.args.id x told.works told.only (λ e now kept st. told.absent (ap (λ (r : Refusal). Err r) e) now kept st)
+    (thin_refused laws old c.args.id x (search rules) told.works told.only (λ e now kept st. told.absent (ap (λ (r : Refusal). Err r) e) now kept st)
     (λ e now kept st. told.damaged (ap (λ (r : Refusal). Err r) e) now kept st))))
 
 pub returns-clause-called : goal.returns-clause-called

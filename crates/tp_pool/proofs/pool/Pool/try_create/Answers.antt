@@ -1,4 +1,4 @@
-use Rattle.std.proofs.Common.{ap, refl, subst, sym, ◌≡◌, ◌∙◌, ◌+◌, ◌≤◌, false, true, Err}
+use Rattle.std.proofs.Common.{rules, ap, refl, subst, sym, ◌≡◌, ◌∙◌, ◌+◌, ◌≤◌, false, true, Err}
 use Rattle.std.specs.Prelude.{Result}
 use Rattle.std.proofs.lemmas.Result.{err_from_is_err_and}
 use Rattle.tp_model.specs.declared.refusal.Refusal.{Refusal}
@@ -44,7 +44,7 @@ returns-in_err-test_new-clause-called g c =
     exit_is (λ (r : Result (Unit {0}) Refusal). PoolTried g.M.Metadata.geometry g.M.Metadata.stands old c.test_new.new.self (create_call id origin) r)
     c.from_residual.result x p.0 p.1 (sym p.2)
     (subst (λ (h : Held g.row.M.Denot). PoolRefused g.M.Metadata.geometry g.M.Metadata.stands old (failed_by x h) (create_call id origin) x) (sym told.held)
-    (create_tested laws id origin old x c.requires.works writes told.told (λ e now kept st. told.damaged (ap (λ (r : Refusal). Err r) e) now kept st) told.only))
+    (create_tested laws id origin old x ((search rules), c.test_new.ensures.low) c.requires.works writes told.told (λ e now kept st. told.damaged (ap (λ (r : Refusal). Err r) e) now kept st) told.only))
 
 pub returns-then-lacks_metadata-clause-called : goal.returns-then-lacks_metadata-clause-called
 returns-then-lacks_metadata-clause-called g c =
@@ -62,7 +62,7 @@ returns-then-lacks_metadata-clause-called g c =
     let writes : is_read_only c.args.self.now.mode ≡ false =
     sym (ap (λ (h : Held g.row.M.Denot). is_read_only h.mode) c.self.view_is) ∙ sym c.is_read_only.ensures ∙ c.if-is_read_only.false in
     let tested : IsReady g.M.Metadata.stands c.args.id c.args.origin.now c.args.self.now old =
-    ready g.M.Metadata.stands c.args.id c.args.origin.now c.args.self.now old view c.requires.works writes c.in_ok-test_new.ensures.told in
+    ready g.M.Metadata.stands c.args.id c.args.origin.now c.args.self.now old view c.requires.works writes ((search rules), c.test_new.ensures.low) c.in_ok-test_new.ensures.told in
     create_refused laws c.args.id c.args.origin.now c.args.self.now old tested c.lacks_metadata.result c.lacks_metadata.ensures c.refuse_for_room.new.self c.refuse_for_room.result c.if-lacks_metadata.true
     (subst (λ (h : Held g.row.M.Denot). (any : Call) → LacksRoom g.M.Metadata.geometry g.M.Metadata.stands h any → PoolTried g.M.Metadata.geometry g.M.Metadata.stands h c.refuse_for_room.new.self any c.refuse_for_room.result)
     (sym c.self-2.view_is) c.refuse_for_room.ensures.called)
@@ -83,7 +83,7 @@ returns-in_err-reclaim-clause-called g c =
     let writes : is_read_only c.args.self.now.mode ≡ false =
     sym (ap (λ (h : Held g.row.M.Denot). is_read_only h.mode) c.self.view_is) ∙ sym c.is_read_only.ensures ∙ c.if-is_read_only.false in
     let tested : IsReady g.M.Metadata.stands c.args.id c.args.origin.now c.args.self.now old =
-    ready g.M.Metadata.stands c.args.id c.args.origin.now c.args.self.now old view c.requires.works writes c.in_ok-test_new.ensures.told in
+    ready g.M.Metadata.stands c.args.id c.args.origin.now c.args.self.now old view c.requires.works writes ((search rules), c.test_new.ensures.low) c.in_ok-test_new.ensures.told in
     let new : Held g.row.M.Denot = record old { disk = g.D.Disk.state c.reclaim.new.disk; metadata = c.reclaim.new.metadata } in
     let p = err_from_is_err_and c.from_residual-in_err-reclaim.result c.from_residual-in_err-reclaim.ensures.1 in
     let x = c.in_err-reclaim.field-0.0 in
@@ -109,7 +109,7 @@ returns-in_err-add-clause-called g c =
     let writes : is_read_only c.args.self.now.mode ≡ false =
     sym (ap (λ (h : Held g.row.M.Denot). is_read_only h.mode) c.self.view_is) ∙ sym c.is_read_only.ensures ∙ c.if-is_read_only.false in
     let tested : IsReady g.M.Metadata.stands c.args.id c.args.origin.now c.args.self.now old =
-    ready g.M.Metadata.stands c.args.id c.args.origin.now c.args.self.now old view c.requires.works writes c.in_ok-test_new.ensures.told in
+    ready g.M.Metadata.stands c.args.id c.args.origin.now c.args.self.now old view c.requires.works writes ((search rules), c.test_new.ensures.low) c.in_ok-test_new.ensures.told in
     let new : Held g.row.M.Denot = record old { disk = g.D.Disk.state c.add.new.disk; metadata = c.add.new.metadata } in
     let p = err_from_is_err_and c.from_residual-in_err-add.result c.from_residual-in_err-add.ensures.1 in
     let x = refusal_of c.in_err-add.field-0.0 in
@@ -137,7 +137,7 @@ returns-clause-called g c =
     let writes : is_read_only c.args.self.now.mode ≡ false =
     sym (ap (λ (h : Held g.row.M.Denot). is_read_only h.mode) c.self.view_is) ∙ sym c.is_read_only.ensures ∙ c.if-is_read_only.false in
     let tested : IsReady g.M.Metadata.stands c.args.id c.args.origin.now c.args.self.now old =
-    ready g.M.Metadata.stands c.args.id c.args.origin.now c.args.self.now old view c.requires.works writes c.in_ok-test_new.ensures.told in
+    ready g.M.Metadata.stands c.args.id c.args.origin.now c.args.self.now old view c.requires.works writes ((search rules), c.test_new.ensures.low) c.in_ok-test_new.ensures.told in
     create_then_kept laws c.args.id c.args.origin.now c.args.self.now old tested c.lacks_metadata.result c.lacks_metadata.ensures c.if-lacks_metadata.false
     c.reclaim.new.metadata (g.D.Disk.state c.reclaim.new.disk) c.reclaim.ensures.geometry c.reclaim.ensures.time c.in_ok-reclaim.ensures.cause c.reclaim.ensures.left c.in_ok-reclaim.ensures.done
     c.add.new.metadata (g.D.Disk.state c.add.new.disk) c.add.ensures.altered.changing
@@ -223,7 +223,7 @@ returns-then-lacks_metadata-clause-flushes g c =
     let writes : is_read_only c.args.self.now.mode ≡ false =
     sym (ap (λ (h : Held g.row.M.Denot). is_read_only h.mode) c.self.view_is) ∙ sym c.is_read_only.ensures ∙ c.if-is_read_only.false in
     let tested : IsReady g.M.Metadata.stands c.args.id c.args.origin.now c.args.self.now old =
-    ready g.M.Metadata.stands c.args.id c.args.origin.now c.args.self.now old view c.requires.works writes c.in_ok-test_new.ensures.told in
+    ready g.M.Metadata.stands c.args.id c.args.origin.now c.args.self.now old view c.requires.works writes ((search rules), c.test_new.ensures.low) c.in_ok-test_new.ensures.told in
     create_flushed_short laws c.args.id c.args.origin.now c.args.self.now old tested c.lacks_metadata.result c.lacks_metadata.ensures c.refuse_for_room.new.self.disk c.if-lacks_metadata.true
     (subst (λ (h : Held g.row.M.Denot). (h.disk.flushes ≤ c.refuse_for_room.new.self.disk.flushes) × (c.refuse_for_room.new.self.disk.flushes ≤ h.disk.flushes + 2))
     (sym c.self-2.view_is) c.refuse_for_room.ensures.flushes)
@@ -244,7 +244,7 @@ returns-in_err-reclaim-clause-flushes g c =
     let writes : is_read_only c.args.self.now.mode ≡ false =
     sym (ap (λ (h : Held g.row.M.Denot). is_read_only h.mode) c.self.view_is) ∙ sym c.is_read_only.ensures ∙ c.if-is_read_only.false in
     let tested : IsReady g.M.Metadata.stands c.args.id c.args.origin.now c.args.self.now old =
-    ready g.M.Metadata.stands c.args.id c.args.origin.now c.args.self.now old view c.requires.works writes c.in_ok-test_new.ensures.told in
+    ready g.M.Metadata.stands c.args.id c.args.origin.now c.args.self.now old view c.requires.works writes ((search rules), c.test_new.ensures.low) c.in_ok-test_new.ensures.told in
     create_before laws c.args.id c.args.origin.now c.args.self.now old tested c.lacks_metadata.result c.lacks_metadata.ensures c.if-lacks_metadata.false c.reclaim.new.metadata (g.D.Disk.state c.reclaim.new.disk) c.reclaim.ensures.flushes c.reclaim.ensures.idle (g.D.Disk.state c.reclaim.new.disk) refl
 
 pub returns-in_err-add-clause-flushes : goal.returns-in_err-add-clause-flushes
@@ -263,7 +263,7 @@ returns-in_err-add-clause-flushes g c =
     let writes : is_read_only c.args.self.now.mode ≡ false =
     sym (ap (λ (h : Held g.row.M.Denot). is_read_only h.mode) c.self.view_is) ∙ sym c.is_read_only.ensures ∙ c.if-is_read_only.false in
     let tested : IsReady g.M.Metadata.stands c.args.id c.args.origin.now c.args.self.now old =
-    ready g.M.Metadata.stands c.args.id c.args.origin.now c.args.self.now old view c.requires.works writes c.in_ok-test_new.ensures.told in
+    ready g.M.Metadata.stands c.args.id c.args.origin.now c.args.self.now old view c.requires.works writes ((search rules), c.test_new.ensures.low) c.in_ok-test_new.ensures.told in
     create_before laws c.args.id c.args.origin.now c.args.self.now old tested c.lacks_metadata.result c.lacks_metadata.ensures c.if-lacks_metadata.false c.reclaim.new.metadata (g.D.Disk.state c.reclaim.new.disk) c.reclaim.ensures.flushes c.reclaim.ensures.idle (g.D.Disk.state c.add.new.disk) c.in_err-add.ensures.altered.ran.flushes
 
 pub returns-clause-flushes : goal.returns-clause-flushes
@@ -282,7 +282,7 @@ returns-clause-flushes g c =
     let writes : is_read_only c.args.self.now.mode ≡ false =
     sym (ap (λ (h : Held g.row.M.Denot). is_read_only h.mode) c.self.view_is) ∙ sym c.is_read_only.ensures ∙ c.if-is_read_only.false in
     let tested : IsReady g.M.Metadata.stands c.args.id c.args.origin.now c.args.self.now old =
-    ready g.M.Metadata.stands c.args.id c.args.origin.now c.args.self.now old view c.requires.works writes c.in_ok-test_new.ensures.told in
+    ready g.M.Metadata.stands c.args.id c.args.origin.now c.args.self.now old view c.requires.works writes ((search rules), c.test_new.ensures.low) c.in_ok-test_new.ensures.told in
     create_behind laws c.args.id c.args.origin.now c.args.self.now old tested c.lacks_metadata.result c.lacks_metadata.ensures c.if-lacks_metadata.false c.reclaim.new.metadata (g.D.Disk.state c.reclaim.new.disk) c.reclaim.ensures.flushes c.reclaim.ensures.idle
     (g.D.Disk.state c.add.new.disk) (g.D.Disk.state c.keep.new.disk) c.in_ok-add.ensures.altered.ran.flushes c.keep.ensures.ran.flushes
 
@@ -331,7 +331,7 @@ returns-clause-used g c =
     let writes : is_read_only c.args.self.now.mode ≡ false =
     sym (ap (λ (h : Held g.row.M.Denot). is_read_only h.mode) c.self.view_is) ∙ sym c.is_read_only.ensures ∙ c.if-is_read_only.false in
     let tested : IsReady g.M.Metadata.stands c.args.id c.args.origin.now c.args.self.now old =
-    ready g.M.Metadata.stands c.args.id c.args.origin.now c.args.self.now old view c.requires.works writes c.in_ok-test_new.ensures.told in
+    ready g.M.Metadata.stands c.args.id c.args.origin.now c.args.self.now old view c.requires.works writes ((search rules), c.test_new.ensures.low) c.in_ok-test_new.ensures.told in
     create_uses laws c.args.id c.args.origin.now c.args.self.now old tested c.lacks_metadata.result c.lacks_metadata.ensures c.if-lacks_metadata.false
     c.reclaim.new.metadata (g.D.Disk.state c.reclaim.new.disk) c.reclaim.ensures.geometry c.reclaim.ensures.time c.in_ok-reclaim.ensures.cause c.reclaim.ensures.left c.in_ok-reclaim.ensures.done
     c.add.new.metadata (g.D.Disk.state c.add.new.disk) c.add.ensures.altered.changing

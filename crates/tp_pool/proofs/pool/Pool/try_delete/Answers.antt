@@ -1,4 +1,4 @@
-use Rattle.std.proofs.Common.{ap, refl, subst, sym, ◌≡◌, ◌∙◌, false, Err}
+use Rattle.std.proofs.Common.{rules, ap, refl, subst, sym, ◌≡◌, ◌∙◌, ◌+◌, ◌≤◌, false, Err}
 use Rattle.std.specs.Prelude.{Result}
 use Rattle.std.proofs.lemmas.Result.{err_from_is_err_and}
 use Rattle.tp_model.specs.declared.refusal.Refusal.{Refusal}
@@ -6,13 +6,14 @@ use Rattle.tp_model.specs.declared.refusal.Refusal.TheVariants.{ReadOnly}
 use Rattle.tp_counts.specs.declared.error.StoreError.{StoreError}
 use Rattle.tp_counts.specs.StoreErrors.{refusal_of}
 use Rattle.tp_counts.proofs.Refusing.{damaged_so, refused_so}
-use Rattle.tp_model.specs.Calls.{Delete, is_read_only}
-use Rattle.tp_pool.specs.Held.{Held, IsTried, PoolRefused, PoolTried, failed_by}
+use Rattle.tp_model.specs.Calls.{Call, Delete, is_read_only}
+use Rattle.tp_pool.specs.Held.{Held, IsTried, LacksRoom, PoolRefused, PoolTried, failed_by}
 use Rattle.tp_pool.proofs.Calling.{Laws}
-use Rattle.tp_pool.proofs.Deleting.{IsDeletable, deletable, delete_before, delete_behind, delete_failed, delete_kept, delete_read_only, delete_read_only_called, delete_refused, delete_tested, delete_then_kept, delete_unreclaimed, delete_uses, failure_deletes_nothing, old_commits}
+use Rattle.tp_pool.proofs.Behind.{short_uses}
+use Rattle.tp_pool.proofs.Deleting.{IsDeletable, deletable, delete_before, delete_behind, delete_failed, delete_kept, delete_read_only, delete_read_only_called, delete_refused, delete_short, delete_tested, delete_then_kept, delete_unreclaimed, delete_uses, failure_deletes_nothing, old_commits, removal_flushed_short, removal_refused}
 use Rattle.tp_pool.proofs.Serving.{exit_is}
 use Rattle.tp_pool.proofs.Putting.{writable_is}
-use Rattle.tp_pool.proofs.Flushing.{changed_failed, changed_kept, changed_nothing, changed_read, counted_nothing}
+use Rattle.tp_pool.proofs.Flushing.{changed_failed, changed_kept, changed_nothing, changed_read, changed_short, counted_nothing}
 use Rattle.tp_pool.proofs.pool.Pool.try_delete.Goals as goal
 
 pub returns-then-is_read_only-clause-called : goal.returns-then-is_read_only-clause-called
@@ -36,7 +37,7 @@ returns-in_err-test_old-clause-called g c =
     exit_is (λ (r : Result (Unit {0}) Refusal). PoolTried g.M.Metadata.geometry g.M.Metadata.stands c.args.self.now c.test_old.new.self (Delete c.args.id) r)
     c.from_residual.result x p.0 p.1 (sym p.2)
     (subst (λ (h : Held g.row.M.Denot). PoolRefused g.M.Metadata.geometry g.M.Metadata.stands c.args.self.now (failed_by x h) (Delete c.args.id) x) (sym told.held)
-    (delete_tested laws c.args.id c.args.self.now x c.requires.works writes told.told (λ e now kept st. told.damaged (ap (λ (r : Refusal). Err r) e) now kept st) told.only))
+    (delete_tested laws c.args.id c.args.self.now x (search rules) c.requires.works writes told.told (λ e now kept st. told.damaged (ap (λ (r : Refusal). Err r) e) now kept st) told.only))
 
 pub returns-in_err-reclaim_metadata-clause-called : goal.returns-in_err-reclaim_metadata-clause-called
 returns-in_err-reclaim_metadata-clause-called g c =
@@ -54,13 +55,13 @@ returns-in_err-reclaim_metadata-clause-called g c =
     let writes : is_read_only c.args.self.now.mode ≡ false =
     sym (ap (λ (h : Held g.row.M.Denot). is_read_only h.mode) c.self.view_is) ∙ sym c.is_read_only.ensures ∙ c.if-is_read_only.false in
     let tested : IsDeletable g.M.Metadata.stands c.args.id c.args.self.now old =
-    deletable g.M.Metadata.stands c.args.id c.args.self.now old view c.requires.works writes c.in_ok-test_old.ensures.told in
+    deletable g.M.Metadata.stands c.args.id c.args.self.now old view c.requires.works writes (search rules) c.in_ok-test_old.ensures.told in
     let new : Held g.row.M.Denot = record old { disk = g.D.Disk.state c.reclaim_metadata.new.disk; metadata = c.reclaim_metadata.new.metadata } in
     let p = err_from_is_err_and c.from_residual-in_err-reclaim_metadata.result c.from_residual-in_err-reclaim_metadata.ensures.1 in
     let x = c.in_err-reclaim_metadata.field-0.0 in
     exit_is (λ (r : Result (Unit {0}) Refusal). PoolTried g.M.Metadata.geometry g.M.Metadata.stands c.args.self.now new (Delete c.args.id) r)
     c.from_residual-in_err-reclaim_metadata.result x p.0 p.1 (sym p.2)
-    (delete_unreclaimed laws c.args.id c.args.self.now old tested x c.reclaim_metadata.new.metadata (g.D.Disk.state c.reclaim_metadata.new.disk) c.reclaim_metadata.ensures.geometry c.reclaim_metadata.ensures.time c.in_err-reclaim_metadata.ensures.cause c.reclaim_metadata.ensures.left
+    (delete_unreclaimed laws c.args.id c.args.self.now old tested c.lacks_for_removal.result c.lacks_for_removal.ensures c.if-lacks_for_removal.false x c.reclaim_metadata.new.metadata (g.D.Disk.state c.reclaim_metadata.new.disk) c.reclaim_metadata.ensures.geometry c.reclaim_metadata.ensures.time c.in_err-reclaim_metadata.ensures.cause c.reclaim_metadata.ensures.left
     (λ is now kept st spare. c.in_err-reclaim_metadata.ensures.damaged (ap (λ (r : Refusal). Err r) is) now kept st spare) c.in_err-reclaim_metadata.ensures.only)
 
 pub returns-in_err-delete-clause-called : goal.returns-in_err-delete-clause-called
@@ -79,13 +80,13 @@ returns-in_err-delete-clause-called g c =
     let writes : is_read_only c.args.self.now.mode ≡ false =
     sym (ap (λ (h : Held g.row.M.Denot). is_read_only h.mode) c.self.view_is) ∙ sym c.is_read_only.ensures ∙ c.if-is_read_only.false in
     let tested : IsDeletable g.M.Metadata.stands c.args.id c.args.self.now old =
-    deletable g.M.Metadata.stands c.args.id c.args.self.now old view c.requires.works writes c.in_ok-test_old.ensures.told in
+    deletable g.M.Metadata.stands c.args.id c.args.self.now old view c.requires.works writes (search rules) c.in_ok-test_old.ensures.told in
     let new : Held g.row.M.Denot = record old { disk = g.D.Disk.state c.delete.new.disk; metadata = c.delete.new.self } in
     let p = err_from_is_err_and c.from_residual-in_err-delete.result c.from_residual-in_err-delete.ensures.1 in
     let x = refusal_of c.in_err-delete.field-0.0 in
     exit_is (λ (r : Result (Unit {0}) Refusal). PoolTried g.M.Metadata.geometry g.M.Metadata.stands c.args.self.now new (Delete c.args.id) r)
     c.from_residual-in_err-delete.result x p.0 p.1 (sym p.2)
-    (delete_failed laws c.args.id c.args.self.now old tested c.reclaim_metadata.new.metadata (g.D.Disk.state c.reclaim_metadata.new.disk) c.reclaim_metadata.ensures.geometry c.reclaim_metadata.ensures.time c.in_ok-reclaim_metadata.ensures.cause c.reclaim_metadata.ensures.left
+    (delete_failed laws c.args.id c.args.self.now old tested c.lacks_for_removal.result c.lacks_for_removal.ensures c.if-lacks_for_removal.false c.reclaim_metadata.new.metadata (g.D.Disk.state c.reclaim_metadata.new.disk) c.reclaim_metadata.ensures.geometry c.reclaim_metadata.ensures.time c.in_ok-reclaim_metadata.ensures.cause c.reclaim_metadata.ensures.left
     c.in_ok-reclaim_metadata.ensures.done c.delete.new.self (g.D.Disk.state c.delete.new.disk) c.delete.ensures.changing x c.in_err-delete.ensures.ran
     (λ is now kept st there. c.in_err-delete.ensures.damaged (ap (λ (r : StoreError). Err r) (damaged_so c.in_err-delete.field-0.0 is)) now kept st there) (refused_so c.in_err-delete.field-0.0))
 
@@ -105,8 +106,8 @@ returns-clause-called g c =
     let writes : is_read_only c.args.self.now.mode ≡ false =
     sym (ap (λ (h : Held g.row.M.Denot). is_read_only h.mode) c.self.view_is) ∙ sym c.is_read_only.ensures ∙ c.if-is_read_only.false in
     let tested : IsDeletable g.M.Metadata.stands c.args.id c.args.self.now old =
-    deletable g.M.Metadata.stands c.args.id c.args.self.now old view c.requires.works writes c.in_ok-test_old.ensures.told in
-    delete_then_kept laws c.args.id c.args.self.now old tested c.reclaim_metadata.new.metadata (g.D.Disk.state c.reclaim_metadata.new.disk) c.reclaim_metadata.ensures.geometry c.reclaim_metadata.ensures.time c.in_ok-reclaim_metadata.ensures.cause c.reclaim_metadata.ensures.left
+    deletable g.M.Metadata.stands c.args.id c.args.self.now old view c.requires.works writes (search rules) c.in_ok-test_old.ensures.told in
+    delete_then_kept laws c.args.id c.args.self.now old tested c.lacks_for_removal.result c.lacks_for_removal.ensures c.if-lacks_for_removal.false c.reclaim_metadata.new.metadata (g.D.Disk.state c.reclaim_metadata.new.disk) c.reclaim_metadata.ensures.geometry c.reclaim_metadata.ensures.time c.in_ok-reclaim_metadata.ensures.cause c.reclaim_metadata.ensures.left
     c.in_ok-reclaim_metadata.ensures.done c.delete.new.self (g.D.Disk.state c.delete.new.disk) c.delete.ensures.changing c.in_ok-delete.ensures.ran
     (λ now kept st there. (c.in_ok-delete.ensures.made now kept st there).0)
     c.keep.new.metadata (g.D.Disk.state c.keep.new.disk) c.keep.ensures.geometry c.keep.ensures.ran.time c.keep.ensures.left
@@ -180,8 +181,8 @@ returns-in_err-reclaim_metadata-clause-flushes g c =
     let writes : is_read_only c.args.self.now.mode ≡ false =
     sym (ap (λ (h : Held g.row.M.Denot). is_read_only h.mode) c.self.view_is) ∙ sym c.is_read_only.ensures ∙ c.if-is_read_only.false in
     let tested : IsDeletable g.M.Metadata.stands c.args.id c.args.self.now old =
-    deletable g.M.Metadata.stands c.args.id c.args.self.now old view c.requires.works writes c.in_ok-test_old.ensures.told in
-    delete_before laws c.args.id c.args.self.now old tested c.reclaim_metadata.new.metadata (g.D.Disk.state c.reclaim_metadata.new.disk) c.reclaim_metadata.ensures.flushes c.reclaim_metadata.ensures.idle (g.D.Disk.state c.reclaim_metadata.new.disk) refl
+    deletable g.M.Metadata.stands c.args.id c.args.self.now old view c.requires.works writes (search rules) c.in_ok-test_old.ensures.told in
+    delete_before laws c.args.id c.args.self.now old tested c.lacks_for_removal.result c.lacks_for_removal.ensures c.if-lacks_for_removal.false c.reclaim_metadata.new.metadata (g.D.Disk.state c.reclaim_metadata.new.disk) c.reclaim_metadata.ensures.flushes c.reclaim_metadata.ensures.idle (g.D.Disk.state c.reclaim_metadata.new.disk) refl
 
 pub returns-in_err-delete-clause-flushes : goal.returns-in_err-delete-clause-flushes
 returns-in_err-delete-clause-flushes g c =
@@ -199,8 +200,8 @@ returns-in_err-delete-clause-flushes g c =
     let writes : is_read_only c.args.self.now.mode ≡ false =
     sym (ap (λ (h : Held g.row.M.Denot). is_read_only h.mode) c.self.view_is) ∙ sym c.is_read_only.ensures ∙ c.if-is_read_only.false in
     let tested : IsDeletable g.M.Metadata.stands c.args.id c.args.self.now old =
-    deletable g.M.Metadata.stands c.args.id c.args.self.now old view c.requires.works writes c.in_ok-test_old.ensures.told in
-    delete_before laws c.args.id c.args.self.now old tested c.reclaim_metadata.new.metadata (g.D.Disk.state c.reclaim_metadata.new.disk) c.reclaim_metadata.ensures.flushes c.reclaim_metadata.ensures.idle (g.D.Disk.state c.delete.new.disk) c.in_err-delete.ensures.ran.flushes
+    deletable g.M.Metadata.stands c.args.id c.args.self.now old view c.requires.works writes (search rules) c.in_ok-test_old.ensures.told in
+    delete_before laws c.args.id c.args.self.now old tested c.lacks_for_removal.result c.lacks_for_removal.ensures c.if-lacks_for_removal.false c.reclaim_metadata.new.metadata (g.D.Disk.state c.reclaim_metadata.new.disk) c.reclaim_metadata.ensures.flushes c.reclaim_metadata.ensures.idle (g.D.Disk.state c.delete.new.disk) c.in_err-delete.ensures.ran.flushes
 
 pub returns-clause-flushes : goal.returns-clause-flushes
 returns-clause-flushes g c =
@@ -218,8 +219,8 @@ returns-clause-flushes g c =
     let writes : is_read_only c.args.self.now.mode ≡ false =
     sym (ap (λ (h : Held g.row.M.Denot). is_read_only h.mode) c.self.view_is) ∙ sym c.is_read_only.ensures ∙ c.if-is_read_only.false in
     let tested : IsDeletable g.M.Metadata.stands c.args.id c.args.self.now old =
-    deletable g.M.Metadata.stands c.args.id c.args.self.now old view c.requires.works writes c.in_ok-test_old.ensures.told in
-    delete_behind laws c.args.id c.args.self.now old tested c.reclaim_metadata.new.metadata (g.D.Disk.state c.reclaim_metadata.new.disk) c.reclaim_metadata.ensures.flushes c.reclaim_metadata.ensures.idle
+    deletable g.M.Metadata.stands c.args.id c.args.self.now old view c.requires.works writes (search rules) c.in_ok-test_old.ensures.told in
+    delete_behind laws c.args.id c.args.self.now old tested c.lacks_for_removal.result c.lacks_for_removal.ensures c.if-lacks_for_removal.false c.reclaim_metadata.new.metadata (g.D.Disk.state c.reclaim_metadata.new.disk) c.reclaim_metadata.ensures.flushes c.reclaim_metadata.ensures.idle
     (g.D.Disk.state c.delete.new.disk) (g.D.Disk.state c.keep.new.disk) c.in_ok-delete.ensures.ran.flushes c.keep.ensures.ran.flushes
 
 pub returns-then-is_read_only-clause-changes : goal.returns-then-is_read_only-clause-changes
@@ -265,8 +266,67 @@ returns-clause-used g c =
     let writes : is_read_only c.args.self.now.mode ≡ false =
     sym (ap (λ (h : Held g.row.M.Denot). is_read_only h.mode) c.self.view_is) ∙ sym c.is_read_only.ensures ∙ c.if-is_read_only.false in
     let tested : IsDeletable g.M.Metadata.stands c.args.id c.args.self.now old =
-    deletable g.M.Metadata.stands c.args.id c.args.self.now old view c.requires.works writes c.in_ok-test_old.ensures.told in
-    delete_uses laws c.args.id c.args.self.now old tested c.reclaim_metadata.new.metadata (g.D.Disk.state c.reclaim_metadata.new.disk) c.reclaim_metadata.ensures.geometry c.reclaim_metadata.ensures.time c.in_ok-reclaim_metadata.ensures.cause c.reclaim_metadata.ensures.left
+    deletable g.M.Metadata.stands c.args.id c.args.self.now old view c.requires.works writes (search rules) c.in_ok-test_old.ensures.told in
+    delete_uses laws c.args.id c.args.self.now old tested c.lacks_for_removal.result c.lacks_for_removal.ensures c.if-lacks_for_removal.false c.reclaim_metadata.new.metadata (g.D.Disk.state c.reclaim_metadata.new.disk) c.reclaim_metadata.ensures.geometry c.reclaim_metadata.ensures.time c.in_ok-reclaim_metadata.ensures.cause c.reclaim_metadata.ensures.left
     c.in_ok-reclaim_metadata.ensures.done c.delete.new.self (g.D.Disk.state c.delete.new.disk) c.delete.ensures.changing c.in_ok-delete.ensures.ran
     (λ now kept st there. (c.in_ok-delete.ensures.made now kept st there).0)
     met.counted c.keep.new.metadata (g.D.Disk.state c.keep.new.disk) c.keep.result c.keep.ensures.kept
+
+pub returns-then-lacks_for_removal-clause-called : goal.returns-then-lacks_for_removal-clause-called
+returns-then-lacks_for_removal-clause-called g c =
+    let met = g.met.M.Metadata in
+    let laws : Laws g.M.Metadata.geometry g.M.Metadata.stands g.M.Metadata.marks g.M.Metadata.room =
+    record { within = met.within; honest = met.honest; left = met.left; frame = met.frame } in
+    let old : Held g.row.M.Denot =
+    record {
+      disk = g.D.Disk.state c.self-2.inside.disk;
+      metadata = c.self-2.inside.metadata;
+      holders = c.self-2.inside.holders.items;
+      mode = c.self-2.inside.mode;
+    } in
+    let view : old ≡ c.args.self.now = c.self-2.view_is ∙ c.in_ok-test_old.ensures.held in
+    let writes : is_read_only c.args.self.now.mode ≡ false =
+    sym (ap (λ (h : Held g.row.M.Denot). is_read_only h.mode) c.self.view_is) ∙ sym c.is_read_only.ensures ∙ c.if-is_read_only.false in
+    let tested : IsDeletable g.M.Metadata.stands c.args.id c.args.self.now old =
+    deletable g.M.Metadata.stands c.args.id c.args.self.now old view c.requires.works writes (search rules) c.in_ok-test_old.ensures.told in
+    removal_refused laws c.args.id c.args.self.now old tested c.lacks_for_removal.result c.lacks_for_removal.ensures c.refuse_for_room.new.self c.refuse_for_room.result c.if-lacks_for_removal.true
+    (subst (λ (h : Held g.row.M.Denot). (any : Call) → LacksRoom g.M.Metadata.geometry g.M.Metadata.stands h any → PoolTried g.M.Metadata.geometry g.M.Metadata.stands h c.refuse_for_room.new.self any c.refuse_for_room.result)
+    (sym c.self-2.view_is) c.refuse_for_room.ensures.called)
+
+pub returns-then-lacks_for_removal-clause-tried : goal.returns-then-lacks_for_removal-clause-tried
+returns-then-lacks_for_removal-clause-tried g c =
+    let writes : is_read_only c.args.self.now.mode ≡ false =
+    sym (ap (λ (h : Held g.row.M.Denot). is_read_only h.mode) c.self.view_is) ∙ sym c.is_read_only.ensures ∙ c.if-is_read_only.false in
+    let works = writable_is c.args.self.now.mode c.requires.works writes in
+    let same = c.in_ok-test_old.ensures.held in
+    subst (λ (h : Held g.row.M.Denot). IsTried h c.refuse_for_room.new.self (Delete c.args.id) c.refuse_for_room.result) same
+    (delete_short c.test_old.new.self c.refuse_for_room.new.self c.args.id (ap (λ (h : Held g.row.M.Denot). h.mode) same ∙ works) c.refuse_for_room.result c.refuse_for_room.ensures.ends)
+
+pub returns-then-lacks_for_removal-clause-flushes : goal.returns-then-lacks_for_removal-clause-flushes
+returns-then-lacks_for_removal-clause-flushes g c =
+    let met = g.met.M.Metadata in
+    let laws : Laws g.M.Metadata.geometry g.M.Metadata.stands g.M.Metadata.marks g.M.Metadata.room =
+    record { within = met.within; honest = met.honest; left = met.left; frame = met.frame } in
+    let old : Held g.row.M.Denot =
+    record {
+      disk = g.D.Disk.state c.self-2.inside.disk;
+      metadata = c.self-2.inside.metadata;
+      holders = c.self-2.inside.holders.items;
+      mode = c.self-2.inside.mode;
+    } in
+    let view : old ≡ c.args.self.now = c.self-2.view_is ∙ c.in_ok-test_old.ensures.held in
+    let writes : is_read_only c.args.self.now.mode ≡ false =
+    sym (ap (λ (h : Held g.row.M.Denot). is_read_only h.mode) c.self.view_is) ∙ sym c.is_read_only.ensures ∙ c.if-is_read_only.false in
+    let tested : IsDeletable g.M.Metadata.stands c.args.id c.args.self.now old =
+    deletable g.M.Metadata.stands c.args.id c.args.self.now old view c.requires.works writes (search rules) c.in_ok-test_old.ensures.told in
+    removal_flushed_short laws c.args.id c.args.self.now old tested c.lacks_for_removal.result c.lacks_for_removal.ensures c.refuse_for_room.new.self.disk c.if-lacks_for_removal.true
+    (subst (λ (h : Held g.row.M.Denot). (h.disk.flushes ≤ c.refuse_for_room.new.self.disk.flushes) × (c.refuse_for_room.new.self.disk.flushes ≤ h.disk.flushes + 2))
+    (sym c.self-2.view_is) c.refuse_for_room.ensures.flushes)
+
+pub returns-then-lacks_for_removal-clause-changes : goal.returns-then-lacks_for_removal-clause-changes
+returns-then-lacks_for_removal-clause-changes g c =
+    changed_short g.M.Metadata.changed (Delete c.args.id) c.test_old.new.self
+    c.refuse_for_room.new.self c.args.self.now.metadata c.refuse_for_room.result c.refuse_for_room.ensures.ends c.refuse_for_room.ensures.unchanged
+
+pub returns-then-lacks_for_removal-clause-used : goal.returns-then-lacks_for_removal-clause-used
+returns-then-lacks_for_removal-clause-used g c = short_uses _ c.test_old.new.self c.refuse_for_room.new.self c.refuse_for_room.result c.refuse_for_room.ensures.ends

@@ -1,4 +1,4 @@
-use Rattle.std.proofs.Common.{ap, refl, subst, sym, ◌≡◌, ◌∙◌, ◌+◌, ◌≤◌, false, true, Err, Ok}
+use Rattle.std.proofs.Common.{rules, ap, refl, subst, sym, ◌≡◌, ◌∙◌, ◌+◌, ◌≤◌, false, true, Err, Ok}
 use Rattle.std.specs.Prelude.{Result}
 use Rattle.std.proofs.lemmas.Result.{err_from_is_err_and}
 use Rattle.tp_model.specs.declared.refusal.Refusal.{Refusal}
@@ -33,7 +33,7 @@ returns-in_err-present-clause-called g c =
     let x = c.in_err-present.field-0.0 in
     exit_is (λ (r : Result (Unit {0}) Refusal). PoolTried M.geometry M.stands old c.test_grown.new.self (Grow id blocks) r) c.from_residual.result x p.0 p.1 (sym p.2)
     (subst (λ (h : Held g.row.M.Denot). PoolRefused M.geometry M.stands old (failed_by x h) (Grow id blocks) x) (sym told.held)
-    (grow_tested laws id blocks old x c.requires.works writes told.told (λ e now kept st. told.damaged (ap (λ (r : Refusal). Err r) e) now kept st) told.only))
+    (grow_tested laws id blocks old x (search rules) c.requires.works writes told.told (λ e now kept st. told.damaged (ap (λ (r : Refusal). Err r) e) now kept st) told.only))
 
 pub returns-then-lacks_metadata-clause-called : goal.returns-then-lacks_metadata-clause-called
 returns-then-lacks_metadata-clause-called g c =
@@ -54,7 +54,7 @@ returns-then-lacks_metadata-clause-called g c =
       mode = c.self-2.inside.mode;
     } in
     let ready : IsGrowable M.geometry M.stands id blocks present start old =
-    growable M.geometry M.stands id blocks present start old (c.self-2.view_is ∙ c.in_ok-present.ensures.held) c.requires.works writes c.in_ok-present.ensures.told in
+    growable M.geometry M.stands id blocks present start old (c.self-2.view_is ∙ c.in_ok-present.ensures.held) c.requires.works writes (search rules) c.in_ok-present.ensures.told in
     grow_refused laws id blocks present sizes.0 sizes.1 start old ready c.lacks_metadata.result c.lacks_metadata.ensures c.refuse_for_room.new.self c.refuse_for_room.result c.if-lacks_metadata.true
     (subst (λ (h : Held g.row.M.Denot). (any : Call) → LacksRoom M.geometry M.stands h any → PoolTried M.geometry M.stands h c.refuse_for_room.new.self any c.refuse_for_room.result)
     (sym c.self-2.view_is) c.refuse_for_room.ensures.called)
@@ -78,7 +78,7 @@ returns-in_err-reclaim-clause-called g c =
       mode = c.self-2.inside.mode;
     } in
     let ready : IsGrowable M.geometry M.stands id blocks present start old =
-    growable M.geometry M.stands id blocks present start old (c.self-2.view_is ∙ c.in_ok-present.ensures.held) c.requires.works writes c.in_ok-present.ensures.told in
+    growable M.geometry M.stands id blocks present start old (c.self-2.view_is ∙ c.in_ok-present.ensures.held) c.requires.works writes (search rules) c.in_ok-present.ensures.told in
     let new : Held g.row.M.Denot = record old { disk = g.D.Disk.state c.reclaim.new.disk; metadata = c.reclaim.new.metadata } in
     let p = err_from_is_err_and c.from_residual-in_err-reclaim.result c.from_residual-in_err-reclaim.ensures.1 in
     let x = c.in_err-reclaim.field-0.0 in
@@ -106,7 +106,7 @@ returns-in_err-enlarge-clause-called g c =
       mode = c.self-2.inside.mode;
     } in
     let ready : IsGrowable M.geometry M.stands id blocks present start old =
-    growable M.geometry M.stands id blocks present start old (c.self-2.view_is ∙ c.in_ok-present.ensures.held) c.requires.works writes c.in_ok-present.ensures.told in
+    growable M.geometry M.stands id blocks present start old (c.self-2.view_is ∙ c.in_ok-present.ensures.held) c.requires.works writes (search rules) c.in_ok-present.ensures.told in
     let new : Held g.row.M.Denot = record old { disk = g.D.Disk.state c.enlarge.new.disk; metadata = c.enlarge.new.metadata } in
     let p = err_from_is_err_and c.from_residual-in_err-enlarge.result c.from_residual-in_err-enlarge.ensures.1 in
     let error = c.in_err-enlarge.field-0.0 in
@@ -136,7 +136,7 @@ returns-clause-called g c =
       mode = c.self-2.inside.mode;
     } in
     let ready : IsGrowable M.geometry M.stands id blocks present start old =
-    growable M.geometry M.stands id blocks present start old (c.self-2.view_is ∙ c.in_ok-present.ensures.held) c.requires.works writes c.in_ok-present.ensures.told in
+    growable M.geometry M.stands id blocks present start old (c.self-2.view_is ∙ c.in_ok-present.ensures.held) c.requires.works writes (search rules) c.in_ok-present.ensures.told in
     grow_then_kept laws id blocks present sizes.0 sizes.1 start old ready c.lacks_metadata.result c.lacks_metadata.ensures c.if-lacks_metadata.false
     c.reclaim.new.metadata (g.D.Disk.state c.reclaim.new.disk) c.reclaim.ensures.geometry c.reclaim.ensures.time c.in_ok-reclaim.ensures.cause c.reclaim.ensures.left c.in_ok-reclaim.ensures.done
     c.enlarge.new.metadata (g.D.Disk.state c.enlarge.new.disk) (Ok tt) c.in_ok-enlarge.ensures.same c.in_ok-enlarge.ensures.altered
@@ -163,7 +163,7 @@ returns-then-lacks_metadata-clause-flushes g c =
       mode = c.self-2.inside.mode;
     } in
     let ready : IsGrowable M.geometry M.stands id blocks present start old =
-    growable M.geometry M.stands id blocks present start old (c.self-2.view_is ∙ c.in_ok-present.ensures.held) c.requires.works writes c.in_ok-present.ensures.told in
+    growable M.geometry M.stands id blocks present start old (c.self-2.view_is ∙ c.in_ok-present.ensures.held) c.requires.works writes (search rules) c.in_ok-present.ensures.told in
     grow_flushed_short laws id blocks present sizes.0 sizes.1 start old ready c.lacks_metadata.result c.lacks_metadata.ensures c.refuse_for_room.new.self.disk c.if-lacks_metadata.true
     (subst (λ (h : Held g.row.M.Denot). (h.disk.flushes ≤ c.refuse_for_room.new.self.disk.flushes) × (c.refuse_for_room.new.self.disk.flushes ≤ h.disk.flushes + 2))
     (sym c.self-2.view_is) c.refuse_for_room.ensures.flushes)
@@ -187,7 +187,7 @@ returns-in_err-reclaim-clause-flushes g c =
       mode = c.self-2.inside.mode;
     } in
     let ready : IsGrowable M.geometry M.stands id blocks present start old =
-    growable M.geometry M.stands id blocks present start old (c.self-2.view_is ∙ c.in_ok-present.ensures.held) c.requires.works writes c.in_ok-present.ensures.told in
+    growable M.geometry M.stands id blocks present start old (c.self-2.view_is ∙ c.in_ok-present.ensures.held) c.requires.works writes (search rules) c.in_ok-present.ensures.told in
     grow_before laws id blocks present sizes.0 sizes.1 start old ready c.lacks_metadata.result c.lacks_metadata.ensures c.if-lacks_metadata.false c.reclaim.new.metadata (g.D.Disk.state c.reclaim.new.disk) c.reclaim.ensures.flushes c.reclaim.ensures.idle
     (g.D.Disk.state c.reclaim.new.disk) refl
 
@@ -210,7 +210,7 @@ returns-in_err-enlarge-clause-flushes g c =
       mode = c.self-2.inside.mode;
     } in
     let ready : IsGrowable M.geometry M.stands id blocks present start old =
-    growable M.geometry M.stands id blocks present start old (c.self-2.view_is ∙ c.in_ok-present.ensures.held) c.requires.works writes c.in_ok-present.ensures.told in
+    growable M.geometry M.stands id blocks present start old (c.self-2.view_is ∙ c.in_ok-present.ensures.held) c.requires.works writes (search rules) c.in_ok-present.ensures.told in
     let ran = enlarge_ran laws id present blocks sizes.0 sizes.1 c.reclaim.new.metadata (g.D.Disk.state c.reclaim.new.disk) c.enlarge.new.metadata (g.D.Disk.state c.enlarge.new.disk) (Err c.in_err-enlarge.field-0.0) c.in_err-enlarge.ensures.same c.in_err-enlarge.ensures.altered in
     grow_before laws id blocks present sizes.0 sizes.1 start old ready c.lacks_metadata.result c.lacks_metadata.ensures c.if-lacks_metadata.false c.reclaim.new.metadata (g.D.Disk.state c.reclaim.new.disk) c.reclaim.ensures.flushes c.reclaim.ensures.idle
     (g.D.Disk.state c.enlarge.new.disk) ran.flushes
@@ -234,7 +234,7 @@ returns-clause-flushes g c =
       mode = c.self-2.inside.mode;
     } in
     let ready : IsGrowable M.geometry M.stands id blocks present start old =
-    growable M.geometry M.stands id blocks present start old (c.self-2.view_is ∙ c.in_ok-present.ensures.held) c.requires.works writes c.in_ok-present.ensures.told in
+    growable M.geometry M.stands id blocks present start old (c.self-2.view_is ∙ c.in_ok-present.ensures.held) c.requires.works writes (search rules) c.in_ok-present.ensures.told in
     let ran = enlarge_ran laws id present blocks sizes.0 sizes.1 c.reclaim.new.metadata (g.D.Disk.state c.reclaim.new.disk) c.enlarge.new.metadata (g.D.Disk.state c.enlarge.new.disk) (Ok tt) c.in_ok-enlarge.ensures.same c.in_ok-enlarge.ensures.altered in
     grow_behind laws id blocks present sizes.0 sizes.1 start old ready c.lacks_metadata.result c.lacks_metadata.ensures c.if-lacks_metadata.false c.reclaim.new.metadata (g.D.Disk.state c.reclaim.new.disk) c.reclaim.ensures.flushes c.reclaim.ensures.idle
     (g.D.Disk.state c.enlarge.new.disk) (g.D.Disk.state c.keep.new.disk) ran.flushes c.keep.ensures.ran.flushes
@@ -258,7 +258,7 @@ returns-clause-used g c =
       mode = c.self-2.inside.mode;
     } in
     let ready : IsGrowable M.geometry M.stands id blocks present start old =
-    growable M.geometry M.stands id blocks present start old (c.self-2.view_is ∙ c.in_ok-present.ensures.held) c.requires.works writes c.in_ok-present.ensures.told in
+    growable M.geometry M.stands id blocks present start old (c.self-2.view_is ∙ c.in_ok-present.ensures.held) c.requires.works writes (search rules) c.in_ok-present.ensures.told in
     grow_uses laws id blocks present sizes.0 sizes.1 start old ready c.lacks_metadata.result c.lacks_metadata.ensures c.if-lacks_metadata.false
     c.reclaim.new.metadata (g.D.Disk.state c.reclaim.new.disk) c.reclaim.ensures.geometry c.reclaim.ensures.time c.in_ok-reclaim.ensures.cause c.reclaim.ensures.left c.in_ok-reclaim.ensures.done
     c.enlarge.new.metadata (g.D.Disk.state c.enlarge.new.disk) (Ok tt) c.in_ok-enlarge.ensures.same c.in_ok-enlarge.ensures.altered

@@ -1,4 +1,4 @@
-use Rattle.std.proofs.Common.{◌+◌, ◌/◌, ap, length, refl, subst, sym, ◌≡◌, ◌∙◌, false, true, Err, arith}
+use Rattle.std.proofs.Common.{rules, ◌+◌, ◌/◌, ap, length, refl, subst, sym, ◌≡◌, ◌∙◌, false, true, Err, arith}
 use Rattle.std.specs.Prelude.{IsSome, OnOk, Result, nat_lt}
 use Rattle.tp_sharing.specs.Volumes.{device_of}
 use Rattle.tp_stored.specs.Contents.{Contents}
@@ -49,7 +49,7 @@ returns-then-not-branch-clause-called g c =
     let old = c.args.self.now in
     let works = c.requires.works in
     subst (λ (h : Held g.row.M.Denot). PoolCalled g.M.Metadata.geometry g.M.Metadata.stands old h (Write id at xs fua) (Refused NoSuchDevice)) (sym c.in_ok-find.ensures.held)
-    (none_there laws old (Write id at xs fua) id works refl (λ now kept st. sym c.if-not-branch.true ∙ c.in_ok-find.ensures.told now kept st)
+    (none_there laws old (Write id at xs fua) id (search rules) works refl (λ now kept st. sym c.if-not-branch.true ∙ c.in_ok-find.ensures.told now kept st)
     (λ s w none. write_tests_are s id at xs fua false false (is_read_only s.mode) (nat_lt 0 (length xs)) (has_metadata_room s 512) (has_data_room s (Write id at xs fua) id) w none refl refl refl refl))
 
 pub returns-then-is_read_only-clause-called : goal.returns-then-is_read_only-clause-called
@@ -66,7 +66,7 @@ returns-then-is_read_only-clause-called g c =
     subst (λ (h : Held g.row.M.Denot). PoolCalled g.M.Metadata.geometry g.M.Metadata.stands old h (Write id at xs fua) (Refused ReadOnly)) (sym c.in_ok-find.ensures.held)
     (called_tested laws old (Write id at xs fua) ReadOnly works refl (λ s. refl) refl (λ s now kept pool.
     write_tests_are s id at xs fua false true true (nat_lt 0 (length xs)) (has_metadata_room s 512) (has_data_room s (Write id at xs fua) id) (works_is laws old s now kept works pool)
-    (exists_is laws old s now kept id true pool (sym c.if-not-branch.false ∙ c.in_ok-find.ensures.told now kept pool.standing)) (ap is_read_only pool.mode_is ∙ rd) refl refl refl))
+    (exists_is laws old s now kept id true (search rules) pool (sym c.if-not-branch.false ∙ c.in_ok-find.ensures.told now kept pool.standing)) (ap is_read_only pool.mode_is ∙ rd) refl refl refl))
 
 pub returns-then-count-eq0-clause-called : goal.returns-then-count-eq0-clause-called
 returns-then-count-eq0-clause-called g c =

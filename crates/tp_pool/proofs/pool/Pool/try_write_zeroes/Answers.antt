@@ -1,4 +1,4 @@
-use Rattle.std.proofs.Common.{ap, refl, subst, sym, ◌≡◌, ◌∙◌, false, true, Err}
+use Rattle.std.proofs.Common.{rules, ap, refl, subst, sym, ◌≡◌, ◌∙◌, false, true, Err}
 use Rattle.std.specs.Prelude.{IsSome, Result, nat_lt}
 use Rattle.std.proofs.lemmas.Result.{err_from_is_err_and}
 use Rattle.tp_model.specs.declared.refusal.Refusal.{Refusal}
@@ -49,7 +49,7 @@ returns-then-not-branch-clause-called g c =
     let old = c.args.self.now in
     let works = c.requires.works in
     subst (λ (h : Held g.row.M.Denot). PoolCalled g.M.Metadata.geometry g.M.Metadata.stands old h (WriteZeroes id at count no_hole fua) (Refused NoSuchDevice)) (sym c.in_ok-find.ensures.held)
-    (none_there laws old (WriteZeroes id at count no_hole fua) id works refl (λ now kept st. sym c.if-not-branch.true ∙ c.in_ok-find.ensures.told now kept st)
+    (none_there laws old (WriteZeroes id at count no_hole fua) id (search rules) works refl (λ now kept st. sym c.if-not-branch.true ∙ c.in_ok-find.ensures.told now kept st)
     (λ s w none. zeroes_tests_are s id at count no_hole fua false false (is_read_only s.mode) (nat_lt 0 count) (has_metadata_room s 512) (has_data_room s (WriteZeroes id at count no_hole fua) id) w none refl refl refl refl))
 
 pub returns-then-is_read_only-clause-called : goal.returns-then-is_read_only-clause-called
@@ -67,7 +67,7 @@ returns-then-is_read_only-clause-called g c =
     subst (λ (h : Held g.row.M.Denot). PoolCalled g.M.Metadata.geometry g.M.Metadata.stands old h (WriteZeroes id at count no_hole fua) (Refused ReadOnly)) (sym c.in_ok-find.ensures.held)
     (called_tested laws old (WriteZeroes id at count no_hole fua) ReadOnly works refl (λ s. refl) refl (λ s now kept pool.
     zeroes_tests_are s id at count no_hole fua false true true (nat_lt 0 count) (has_metadata_room s 512) (has_data_room s (WriteZeroes id at count no_hole fua) id) (works_is laws old s now kept works pool)
-    (exists_is laws old s now kept id true pool (sym c.if-not-branch.false ∙ c.in_ok-find.ensures.told now kept pool.standing)) (ap is_read_only pool.mode_is ∙ rd) refl refl refl))
+    (exists_is laws old s now kept id true (search rules) pool (sym c.if-not-branch.false ∙ c.in_ok-find.ensures.told now kept pool.standing)) (ap is_read_only pool.mode_is ∙ rd) refl refl refl))
 
 pub returns-then-count-eq0-clause-called : goal.returns-then-count-eq0-clause-called
 returns-then-count-eq0-clause-called g c =

@@ -1,4 +1,4 @@
-use Rattle.std.proofs.Common.{◌≡◌, ℕ, ◌+◌, ◌-◌, ◌^◌, ◌<◌, false, not, Err, List, [], ◌∷◌, refl, sym, ap, subst, ◌∙◌}
+use Rattle.std.proofs.Common.{rules, ◌≡◌, ℕ, ◌+◌, ◌-◌, ◌^◌, ◌<◌, false, not, Err, List, [], ◌∷◌, refl, sym, ap, subst, ◌∙◌}
 use Rattle.std.specs.Prelude.{MatchResult, Result, nat_le, if◌then◌else◌}
 use Rattle.std.proofs.lemmas.Result.{err_from_is_err_and}
 use Rattle.tp_model.specs.declared.refusal.Refusal.{Refusal}
@@ -59,7 +59,7 @@ returns-in_default-2-clause-called g c =
     let works : is_failed c.args.self.now.mode ≡ false = sym (ap (λ (h : Held g.row.M.Denot). is_failed h.mode) c.self.view_is) ∙ sym c.is_failed.ensures ∙ c.if-is_failed.false in
     let old = c.args.self.now in
     subst (λ (h : Held g.row.M.Denot). PoolCalled M.geometry M.stands old h (VolumeBlocks c.args.id) (Refused NoSuchDevice)) (sym c.in_ok-blocks.ensures.held)
-    (none_there laws old (VolumeBlocks c.args.id) c.args.id works refl
+    (none_there laws old (VolumeBlocks c.args.id) c.args.id (search rules) works refl
     (λ now kept st. no_size laws (M.geometry old.metadata) now.volumes c.args.id c.in_ok-blocks.field-0 c.in_default-2.is (c.in_ok-blocks.ensures.told now kept st)) (λ s w e. no_device s c.args.id w e))
 
 pub returns-clause-called : goal.returns-clause-called
@@ -70,4 +70,4 @@ returns-clause-called g c =
     let works : is_failed c.args.self.now.mode ≡ false = sym (ap (λ (h : Held g.row.M.Denot). is_failed h.mode) c.self.view_is) ∙ sym c.is_failed.ensures ∙ c.if-is_failed.false in
     let old = c.args.self.now in
     subst (λ (h : Held g.row.M.Denot). PoolCalled M.geometry M.stands old h (VolumeBlocks c.args.id) (Sized c.in-Some-2.blocks)) (sym c.in_ok-blocks.ensures.held)
-    (size_by laws old c.args.id c.in-Some-2.blocks works (λ now kept st. sym c.in-Some-2.is ∙ c.in_ok-blocks.ensures.told now kept st))
+    (size_by laws old c.args.id c.in-Some-2.blocks (search rules) works (λ now kept st. sym c.in-Some-2.is ∙ c.in_ok-blocks.ensures.told now kept st))

@@ -1,4 +1,4 @@
-use Rattle.std.proofs.Common.{◌∙◌, Err, ap, arith, inl, inr, not, refl, subst, sym}
+use Rattle.std.proofs.Common.{rules, ◌∙◌, Err, ap, arith, inl, inr, not, refl, subst, sym}
 use Rattle.std.proofs.lemmas.Result.{err_from_is_err_and}
 use Rattle.tp_model.specs.Disk.{DiskState, after_read}
 use Rattle.tp_model.specs.Geometry.{Geometry}
@@ -80,7 +80,7 @@ returns-clause-told g c s shown =
       mapped_blocks = c.in-Some.mapped_blocks;
       highest_block = c.number_of.result;
     } in
-    volume_told laws old told c.args.id refl (c.block_sectors-block_sectors.ensures.value ∙ ap (λ (x : Geometry). x.block_sectors) c.geometry.ensures)
+    volume_told laws old told c.args.id (search rules) refl (c.block_sectors-block_sectors.ensures.value ∙ ap (λ (x : Geometry). x.block_sectors) c.geometry.ensures)
     (λ now kept st. sym c.in-Some.is ∙ c.in_ok-mapped_blocks.ensures.told now kept st)
     (λ now kept st. subst (IsHighest c.args.id now.volumes) (sym c.number_of.ensures)
     (c.in_ok-highest.ensures.told now kept (subst (λ (d : DiskState). g.M.Metadata.stands old.metadata d now kept) (sym c.in_ok-mapped_blocks.ensures.state) st)))

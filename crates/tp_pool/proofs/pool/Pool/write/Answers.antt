@@ -1,4 +1,4 @@
-use Rattle.std.proofs.Common.{◌+◌, ◌/◌, ap, false, length, refl, sym, true, ◌∙◌, ◌≡◌}
+use Rattle.std.proofs.Common.{rules, ◌+◌, ◌/◌, ap, false, length, refl, sym, true, ◌∙◌, ◌≡◌}
 use Rattle.std.specs.Prelude.{nat_lt}
 use Rattle.tp_model.specs.Sectors.{sectors_of}
 use Rattle.tp_model.specs.Calls.{Refused, Write, exists, has_data_room, has_metadata_room, is_failed, is_read_only}
@@ -62,4 +62,4 @@ pub try_write-answer-requires-clause-range : goal.try_write-answer-requires-clau
 try_write-answer-requires-clause-range g c limits = range_fits g.M.Metadata.geometry g.M.Metadata.stands c.args.self.now c.args.id (c.args.sector + length c.args.bytes.now / 512) limits c.requires.range
 
 pub try_write-answer-requires-clause-lies : goal.try_write-answer-requires-clause-lies
-try_write-answer-requires-clause-lies g c = lies_in g.M.Metadata.geometry g.M.Metadata.stands (law_within g.met.M.Metadata.within) c.args.self.now c.args.id (c.args.sector + length c.args.bytes.now / 512) c.requires.range
+try_write-answer-requires-clause-lies g c = lies_in g.M.Metadata.geometry g.M.Metadata.stands (law_within g.met.M.Metadata.within) c.args.self.now c.args.id (c.args.sector + length c.args.bytes.now / 512) (search rules) c.requires.range

@@ -1,4 +1,4 @@
-use Rattle.std.proofs.Common.{◌+◌, ap, refl, sym, true, ◌∙◌}
+use Rattle.std.proofs.Common.{rules, ◌+◌, ap, refl, sym, true, ◌∙◌}
 use Rattle.std.specs.Prelude.{nat_lt}
 use Rattle.tp_model.specs.declared.refusal.Refusal.TheVariants.{Failed}
 use Rattle.tp_model.specs.Calls.{Refused, WriteZeroes, exists, has_data_room, has_metadata_room, is_failed, is_read_only}
@@ -44,4 +44,4 @@ pub try_write_zeroes-answer-requires-clause-range : goal.try_write_zeroes-answer
 try_write_zeroes-answer-requires-clause-range g c limits = range_fits g.M.Metadata.geometry g.M.Metadata.stands c.args.self.now c.args.id (c.args.sector + c.args.count) limits c.requires.range
 
 pub try_write_zeroes-answer-requires-clause-lies : goal.try_write_zeroes-answer-requires-clause-lies
-try_write_zeroes-answer-requires-clause-lies g c = lies_in g.M.Metadata.geometry g.M.Metadata.stands (law_within g.met.M.Metadata.within) c.args.self.now c.args.id (c.args.sector + c.args.count) c.requires.range
+try_write_zeroes-answer-requires-clause-lies g c = lies_in g.M.Metadata.geometry g.M.Metadata.stands (law_within g.met.M.Metadata.within) c.args.self.now c.args.id (c.args.sector + c.args.count) (search rules) c.requires.range

@@ -1,0 +1,17 @@
+use Rattle.std.proofs.Common.{ap, refl}
+use Rattle.tp_model.specs.Calls.{Done, ReserveMetadataSnap}
+use Rattle.tp_pool.specs.Held.{Held}
+use Rattle.tp_pool.proofs.Meeting.{met_same}
+use Rattle.tp_served.proofs.Answered.{met_under}
+use Rattle.tp_served.proofs.calls.reserve_metadata_snap_on.Goals as goal
+
+pub returns : goal.returns
+returns g c =
+    let before = c.begin-pool.result in
+    let after = c.reserve_metadata_snap-answer.new.self in
+    let said = c.reserve_metadata_snap-answer.ensures in
+    met_under g.M.Metadata.geometry g.M.Metadata.stands g.M.Metadata.marks g.M.Metadata.room g.M.Metadata.changed g.met.M.Metadata.left
+    c.args.inside c.end-after.result before after g.K.Start.start ReserveMetadataSnap (λ x. Done) c.reserve_metadata_snap-answer.result
+    c.facts.ensures c.facts-2.ensures.line c.requires c.begin-pool.ensures c.end-after.ensures.pool c.end-after.ensures.since
+    (met_same g.M.Metadata.geometry g.M.Metadata.stands g.M.Metadata.marks g.M.Metadata.room g.M.Metadata.changed before after ReserveMetadataSnap said.geometry
+    c.reserve_metadata_snap-answer.result (λ answer. refl) (ap (λ (h : Held g.row.M.Denot). h.holders) said.held) said.called said.answered said.flushes)
