@@ -3,6 +3,7 @@
 
 use std::io::IsTerminal;
 use std::process::ExitCode;
+use tp_images::FileImages;
 use tp_program::{Terminals, program, stand_in, without_streams, without_words};
 use tp_words::words;
 
@@ -19,6 +20,7 @@ fn main(rt: HostRuntime) -> ExitCode {
     let status = match words(&rt, rt.alloc()) {
         Ok(words) => program(
             &rt,
+            &mut FileImages::new(&rt),
             rt.alloc(),
             &words,
             terminals,

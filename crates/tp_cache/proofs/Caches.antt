@@ -9,9 +9,9 @@ use Rattle.std.proofs.lemmas.Bool.{cases_eq, cases_lt}
 use Rattle.tp_model.specs.Sectors.{Sector, sectors_of}
 use Rattle.tp_model.specs.Disk.{Cell, DiskState, IsSameDisk, IsWellFormed, IsWholeCell, Touched, Writes, after_flush, after_read, after_write, cell_at, newest, seen, settled, written}
 use Rattle.tp_model.specs.DiskStops.{moments}
-use Rattle.tp_model.proofs.DiskLaws.{IsWellFormed-flushed, IsWellFormed-written, Writes-after_write, Writes-none, length-sectors_of, whole-sectors_of}
-use Rattle.tp_cache.specs.declared.step.Step.TheVariants.{NoChange, Keep, Pass, Flush}
-use Rattle.tp_cache.specs.Line.{IsLine, IsTwin, Line, Moved, after_pass, after_step, begun, followed, grown, since}
+use Rattle.tp_model.proofs.DiskLaws.{IsWellFormed-flushed, IsWellFormed-written, Touched-none, Writes-after_write, length-sectors_of, whole-sectors_of}
+use Rattle.tp_cache.specs.declared.step.Step.TheVariants.{NoChange, Keep, Pass, Unwritten, Flush}
+use Rattle.tp_cache.specs.Line.{IsLine, IsTwin, Line, Moved, after_pass, after_step, after_unwritten, begun, followed, grown, since}
 use Rattle.tp_cache.specs.Table.{Holds, IsAfter, IsCache, IsClean, IsRecent, IsTable, TiedCell, slot_of}
 use Rattle.tp_cache.proofs.Cells.{TiedCell-same, follow}
 use Rattle.tp_cache.proofs.Moments.{HasMoments-begun, HasMoments-more, HasMoments-stay, Moved-none, Moved-one, Moved-writes}
@@ -115,12 +115,12 @@ module _ (index : List ℕ) (slots : List (List ℕ)) (next used : ℕ) (line : 
         stay_cache index slots next used line cache old is index slots next used line.outer new (same_disk line.outer) same (failures ∙ was_failures) (omega (arith, flushes, was_flushes)) refl
         cache.table after.0 refl refl after.1
 
-    -- some of them
-    pub fault_cache : new.failures ≡ old.failures + 1 → IsCache index slots next used (after_step (NoChange false) [] line new)
-    fault_cache failures =
+    -- some of them, for a write that failed with that
+    pub unwritten_cache : new.failures ≡ old.failures + 1 → IsCache index slots next used (after_step Unwritten [] line new)
+    unwritten_cache failures =
         let after = out line.outer.cells was_well was_held in
-        stay_cache index slots next used line cache old is index slots next used (after_read false line.outer) new (record { size = refl; is_honest = refl }) same (failures ∙ ap (λ n. n + 1) was_failures) (omega (arith, flushes, was_flushes)) refl
-        cache.table after.0 refl refl after.1
+        more_cache index slots next used line cache old is index slots next used (after_unwritten line.outer) new (record { size = refl; is_honest = refl }) same (failures ∙ ap (λ n. n + 1) was_failures) (omega (arith, flushes, was_flushes)) refl
+        cache.table after.0 cache.well_formed refl after.1
 
     -- some of them, in a flush
     pub no_flush_cache : new.failures ≡ old.failures + 1 → IsCache index slots next used (after_step (Flush false) [] line new)
@@ -356,9 +356,15 @@ begun_cache index slots disk blocks e some few fits well =
     }
 
 -- a write of a whole block
-pub writes_by : (at : ℕ) (values : List Sector) (old new : DiskState) (ok : Bool) → new ≡ (if ok then after_write at values old else after_read false old) → at + length values ≤ length old.cells → Writes at values old new
+pub writes_by : (at : ℕ) (values : List Sector) (old new : DiskState) (ok : Bool) → new ≡ (if ok then after_write at values old else after_unwritten old) → at + length values ≤ length old.cells → Writes at values old new
 writes_by at values old new true e fits = Writes-after_write at values old new true e fits
-writes_by at values old new false e fits = Writes-none at values old new false e
+writes_by at values old new false e fits = record {
+  size = ap (λ (d : DiskState). d.size) e;
+  is_honest = ap (λ (d : DiskState). d.is_honest) e;
+  touched = subst (λ (l : List Cell). Touched at values old.cells l) (sym (ap (λ (d : DiskState). d.cells) e)) (Touched-none at values old.cells);
+  past = inl (ap (λ (d : DiskState). d.past) e);
+  flushes = ap (λ (d : DiskState). d.flushes) e;
+}
 
 pub line_is : (index : List ℕ) (slots : List (List ℕ)) (next used : ℕ) (line : Line) → IsCache index slots next used line → IsLine line
 line_is index slots next used line cache = record {

@@ -1,4 +1,4 @@
--- Internal: blocks that are held as they were read (own).
+-- Trusted reading: blocks that are held as they were read (own).
 use Rattle.std.specs.Prelude.{◌≡◌, ◌≢◌, ◌⊎◌, ℕ, List, Option, Some, nat_eq}
 use Rattle.std.specs.Map.{lookup}
 

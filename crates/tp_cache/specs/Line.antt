@@ -5,7 +5,7 @@ use Rattle.tp_model.specs.Sectors.{Sector, sectors_of}
 use Rattle.tp_model.specs.Disk.{Cell, DiskState, IsSettled, IsWellFormed, after_flush, after_read, after_write}
 use Rattle.tp_model.specs.DiskStops.{AfterStop, Leaves, moment, moments}
 use Rattle.tp_cache.specs.declared.step.Step.{Step}
-use Rattle.tp_cache.specs.declared.step.Step.TheVariants.{NoChange, Keep, Pass, Flush}
+use Rattle.tp_cache.specs.declared.step.Step.TheVariants.{NoChange, Keep, Pass, Unwritten, Flush}
 
 pub record Line : Type 0 where
   -- the disk as if each write had been done at once
@@ -43,11 +43,16 @@ after_pass at values ok outer old new = record outer {
   failures = if ok then outer.failures else outer.failures + 1;
 }
 
+-- after a write that failed and changed no sector
+abbrev pub after_unwritten : DiskState → DiskState
+after_unwritten outer = record outer { past = outer.cells ∷ outer.past; failures = outer.failures + 1 }
+
 -- after a step that left the inner disk in this state
 abbrev pub after_step : Step → List ℕ → Line → DiskState → Line
 after_step (NoChange ok) bytes line inner = record { outer = after_read ok line.outer; inner = inner; under = grown (since line.inner inner) line.under }
 after_step (Keep at) bytes line inner = record { outer = after_write at (sectors_of bytes) line.outer; inner = inner; under = since line.inner inner ∷ line.under }
 after_step (Pass at ok) bytes line inner = record { outer = after_pass at (sectors_of bytes) ok line.outer line.inner inner; inner = inner; under = since line.inner inner ∷ line.under }
+after_step Unwritten bytes line inner = record { outer = after_unwritten line.outer; inner = inner; under = since line.inner inner ∷ line.under }
 after_step (Flush ok) bytes line inner = record {
   outer = after_flush ok line.outer;
   inner = inner;
@@ -123,8 +128,9 @@ pub record FlushedAlike (old new : Line) : Type 0 where
   pub no_more : new.inner.flushes + old.outer.flushes ≤ new.outer.flushes + old.inner.flushes
   pub but_failed : new.outer.flushes + old.inner.flushes + old.outer.failures ≤ new.inner.flushes + old.outer.flushes + new.outer.failures
 
--- Time went on on the outer disk too. Where it did not, and no call failed, it did not on the inner one.
+-- Time went on on the outer disk too. Where it did not, and no call flushed it, it did not on the inner one: so a call that only reads the one
+-- writes nothing to the other, also where it fails.
 pub record GoesAlong (old new : Line) : Type 0 where
   pub joined : drop (length (moments new.outer) - length (moments old.outer)) (moments new.outer) ≡ moments old.outer
-  pub failures : old.outer.failures ≤ new.outer.failures
-  pub still : moment new.outer ≡ moment old.outer → new.outer.failures ≡ old.outer.failures → moment new.inner ≡ moment old.inner
+  pub flushes : old.outer.flushes ≤ new.outer.flushes
+  pub still : moment new.outer ≡ moment old.outer → new.outer.flushes ≡ old.outer.flushes → moment new.inner ≡ moment old.inner

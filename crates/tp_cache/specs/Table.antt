@@ -1,4 +1,4 @@
--- Internal: a table of dirty blocks, and what it says of the two disks (own).
+-- Trusted reading: a table of dirty blocks, and what it says of the two disks (own).
 use Rattle.std.specs.Prelude.{◌≡◌, ◌⊎◌, ℕ, ◌+◌, ◌-◌, ◌*◌, ◌/◌, ◌%◌, ◌<◌, ◌≤◌, ◌++◌, List, [], length, take, drop, slice_index_or}
 use Rattle.std.specs.List.{concat}
 use Rattle.tp_model.specs.Sectors.{Sector, bytes_at}

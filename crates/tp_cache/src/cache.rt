@@ -2,7 +2,7 @@
 ghost use Rattle.std.specs.Prelude.{◌≡◌, ◌+◌, ◌*◌, ◌/◌, ◌%◌, ◌<◌, ◌≤◌, ℕ, List, length, is_ok, IsTrue, MatchResult, OnOk, OnErr};
 ghost use Rattle.tp_model.specs.Sectors.{Sector, sectors_of, bytes_at};
 ghost use Rattle.tp_model.specs.Disk.{IsSettled, IsWellFormed, Writes, cell_at, after_flush, after_read, after_write, seen};
-ghost use Rattle.tp_model.specs.DiskStops.{AfterStop};
+ghost use Rattle.tp_model.specs.DiskStops.{AfterStop, moment};
 ghost use Rattle.tp_cache.specs.Table.{IsSameTable, MayKeep};
 ghost use Rattle.tp_cache.specs.Line.{FlushedAlike, IsLine, WentOn, begun};
 
@@ -109,6 +109,8 @@ impl<D: Disk> Disk for NodeCache<D> {
         ensures any { Writes at (sectors_of bytes.now) self.old.core.line.outer self.new.core.line.outer }
         ensures ok { OnOk result (self.new.core.line.outer ≡ after_write at (sectors_of bytes.now) self.old.core.line.outer) }
         ensures err { OnErr result (self.new.core.line.outer.failures ≡ self.old.core.line.outer.failures + 1) }
+        // A moment of the outer disk, also where it failed.
+        ensures moved { moment self.new.core.line.outer ≡ moment self.old.core.line.outer + 1 }
         ensures time { WentOn self.old.core.line.under self.new.core.line.under }
         ensures table { IsSameTable 1 self.old.core self.new.core }
         // A metadata block is kept in memory, and no call made of the inner disk, where not all slots have dirty ones.

@@ -3,7 +3,8 @@ ghost use Rattle.std.specs.Prelude.{◌≡◌, ℕ, ◌+◌, ◌*◌, ◌/◌, �
 ghost use Rattle.std.specs.Bool.{OnTrue};
 ghost use Rattle.tp_model.specs.Sectors.{sectors_of, bytes_at};
 ghost use Rattle.tp_model.specs.Disk.{IsWellFormed, cell_at, Writes, after_flush, after_read, after_write, seen};
-ghost use Rattle.tp_cache.specs.Line.{FlushedAlike, IsLine, WentOn, begun};
+ghost use Rattle.tp_model.specs.DiskStops.{moment};
+ghost use Rattle.tp_cache.specs.Line.{FlushedAlike, IsLine, WentOn, after_unwritten, begun};
 ghost use Rattle.tp_cache.specs.Table.{IsClean, IsSameTable, MayKeep, slot_of};
 
 use crate::noting::{began, noted};
@@ -106,9 +107,9 @@ impl<D: Disk> Core<D> {
         self.disk.sectors()
     }
 
-    // Writes all dirty blocks to the inner disk. After an `Ok` none is dirty.
+    // Writes all dirty blocks to the inner disk, to make room for a write. After an `Ok` none is dirty; after an `Err` that write has failed.
     fn write_out(&mut self) -> Result<(), Fault>
-        ensures outer { self.new.line.outer ≡ after_read (is_ok result) self.old.line.outer }
+        ensures outer { self.new.line.outer ≡ (if is_ok result then self.old.line.outer else after_unwritten self.old.line.outer) }
         ensures clean { OnOk result ((block : ℕ) → slot_of self.new.index block ≡ 0) }
         ensures emptied { OnOk result (self.new.used < self.new.room) }
         ensures long { length self.new.index ≡ length self.old.index }
@@ -125,7 +126,7 @@ impl<D: Disk> Core<D> {
                 Ok(())
             }
             Err(Fault) => {
-                self.trace = noted(&self.trace, &self.disk, Step::NoChange { ok: false }, &[]);
+                self.trace = noted(&self.trace, &self.disk, Step::Unwritten, &[]);
                 Err(Fault)
             }
         }
@@ -157,6 +158,7 @@ impl<D: Disk> Core<D> {
         ensures any { Writes at (sectors_of bytes.now) self.old.line.outer self.new.line.outer }
         ensures ok { OnOk result (self.new.line.outer ≡ after_write at (sectors_of bytes.now) self.old.line.outer) }
         ensures err { OnErr result (self.new.line.outer.failures ≡ self.old.line.outer.failures + 1) }
+        ensures moved { moment self.new.line.outer ≡ moment self.old.line.outer + 1 }
         ensures time { WentOn self.old.line.under self.new.line.under }
         ensures table { IsSameTable 0 self.old self.new }
         ensures flushes { self.new.line.inner.flushes ≡ self.old.line.inner.flushes }
@@ -167,7 +169,7 @@ impl<D: Disk> Core<D> {
 
     // Writes the dirty blocks out where sectors from here on may be among them.
     fn make_way(&mut self, at: u64) -> Result<(), Fault>
-        ensures outer { self.new.line.outer ≡ after_read (is_ok result) self.old.line.outer }
+        ensures outer { self.new.line.outer ≡ (if is_ok result then self.old.line.outer else after_unwritten self.old.line.outer) }
         ensures clean { OnOk result ((n : ℕ) → IsClean self.new.index at n) }
         ensures time { WentOn self.old.line.under self.new.line.under }
         ensures table { IsSameTable 0 self.old self.new }
@@ -241,7 +243,7 @@ impl<D: Disk> Core<D> {
         requires at { at ≡ 8 * block }
         requires long { length bytes.now ≡ 4096 }
         requires inside { block < length self.old.index }
-        ensures outer { self.new.line.outer ≡ (if is_ok result then after_write at (sectors_of bytes.now) self.old.line.outer else after_read false self.old.line.outer) }
+        ensures outer { self.new.line.outer ≡ (if is_ok result then after_write at (sectors_of bytes.now) self.old.line.outer else after_unwritten self.old.line.outer) }
         ensures time { WentOn self.old.line.under self.new.line.under }
         ensures table { IsSameTable 1 self.old self.new }
         ensures kept { self.old.used < self.old.room → self.new.line.inner ≡ self.old.line.inner }
@@ -313,6 +315,7 @@ impl<D: Disk> Core<D> {
         ensures any { Writes at (sectors_of bytes.now) self.old.line.outer self.new.line.outer }
         ensures ok { OnOk result (self.new.line.outer ≡ after_write at (sectors_of bytes.now) self.old.line.outer) }
         ensures err { OnErr result (self.new.line.outer.failures ≡ self.old.line.outer.failures + 1) }
+        ensures moved { moment self.new.line.outer ≡ moment self.old.line.outer + 1 }
         ensures time { WentOn self.old.line.under self.new.line.under }
         ensures table { IsSameTable 1 self.old self.new }
         ensures kept { MayKeep at (length bytes.now) self.old → self.new.line.inner ≡ self.old.line.inner }
@@ -330,6 +333,7 @@ impl<D: Disk> Core<D> {
         ensures any { Writes at (sectors_of bytes.now) self.old.line.outer self.new.line.outer }
         ensures ok { OnOk result (self.new.line.outer ≡ after_write at (sectors_of bytes.now) self.old.line.outer) }
         ensures err { OnErr result (self.new.line.outer.failures ≡ self.old.line.outer.failures + 1) }
+        ensures moved { moment self.new.line.outer ≡ moment self.old.line.outer + 1 }
         ensures time { WentOn self.old.line.under self.new.line.under }
         ensures table { IsSameTable 1 self.old self.new }
         ensures kept { MayKeep at (length bytes.now) self.old → self.new.line.inner ≡ self.old.line.inner }

@@ -58,6 +58,25 @@ fn full_pool_and_snapshot(rt: HostRuntime) -> Result<(), Fail> {
     Ok(())
 }
 
+/// What a check tells of the image of a pool that was closed, and how often it reads that block of the trees that it reads most often.
+fn told_and_most_reads(alloc: Global, pool: MemPool) -> Result<(Told, u64), Fail> {
+    let mut disk = closed(pool)?.stop(alloc, &[])?;
+    let told = told_by_check(alloc, &mut disk);
+    let mut most = 0;
+    for block in 8..1032 {
+        most = disk.reads(8 * block).max(most);
+    }
+    Ok((told, most))
+}
+
+/// A check of many snapshots takes no longer than one of all their nodes.
+#[test]
+fn shared_nodes_are_read_once(rt: HostRuntime) -> Result<(), Fail> {
+    let told = told_and_most_reads(rt.alloc(), shared(rt.alloc())?)?;
+    assert_eq!(rt; told, (Ok(()), 1));
+    Ok(())
+}
+
 /// What a check tells of what a stop leaves, and of that once it was opened and closed.
 fn told_of_left(alloc: Global, pool: &MemPool, stop: &Stop) -> Result<[Told; 2], Fail> {
     let mut left = stopped(alloc, pool.disk(), stop)?;

@@ -1,4 +1,4 @@
--- Internal: the reference counts of one part of a pool, now and as the last commit kept them (own).
+-- Trusted reading: the reference counts of one part of a pool, now and as the last commit kept them (own).
 use Rattle.std.specs.Prelude.{◌≡◌, ℕ, ◌+◌, ◌<◌, ◌==◌, ◌&&◌, Bool, true, false, nat_lt, List, length, replicate, slice_index, slice_index_or, count_by}
 use Rattle.std.specs.List.{range_with_len}
 use Rattle.tp_model.specs.Geometry.{Geometry, count_blocks}
@@ -57,13 +57,17 @@ pub record IsLeastFree (c : Counts) (b : ℕ) : Type 0 where
 abbrev pub IsUnmarked : List Bool → ℕ → Type 0
 IsUnmarked marks j = slice_index_or marks j true ≡ false
 
+-- the count block is marked
+abbrev pub IsMarked : List Bool → ℕ → Type 0
+IsMarked marks j = slice_index_or marks j false ≡ true
+
 -- each count block that is not marked has the same counts in both lists
 abbrev pub SameUnmarked : List ℕ → List ℕ → List Bool → Type 0
 SameUnmarked now kept marks = (j : ℕ) → IsUnmarked marks j → counts_in now j ≡ counts_in kept j
 
 -- each count block that is marked has other counts
 abbrev pub DifferMarked : List ℕ → List ℕ → List Bool → Type 0
-DifferMarked now kept marks = (j : ℕ) → slice_index_or marks j false ≡ true → counts_in now j ≡ counts_in kept j → ⊥
+DifferMarked now kept marks = (j : ℕ) → IsMarked marks j → counts_in now j ≡ counts_in kept j → ⊥
 
 -- of the blocks from this one on, those that are not marked spell their counts
 abbrev pub SpellOthers : List Sector → ℕ → List ℕ → List Bool → Type 0

@@ -1,4 +1,4 @@
--- Trusted reading: what a call does that only looks something up (own).
+-- Internal: what a call does that only looks something up (own).
 use Rattle.std.specs.Prelude.{◌≡◌, Result, Err, IfOk, not}
 use Rattle.tp_model.specs.Disk.{DiskState, after_read}
 use Rattle.tp_counts.specs.declared.error.StoreError.{StoreError}

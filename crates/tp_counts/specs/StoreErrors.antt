@@ -1,4 +1,4 @@
--- Trusted reading: the refusal of each error of the store (own).
+-- Internal: the refusal of each error of the store (own).
 use Rattle.std.specs.Prelude.{Bool, false, Result, Ok, Err}
 use Rattle.tp_model.specs.declared.refusal.Refusal.{Refusal}
 use Rattle.tp_model.specs.declared.refusal.Refusal.TheVariants as refusals

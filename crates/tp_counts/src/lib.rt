@@ -480,6 +480,9 @@ fn next_to_look_at(now: &[u32], kept: &[u32], free_by_run: &[u32], block: usize)
     ensures more { block < result }
     ensures most { result ≤ block + 1024 }
     ensures used { (b : ℕ) → block < b → b < result → b < length now.now → 0 < slice_index now.now b + slice_index kept.now b }
+    ensures run { slice_index free_by_run.now (block / 1024) ≡ 0 → result ≡ (block / 1024 + 1) * 1024 }
+    ensures lanes { 0 < slice_index free_by_run.now (block / 1024) → block + 17 ≤ length now.now → result < block + 17
+        → (slice_index now.now result ≡ 0) × (slice_index kept.now result ≡ 0) }
 {
     let run = block / RUN;
     if free_by_run[run] == 0 {

@@ -1,2 +1,4 @@
 mod Locking
+mod Going
+mod Framing
 mod Controlling

@@ -3,6 +3,7 @@
 ghost use Rattle.std.specs.Prelude.{◌≡◌, ◌<◌, None, length, IfOk, IfSome};
 ghost use Rattle.tp_hub.specs.Streams.{GivesSome};
 ghost use Rattle.tp_crowd.specs.Fetches.{IsFetched};
+ghost use Rattle.tp_crowd.specs.Framing.{given, passed};
 
 use crate::frames::Frames;
 use crate::polled::Polled;
@@ -52,20 +53,22 @@ struct Fetched {
     received: Received,
 }
 
-/// What is known of it: that its buffer has room, and the bytes that were read.
-#[derive(Clone, Copy, Drop)]
-struct HasBytes;
+/// What is known of it: that its buffer has room, the bytes that were read, and that the frames are followed on from where they stood before.
+#[derive(Drop)]
+pub(crate) struct Behind {
+    frames: Frames,
+}
 
-impl Promise<Fetched> for HasBytes {
+impl Promise<Fetched> for Behind {
     ghost use Rattle.tp_crowd.specs.Fetches.{IsFetched};
 
-    ghost kept_by = { λ _ fetched. IsFetched fetched };
+    ghost kept_by = { λ behind fetched. IsFetched behind.frames fetched };
 }
 
 /// Reads from a stream that waits.
 fn fetch(mut stream: TcpStream, mut frames: Frames, mut bytes: Vec<u8>) -> Fetched
     requires { 0 < length bytes.items }
-    ensures { IsFetched result }
+    ensures { IsFetched frames result }
 {
     let received = read_frames(&mut stream, &mut frames, bytes.as_mut_slice());
     Fetched {
@@ -82,7 +85,7 @@ pub(crate) struct Ahead<'c, R: Threads> {
     crew: &'c Crew,
     /// The buffer of the next read ahead, empty before the first one.
     spare: Vec<u8>,
-    under_way: Option<PromisedHandle<Fetched, HasBytes>>,
+    under_way: Option<PromisedHandle<Fetched, Behind>>,
 }
 
 /// A buffer of so many bytes: the spare one, if there is any.
@@ -98,7 +101,9 @@ fn take_buffer(alloc: Global, spare: &mut Vec<u8>, len: usize) -> Result<Vec<u8>
 
 impl<'c, R: Threads> Ahead<'c, R> {
     /// Of a client that comes.
-    pub(crate) fn new(rt: &'c R, alloc: Global, crew: &'c Crew) -> Ahead<'c, R> {
+    pub(crate) fn new(rt: &'c R, alloc: Global, crew: &'c Crew) -> Ahead<'c, R>
+        ensures { result.under_way ≡ None }
+    {
         crew.join();
         Ahead {
             rt,
@@ -114,6 +119,7 @@ impl<'c, R: Threads> Ahead<'c, R> {
     pub(crate) fn start(&mut self, stream: &mut Polled, frames: Frames, len: usize)
         requires room { 0 < len }
         requires alone { self.old.under_way ≡ None }
+        ensures { IfSome self.new.under_way (λ h. h.promise.frames ≡ frames) }
     {
         if !self.crew.is_small() || !stream.has_more() {
             return;
@@ -124,18 +130,24 @@ impl<'c, R: Threads> Ahead<'c, R> {
         let Ok(bytes) = take_buffer(self.alloc, &mut self.spare, len) else {
             return;
         };
+        let behind = Behind {
+            frames: frames.copy(),
+        };
         let read = move || -> Fetched
             requires { 0 < length bytes.items }
-            ensures { IsFetched result }
+            ensures { IsFetched frames result }
         { fetch(stream, frames, bytes) };
-        self.under_way = thread::spawn_with(self.rt, HasBytes, read).ok();
+        self.under_way = thread::spawn_with(self.rt, behind, read).ok();
     }
 
     /// What the read that is under way brings, if there is one: its buffer takes the place of the other one. Where that is not as long any more, the read has
     /// failed.
     pub(crate) fn finish(&mut self, frames: &mut Frames, buffer: &mut Vec<u8>) -> Option<Received>
-        requires { 0 < length buffer.old.items }
+        requires room { 0 < length buffer.old.items }
+        requires same { IfSome self.old.under_way (λ h. h.promise.frames ≡ frames.old) }
         ensures some { IfSome result (λ received. GivesSome received (length buffer.new.items)) }
+        ensures follows { IfSome result (λ received. frames.new ≡ passed frames.old (given received buffer.new.items)) }
+        ensures kept { result ≡ None → frames.new ≡ frames.old }
         ensures len { length buffer.new.items ≡ length buffer.old.items }
         ensures over { self.new.under_way ≡ None }
         ensures none { result ≡ None → self.old.under_way ≡ None }

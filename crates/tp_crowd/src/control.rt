@@ -1,21 +1,24 @@
 //! Clients of a listener, and beside them control lines from another one.
 
-ghost use Rattle.std.specs.Prelude.{◌≤◌};
+ghost use Rattle.std.specs.Prelude.{◌≡◌, ◌<◌, ◌≤◌, length};
 ghost use Rattle.std.specs.Iterator.{IsFinite, size};
-ghost use Rattle.tp_crowd.specs.Locked.{AnswersControl};
+ghost use Rattle.tp_hub.specs.Streams.{GivesSome, TakesSome};
+ghost use Rattle.tp_crowd.specs.Locked.{AnswersControl, CameOf, IsFrom};
 
-use crate::crowd::{Refused, Served, behind_all, not_refused};
+use crate::crowd::{Refused, Served, behind_all, not_refused, refused_by_now};
 use crate::listening::{Accepted, attend_streams};
 use crate::locked::{Alarm, HubLock, LockedDesk};
+use crate::since::Start;
 use std::alloc::Global;
 use std::io::{ErrorKind, Read, Write};
+use std::marker::Brand;
 use std::net::{TcpListener, TcpStream};
 use std::sync::Wait;
 use std::sync::atomic::{AtomicBool, Ordering};
 use std::thread::Threads;
 use std::time::{Clock, Duration};
 use std::{io, thread};
-use tp_hub::Hub;
+use tp_hub::{Hub, Log, Made, Put, Received, Stream};
 use tp_lines::{LinesEnd, attend_lines};
 use tp_model::SharedVolumes;
 use tp_msg::Managed;
@@ -47,22 +50,47 @@ where
     R: Threads + Wait + Clock + Sync,
     V: Managed + SharedVolumes + Send + Sync,
     A: Alarm + Sync,
+    ensures asked { CameOf V.view hub result.hub }
     ensures came { result.came ≤ 64 }
     ensures offered { result.came ≤ count }
     ensures refused { result.refused ≤ result.came }
 {
-    let shared = HubLock::new(hub, alarm);
+    serve_since::<R, V, A, Brand>(rt, alloc, hub, listener, count, control, alarm)
+}
+
+/// The same of a hub that is such a start.
+fn serve_since<R, V, A, K>(
+    rt: &R,
+    alloc: Global,
+    hub: Hub<V>,
+    listener: TcpListener,
+    count: u8,
+    control: &TcpListener,
+    alarm: &A,
+) -> Served<V>
+where
+    R: Threads + Wait + Clock + Sync,
+    V: Managed + SharedVolumes + Send + Sync,
+    A: Alarm + Sync,
+    K: Start<V> + Send + Sync,
+    requires { K.is_start hub }
+    ensures asked { IsFrom V.view K.is_start result.hub }
+    ensures came { result.came ≤ 64 }
+    ensures offered { result.came ≤ count }
+    ensures refused { result.refused ≤ result.came }
+{
+    let shared = HubLock::<V, A, K>::new(hub, alarm);
     let refused = std::array::from_fn(not_refused);
     let clients = Accepted::new(listener, count);
     let came = attend_both(rt, alloc, &shared, &refused, clients, control);
-    behind_all(shared, &refused, came)
+    behind_all(shared, &refused_by_now(&refused), came)
 }
 
 /// Starts the control side, serves the clients, and tells how many came when all are done.
-fn attend_both<R, V, A, I>(
+fn attend_both<R, V, A, K, I>(
     rt: &R,
     alloc: Global,
-    hub: &HubLock<'_, V, A>,
+    hub: &HubLock<'_, V, A, K>,
     refused: &Refused,
     clients: I,
     control: &TcpListener,
@@ -71,6 +99,7 @@ where
     R: Threads + Wait + Clock + Sync,
     V: Managed + SharedVolumes + Send + Sync,
     A: Alarm + Sync,
+    K: Start<V> + Send + Sync,
     I: Iterator<Item = TcpStream> + Drop,
     requires can { I.can_next clients }
     requires ends { IsFinite (I.remaining clients) }
@@ -96,10 +125,10 @@ where
 }
 
 /// Takes control clients, one after the other, until the others are gone or an accept fails.
-fn attend_control<R, V, A>(
+fn attend_control<R, V, A, K>(
     rt: &R,
     alloc: Global,
-    hub: &HubLock<'_, V, A>,
+    hub: &HubLock<'_, V, A, K>,
     control: &TcpListener,
     are_gone: &AtomicBool,
 )
@@ -107,6 +136,7 @@ where
     R: Wait + Clock,
     V: Managed + SharedVolumes,
     A: Alarm,
+    K: Start<V>,
 {
     if control.set_nonblocking(true).is_err() {
         return;
@@ -135,10 +165,10 @@ fn is_for_now(error: &io::Error) -> bool {
 }
 
 /// Answers the lines of one control client. It is dropped where no call of it can be bounded in time.
-fn attend_stream<R, V, A>(
+fn attend_stream<R, V, A, K>(
     rt: &R,
     alloc: Global,
-    hub: &HubLock<'_, V, A>,
+    hub: &HubLock<'_, V, A, K>,
     stream: &TcpStream,
     are_gone: &AtomicBool,
 )
@@ -146,6 +176,7 @@ where
     R: Wait,
     V: Managed + SharedVolumes,
     A: Alarm,
+    K: Start<V>,
 {
     if stream
         .set_read_timeout(Some(Duration::from_millis(PAUSE)))
@@ -160,49 +191,107 @@ where
         return;
     }
     let _ = stream.set_nodelay(true);
-    let mut input = Watched { stream, are_gone };
-    let mut output = stream;
-    answer_lines(rt, alloc, hub, &mut input, &mut output);
+    let mut watched = Watched::new(stream, are_gone);
+    answer_lines(rt, alloc, hub, &mut watched);
 }
 
 /// Answers control lines over a hub behind a lock, as [`attend_lines`] does over any desk. Others ask the same hub in between, so an ask for a line is known
 /// to be a run of some sessions over some pool, and not of which.
-fn answer_lines<R, V, A, I, O>(
+fn answer_lines<R, V, A, K, S>(
     rt: &R,
     alloc: Global,
-    hub: &HubLock<'_, V, A>,
-    input: &mut I,
-    output: &mut O,
+    hub: &HubLock<'_, V, A, K>,
+    stream: &mut S,
 ) -> LinesEnd
 where
     R: Wait,
     V: Managed + SharedVolumes,
     A: Alarm,
-    I: Read,
-    O: Write,
-    ensures { AnswersControl V.view (I.remaining input.old) (I.remaining input.new) (O.contents output.old) (O.contents output.new) result }
+    K: Start<V>,
+    S: Stream,
+    ensures { AnswersControl V.view (S.calls stream.old) (S.calls stream.new) result }
 {
     let mut desk = LockedDesk { rt, alloc, hub };
-    attend_lines(alloc, &mut desk, input, output)
+    attend_lines(alloc, &mut desk, stream)
 }
 
-/// What a control client sends, until the others are gone.
+/// A control client's stream, which is at its end when the others are gone. A read that waited too long counts as interrupted: it is made again, behind
+/// another look.
 #[derive(Drop)]
 struct Watched<'a> {
+    log: Log,
     stream: &'a TcpStream,
     are_gone: &'a AtomicBool,
 }
 
-impl<'a> Read for Watched<'a> {
-    /// A read that waited too long counts as interrupted: it is made again, behind another look.
-    fn read(&mut self, buffer: &mut [u8]) -> io::Result<usize> {
-        if self.are_gone.load(Ordering::SeqCst) {
-            return Ok(0);
+impl<'a> Watched<'a> {
+    /// No call of it was made yet.
+    fn new(stream: &'a TcpStream, are_gone: &'a AtomicBool) -> Watched<'a> {
+        Watched {
+            log: Log::new(),
+            stream,
+            are_gone,
         }
+    }
+}
+
+/// Reads some bytes to the front of the buffer.
+fn read_some(mut stream: &TcpStream, buffer: &mut [u8]) -> Received
+    requires { 0 < length buffer.old }
+    ensures some { GivesSome result (length buffer.new) }
+    ensures len { length buffer.new ≡ length buffer.old }
+{
+    match stream.read(buffer) {
+        Ok(0) => Received::End,
+        Ok(count) => Received::Got(count),
+        Err(error) if is_for_now(&error) => Received::NotNow,
+        Err(_) => Received::Broken,
+    }
+}
+
+/// Writes some of the bytes.
+fn write_some(mut stream: &TcpStream, bytes: &[u8]) -> Put
+    ensures { TakesSome result (length bytes.now) }
+{
+    match stream.write(bytes) {
+        Ok(0) => Put::Failed,
+        Ok(count) => Put::Wrote(count),
+        Err(error) if error.kind() == ErrorKind::Interrupted => Put::Interrupted,
+        Err(_) => Put::Failed,
+    }
+}
+
+/// Reads, unless the others are gone.
+fn read_watched(stream: &TcpStream, are_gone: &AtomicBool, buffer: &mut Vec<u8>) -> Received
+    requires { 0 < length buffer.old.items }
+    ensures some { GivesSome result (length buffer.new.items) }
+    ensures len { length buffer.new.items ≡ length buffer.old.items }
+{
+    if are_gone.load(Ordering::SeqCst) {
+        return Received::End;
+    }
+    read_some(stream, buffer.as_mut_slice())
+}
+
+impl<'a> Stream for Watched<'a> {
+    ghost calls = { λ watched. watched.log.calls };
+
+    fn receive(&mut self, buffer: &mut Vec<u8>) -> Received {
+        let received = read_watched(self.stream, self.are_gone, buffer);
+        self.log.note(&Made::Read(received), buffer.as_slice());
+        received
+    }
+
+    fn send(&mut self, bytes: &[u8]) -> Put {
+        let put = write_some(self.stream, bytes);
+        self.log.note(&Made::Written(put), bytes);
+        put
+    }
+
+    fn flush(&mut self) -> bool {
         let mut stream = self.stream;
-        match stream.read(buffer) {
-            Err(error) if is_for_now(&error) => Err(io::Error::from(ErrorKind::Interrupted)),
-            other => other,
-        }
+        let done = stream.flush().is_ok();
+        self.log.note(&Made::Flushed(done), &[]);
+        done
     }
 }

@@ -1,11 +1,15 @@
 //! Many clients at once, each on a thread of its own.
 
-ghost use Rattle.std.specs.Prelude.{◌≡◌, ◌<◌, ◌≤◌, IfOk, length};
+ghost use Rattle.std.specs.Prelude.{◌≡◌, ◌<◌, ◌≤◌, IfOk, length, take};
 ghost use Rattle.std.specs.Iterator.{IsFinite, size};
+ghost use Rattle.tp_crowd.specs.Framing.{set_in};
+ghost use Rattle.tp_crowd.specs.Locked.{CameOf, IsFrom};
 
 use crate::locked::{Alarm, HubLock, LockedDesk};
+use crate::since::Start;
 use nbd_wire::MAX_FRAME;
 use std::alloc::{AllocError, Global};
+use std::marker::Brand;
 use std::sync::Wait;
 use std::sync::atomic::{AtomicBool, Ordering};
 use std::thread;
@@ -37,9 +41,9 @@ pub struct Served<V: Volumes> {
 /// whose session is open when it comes, which does not count as refused. When the pool has failed, the alarm sounds once.
 ///
 /// Each ask is one [`Hub::run`], made while the lock is held, or READs of [`Hub::ask_shared`], which change nothing, made while it is shared; and nothing else is
-/// done to the hub. So what became of it is one run behind the other, from the hub that was given to the one that is given back, in the order in which the lock
-/// was had, and READs that shared it may stand in any order. No clause says this, since none follows a value through a lock: it is read off `LockedDesk::ask`.
-/// Nor does one say that every client that came is served.
+/// done to the hub. So the hub that is given back came of the one that was given by runs one behind the other (`asked`), in the order in which the lock was had;
+/// READs that shared it may stand anywhere. Which of these runs were a client's, and so that it is told what they answered and no more is done than it asked
+/// for, no clause says, nor that every client that came is served.
 pub fn serve_all<R, V, S, I, A>(
     rt: &R,
     alloc: Global,
@@ -55,11 +59,38 @@ where
     A: Alarm + Sync,
     requires can { I.can_next clients }
     requires ends { IsFinite (I.remaining clients) }
+    ensures asked { CameOf V.view hub result.hub }
     ensures came { result.came ≤ 64 }
     ensures offered { result.came ≤ size (I.remaining clients) }
     ensures refused { result.refused ≤ result.came }
 {
-    let shared = HubLock::new(hub, alarm);
+    serve_since::<R, V, S, I, A, Brand>(rt, alloc, hub, clients, alarm)
+}
+
+/// The same of a hub that is such a start.
+fn serve_since<R, V, S, I, A, K>(
+    rt: &R,
+    alloc: Global,
+    hub: Hub<V>,
+    clients: I,
+    alarm: &A,
+) -> Served<V>
+where
+    R: Threads + Wait + Sync,
+    V: Managed + SharedVolumes + Send + Sync,
+    S: Stream + Send + Drop,
+    I: Iterator<Item = S> + Drop,
+    A: Alarm + Sync,
+    K: Start<V> + Send + Sync,
+    requires start { K.is_start hub }
+    requires can { I.can_next clients }
+    requires ends { IsFinite (I.remaining clients) }
+    ensures asked { IsFrom V.view K.is_start result.hub }
+    ensures came { result.came ≤ 64 }
+    ensures offered { result.came ≤ size (I.remaining clients) }
+    ensures refused { result.refused ≤ result.came }
+{
+    let shared = HubLock::<V, A, K>::new(hub, alarm);
     let refused = std::array::from_fn(not_refused);
     let streams = Streams {
         rt,
@@ -67,7 +98,7 @@ where
         hub: &shared,
     };
     let came = attend_all(rt, &refused, clients, &streams);
-    behind_all(shared, &refused, came)
+    behind_all(shared, &refused_by_now(&refused), came)
 }
 
 /// What carries a client on the client's own thread.
@@ -79,17 +110,18 @@ pub(crate) trait Attend<C> {
 
 /// Carries streams over a hub behind a lock.
 #[derive(Drop)]
-struct Streams<'m, R: Wait, V: Volumes, A: Alarm> {
+struct Streams<'m, R: Wait, V: Volumes, A: Alarm, K: Start<V>> {
     rt: &'m R,
     alloc: Global,
-    hub: &'m HubLock<'m, V, A>,
+    hub: &'m HubLock<'m, V, A, K>,
 }
 
-impl<'m, R, V, A, S> Attend<S> for Streams<'m, R, V, A>
+impl<'m, R, V, A, K, S> Attend<S> for Streams<'m, R, V, A, K>
 where
     R: Wait,
     V: Managed + SharedVolumes,
     A: Alarm,
+    K: Start<V>,
     S: Stream + Drop,
 {
     fn attend(&self, number: u8, mut stream: S) -> bool {
@@ -139,10 +171,10 @@ where
 }
 
 /// Carries one client. False where there was no memory for it.
-pub(crate) fn carry_stream<R, V, A, S>(
+pub(crate) fn carry_stream<R, V, A, K, S>(
     rt: &R,
     alloc: Global,
-    hub: &HubLock<'_, V, A>,
+    hub: &HubLock<'_, V, A, K>,
     number: u8,
     stream: &mut S,
 ) -> bool
@@ -150,6 +182,7 @@ where
     R: Wait,
     V: Managed + SharedVolumes,
     A: Alarm,
+    K: Start<V>,
     S: Stream,
     requires { number < 64 }
 {
@@ -162,14 +195,16 @@ where
 }
 
 /// What is left behind so many clients, all of which are gone.
-pub(crate) fn behind_all<V: Volumes, A: Alarm>(
-    hub: HubLock<'_, V, A>,
-    refused: &Refused,
+pub(crate) fn behind_all<V: Volumes, A: Alarm, K: Start<V>>(
+    hub: HubLock<'_, V, A, K>,
+    refused: &[bool; 64],
     came: u8,
 ) -> Served<V>
     requires { came ≤ 64 }
+    ensures asked { IsFrom V.view K.is_start result.hub }
     ensures came { result.came ≡ came }
-    ensures refused { result.refused ≤ came }
+    ensures refused { result.refused ≡ set_in (take came refused.now) }
+    ensures most { result.refused ≤ came }
 {
     Served {
         hub: hub.into_inner(),
@@ -183,16 +218,24 @@ pub(crate) fn not_refused(_number: usize) -> AtomicBool {
     AtomicBool::new(false)
 }
 
+/// Who is refused by now.
+pub(crate) fn refused_by_now(refused: &Refused) -> [bool; 64] {
+    let mut flags = [false; 64];
+    for number in 0..64 {
+        flags[number] = refused[number].load(Ordering::SeqCst);
+    }
+    flags
+}
+
 /// How many of so many clients were refused.
-fn count_set(refused: &Refused, came: u8) -> u64
+fn count_set(refused: &[bool; 64], came: u8) -> u64
     requires { came ≤ 64 }
-    ensures { result ≤ came }
+    ensures count { result ≡ set_in (take came refused.now) }
+    ensures most { result ≤ came }
 {
     let mut count = 0;
     for number in 0..came {
-        if refused[usize::from(number)].load(Ordering::SeqCst) {
-            count += 1;
-        }
+        count += refused[usize::from(number)] as u64;
     }
     count
 }

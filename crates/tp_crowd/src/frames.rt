@@ -1,12 +1,17 @@
 //! Where the frames of a client end, so that a long one is whole before it is asked.
 
-ghost use Rattle.std.specs.Prelude.{◌<◌, ◌≤◌, length};
+ghost use Rattle.std.specs.Prelude.{◌≡◌, ◌+◌, ◌<◌, ◌≤◌, ◌++◌, ◌-◌, length, take};
+ghost use Rattle.nbd_wire.specs.Reading.{fixed_len as fixed_of};
+ghost use Rattle.tp_crowd.specs.Framing.{ends_in, first_kind, framed, head_come, is_between, kind_at, kind_behind as kind_then, missing_of, passed};
 
-use nbd_wire::{Kind, REQUEST_MAGIC, fixed_len, wanted};
+use nbd_wire::{Kind, fixed_len, wanted};
 use std::marker::Model;
 
 /// How many bytes the longest fixed part of a frame has, that of a request.
 const HEAD: usize = 28;
+
+/// The first byte of a request, that of its magic number.
+const FIRST_OF_REQUEST: u8 = 0x25;
 
 /// How the bytes that were read of a client fall into frames, by their fixed parts. It decides how much is read at once, and nothing else: how a client's
 /// bytes are cut makes no difference to what is answered.
@@ -21,37 +26,63 @@ pub(crate) struct Frames {
 }
 
 impl Model for Frames {
-    ghost use Rattle.std.specs.Prelude.{◌<◌, ℕ};
+    ghost use Rattle.std.specs.Prelude.{◌<◌, take};
     ghost use Rattle.nbd_wire.specs.Reading.{fixed_len};
+    ghost use Rattle.tp_crowd.specs.Framing.{Framed};
 
-    ghost Value = { ℕ };
+    ghost Value = { Framed };
 
-    ghost view = { λ f. f.held };
+    ghost view = { λ f. record { kind = f.kind; head = take f.held f.head; left = f.left } };
 
     ghost invariant = { λ f. f.held < fixed_len f.kind };
 }
 
 /// What a frame is that begins with this byte. With the first request the options have ended, and they have no other sign of that.
-fn kind_from(kind: Kind, first: u8) -> Kind {
-    if kind == Kind::Options && first == REQUEST_MAGIC.to_be_bytes()[0] {
-        Kind::Requests
-    } else {
-        kind
+fn kind_from(kind: Kind, first: u8) -> Kind
+    ensures { result ≡ first_kind kind first }
+{
+    match kind {
+        Kind::Flags => Kind::Flags,
+        Kind::Options => {
+            if first == FIRST_OF_REQUEST {
+                Kind::Requests
+            } else {
+                Kind::Options
+            }
+        }
+        Kind::Requests => Kind::Requests,
     }
 }
 
 /// What comes behind a frame.
-fn kind_behind(kind: Kind) -> Kind {
-    if kind == Kind::Flags {
-        Kind::Options
-    } else {
-        kind
+fn kind_behind(kind: Kind) -> Kind
+    ensures { result ≡ kind_then kind }
+{
+    match kind {
+        Kind::Flags => Kind::Options,
+        Kind::Options => Kind::Options,
+        Kind::Requests => Kind::Requests,
     }
 }
 
+/// Puts bytes behind those of a fixed part that have come.
+fn put_behind(head: &mut [u8; HEAD], held: usize, bytes: &[u8])
+    requires { held + length bytes.now ≤ 28 }
+    ensures { take (held + length bytes.now) head.new ≡ take held head.old ++ bytes.now }
+{
+    head[held..held + bytes.len()].copy_from_slice(bytes);
+}
+
 impl Frames {
+    ghost use Rattle.std.specs.Prelude.{◌≡◌, ◌<◌, ◌≤◌, [], length, take};
+    ghost use Rattle.nbd_wire.specs.Reading.{fixed_len as fixed_of};
+    ghost use Rattle.tp_crowd.specs.Framing.{ends_in, framed, head_come, is_between, kind_at, missing_of, passed};
+    ghost use Rattle.nbd_wire.specs.declared.Kind.TheVariants.{Flags};
+
     /// Of a client of whom nothing was read.
-    pub(crate) fn new() -> Frames {
+    pub(crate) fn new() -> Frames
+        ensures { result ≡ framed Flags [] 0 }
+    {
         Frames {
             kind: Kind::Flags,
             head: [0; HEAD],
@@ -61,7 +92,9 @@ impl Frames {
     }
 
     /// The same once more.
-    pub(crate) fn copy(&self) -> Frames {
+    pub(crate) fn copy(&self) -> Frames
+        ensures { result ≡ self.now }
+    {
         Frames {
             kind: self.kind,
             head: self.head,
@@ -70,51 +103,102 @@ impl Frames {
         }
     }
 
+    /// Where so many bytes of a fixed part have come.
+    fn of_head(kind: Kind, head: [u8; HEAD], held: usize) -> Frames
+        requires { held ≤ fixed_of kind }
+        ensures { result ≡ head_come kind (take held head) }
+    {
+        let fixed = fixed_len(kind);
+        if held < fixed {
+            return Frames {
+                kind,
+                head,
+                held,
+                left: 0,
+            };
+        }
+        Frames {
+            kind: kind_behind(kind),
+            head,
+            held: 0,
+            left: wanted(kind, &head[..held]) - fixed,
+        }
+    }
+
     /// How many bytes are missing of a frame that has begun, as far as its fixed part tells; 0 between frames.
-    pub(crate) fn missing(&self) -> usize {
-        if self.held > 0 {
+    pub(crate) fn missing(&self) -> usize
+        ensures { result ≡ missing_of self.now }
+    {
+        if self.left > 0 {
+            self.left
+        } else if self.held > 0 {
             fixed_len(self.kind) - self.held
         } else {
-            self.left
+            0
         }
+    }
+
+    /// Whether no frame has begun.
+    fn is_between(&self) -> bool
+        ensures { result ≡ is_between self.now }
+    {
+        self.missing() == 0
+    }
+
+    /// The kind of a frame to which this byte belongs as one of its fixed part.
+    fn kind_with(&self, byte: u8) -> Kind
+        ensures kind { result ≡ kind_at self.now.kind self.now.head byte }
+        ensures room { length self.now.head < fixed_of result }
+    {
+        if self.held == 0 {
+            kind_from(self.kind, byte)
+        } else {
+            self.kind
+        }
+    }
+
+    /// Takes bytes of a fixed part, up to its end.
+    fn take_head(&mut self, bytes: &[u8]) -> usize
+        requires some { 0 < length bytes.now }
+        requires none { self.old.left ≡ 0 }
+        ensures passed { self.new ≡ passed self.old (take result bytes.now) }
+        ensures ended { ends_in self.old (take result bytes.now) ≡ is_between self.new }
+        ensures some { 0 < result }
+        ensures most { result ≤ length bytes.now }
+    {
+        let kind = self.kind_with(bytes[0]);
+        let count = (fixed_len(kind) - self.held).min(bytes.len());
+        put_behind(&mut self.head, self.held, &bytes[..count]);
+        *self = Frames::of_head(kind, self.head, self.held + count);
+        count
     }
 
     /// Takes bytes up to the end of a fixed part or of a frame, and tells how many.
     fn take(&mut self, bytes: &[u8]) -> usize
         requires { 0 < length bytes.now }
+        ensures passed { self.new ≡ passed self.old (take result bytes.now) }
+        ensures ended { ends_in self.old (take result bytes.now) ≡ is_between self.new }
         ensures some { 0 < result }
         ensures most { result ≤ length bytes.now }
     {
-        if self.left > 0 {
-            let count = self.left.min(bytes.len());
-            self.left -= count;
-            return count;
+        if self.left == 0 {
+            return self.take_head(bytes);
         }
-        if self.held == 0 {
-            self.kind = kind_from(self.kind, bytes[0]);
-        }
-        let fixed = fixed_len(self.kind);
-        let count = (fixed - self.held).min(bytes.len());
-        let end = self.held + count;
-        self.head[self.held..end].copy_from_slice(&bytes[..count]);
-        self.held = end;
-        if end == fixed {
-            self.left = wanted(self.kind, &self.head[..fixed]) - fixed;
-            self.kind = kind_behind(self.kind);
-            self.held = 0;
-        }
+        let count = self.left.min(bytes.len());
+        self.left -= count;
         count
     }
 
     /// Goes on over bytes that were read, and tells whether a frame ended in them.
-    pub(crate) fn pass(&mut self, bytes: &[u8]) -> bool {
+    pub(crate) fn pass(&mut self, bytes: &[u8]) -> bool
+        ensures passed { self.new ≡ passed self.old bytes.now }
+        ensures ended { result ≡ ends_in self.old bytes.now }
+    {
         let mut has_ended = false;
         let mut at = 0;
         while at < bytes.len() {
             at += self.take(&bytes[at..]);
-            if self.missing() == 0 {
-                has_ended = true;
-            }
+            has_ended |= self.is_between();
         }
         has_ended
     }

@@ -15,6 +15,7 @@ mod frames;
 mod listening;
 mod locked;
 mod polled;
+mod since;
 mod sockets;
 mod turns;
 
@@ -23,4 +24,5 @@ pub use control::serve_listener_with_control;
 pub use crowd::{Served, serve_all};
 pub use listening::serve_listener;
 pub use locked::{Alarm, HubLock, LockedDesk};
+pub use since::Start;
 pub use sockets::Socket;

@@ -2,12 +2,17 @@
 
 ghost use Rattle.std.specs.Prelude.{◌≡◌, ◌≤◌};
 ghost use Rattle.std.specs.Iterator.{IsFinite, size};
+ghost use Rattle.tp_crowd.specs.Locked.{CameOf, IsFrom};
 
 use crate::ahead::Crew;
-use crate::crowd::{Attend, Refused, Served, attend_all, behind_all, carry_stream, not_refused};
+use crate::crowd::{
+    Attend, Refused, Served, attend_all, behind_all, carry_stream, not_refused, refused_by_now,
+};
 use crate::locked::{Alarm, HubLock};
+use crate::since::Start;
 use crate::sockets::Socket;
 use std::alloc::Global;
+use std::marker::Brand;
 use std::net::{TcpListener, TcpStream};
 use std::sync::Wait;
 use std::thread;
@@ -36,9 +41,12 @@ impl Accepted {
 }
 
 impl Iterator for Accepted {
+    ghost use Rattle.std.specs.Prelude.{◌≡◌, ◌+◌, MatchOption};
     ghost use Rattle.std.specs.Iterator.{at_most};
 
     type Item = TcpStream;
+
+    ghost next_gives = { λ s taken t. MatchOption taken (t.left ≡ 0) (λ _. t.left + 1 ≡ s.left) };
 
     ghost remaining = { λ s. at_most s.left };
 
@@ -59,16 +67,16 @@ impl Iterator for Accepted {
 
 /// Carries TCP streams over a hub behind a lock.
 #[derive(Drop)]
-struct Sockets<'m, R: Threads + Wait, V: Volumes, A: Alarm> {
+struct Sockets<'m, R: Threads + Wait, V: Volumes, A: Alarm, K: Start<V>> {
     rt: &'m R,
     alloc: Global,
-    hub: &'m HubLock<'m, V, A>,
+    hub: &'m HubLock<'m, V, A, K>,
     crew: Crew,
 }
 
-impl<'m, R: Threads + Wait, V: Volumes, A: Alarm> Sockets<'m, R, V, A> {
+impl<'m, R: Threads + Wait, V: Volumes, A: Alarm, K: Start<V>> Sockets<'m, R, V, A, K> {
     /// Where it is not known how many processors there are, there is one.
-    fn new(rt: &'m R, alloc: Global, hub: &'m HubLock<'m, V, A>) -> Sockets<'m, R, V, A> {
+    fn new(rt: &'m R, alloc: Global, hub: &'m HubLock<'m, V, A, K>) -> Sockets<'m, R, V, A, K> {
         let processors = thread::available_parallelism(rt).map_or(1, |count| count.get());
         Sockets {
             rt,
@@ -79,11 +87,12 @@ impl<'m, R: Threads + Wait, V: Volumes, A: Alarm> Sockets<'m, R, V, A> {
     }
 }
 
-impl<'m, R, V, A> Attend<TcpStream> for Sockets<'m, R, V, A>
+impl<'m, R, V, A, K> Attend<TcpStream> for Sockets<'m, R, V, A, K>
 where
     R: Threads + Wait,
     V: Managed + SharedVolumes,
     A: Alarm,
+    K: Start<V>,
 {
     fn attend(&self, number: u8, stream: TcpStream) -> bool {
         let mut socket = Socket::new(self.rt, self.alloc, &self.crew, stream);
@@ -94,10 +103,10 @@ where
 }
 
 /// Carries TCP streams over a hub, each on a thread of its own, lets go of who gave them behind the last one, and tells how many came when all are done.
-pub(crate) fn attend_streams<'m, R, V, A, I>(
+pub(crate) fn attend_streams<'m, R, V, A, K, I>(
     rt: &'m R,
     alloc: Global,
-    hub: &'m HubLock<'m, V, A>,
+    hub: &'m HubLock<'m, V, A, K>,
     refused: &'m Refused,
     clients: I,
 ) -> u8
@@ -105,6 +114,7 @@ where
     R: Threads + Wait + Sync,
     V: Managed + SharedVolumes + Send + Sync,
     A: Alarm + Sync,
+    K: Start<V> + Send + Sync,
     I: Iterator<Item = TcpStream> + Drop,
     requires can { I.can_next clients }
     requires ends { IsFinite (I.remaining clients) }
@@ -130,13 +140,37 @@ where
     R: Threads + Wait + Sync,
     V: Managed + SharedVolumes + Send + Sync,
     A: Alarm + Sync,
+    ensures asked { CameOf V.view hub result.hub }
     ensures came { result.came ≤ 64 }
     ensures offered { result.came ≤ count }
     ensures refused { result.refused ≤ result.came }
 {
-    let shared = HubLock::new(hub, alarm);
+    serve_since::<R, V, A, Brand>(rt, alloc, hub, listener, count, alarm)
+}
+
+/// The same of a hub that is such a start.
+fn serve_since<R, V, A, K>(
+    rt: &R,
+    alloc: Global,
+    hub: Hub<V>,
+    listener: TcpListener,
+    count: u8,
+    alarm: &A,
+) -> Served<V>
+where
+    R: Threads + Wait + Sync,
+    V: Managed + SharedVolumes + Send + Sync,
+    A: Alarm + Sync,
+    K: Start<V> + Send + Sync,
+    requires { K.is_start hub }
+    ensures asked { IsFrom V.view K.is_start result.hub }
+    ensures came { result.came ≤ 64 }
+    ensures offered { result.came ≤ count }
+    ensures refused { result.refused ≤ result.came }
+{
+    let shared = HubLock::<V, A, K>::new(hub, alarm);
     let refused = std::array::from_fn(not_refused);
     let clients = Accepted::new(listener, count);
     let came = attend_streams(rt, alloc, &shared, &refused, clients);
-    behind_all(shared, &refused, came)
+    behind_all(shared, &refused_by_now(&refused), came)
 }

@@ -1,19 +1,22 @@
 //! A hub that many clients ask.
 
-ghost use Rattle.std.specs.Prelude.{◌≡◌, ◌<◌, IfSome, None};
+ghost use Rattle.std.specs.Prelude.{◌≡◌, ◌<◌, IfSome, MatchBool, None};
 ghost use Rattle.tp_model.specs.Calls.{is_failed};
 ghost use Rattle.tp_hub.specs.Runs.{Brings, incoming, session_of};
 ghost use Rattle.tp_hub.specs.Desks.{IsAsked};
 ghost use Rattle.tp_hub.specs.Places.{IsWider};
-ghost use Rattle.tp_crowd.specs.Locked.{SomeRuns};
+ghost use Rattle.tp_hub.specs.Serve.{HubRuns};
+ghost use Rattle.tp_crowd.specs.Framing.{IsRead};
+ghost use Rattle.tp_crowd.specs.Locked.{IsFrom, SomeRuns};
 
+use crate::since::{Since, Start};
 use crate::turns::turn_len;
 use nbd_session::begins_with_read;
 use std::alloc::Global;
 use std::sync::atomic::{AtomicBool, Ordering};
 use std::sync::{RwLock, RwLockReadGuard, RwLockWriteGuard, Wait};
 use std::thread;
-use tp_hub::{Answers, Desk, Event, Hub, HubDesk, Ran};
+use tp_hub::{Answers, Desk, Event, Hub, Ran};
 use tp_model::{Mode, SharedVolumes, Volumes};
 use tp_msg::Managed;
 
@@ -27,31 +30,40 @@ pub trait Alarm {
 }
 
 /// A hub behind a lock, which one ask has alone, or READs share, and an alarm of its pool. No lock is poisoned, and taking it does not fail.
+///
+/// What is known of the hub each time that somebody has it: it came of the one that was put behind the lock, of which `K` says which it was, by asks one
+/// behind another.
 #[derive(Drop)]
-pub struct HubLock<'a, V: Volumes, A: Alarm> {
-    hub: RwLock<Hub<V>>,
+pub struct HubLock<'a, V: Volumes, A: Alarm, K: Start<V>> {
+    hub: RwLock<Since<V, K>>,
     alarm: &'a A,
     has_sounded: AtomicBool,
 }
 
-impl<'a, V: Volumes, A: Alarm> HubLock<'a, V, A> {
-    /// A lock that nobody has. What is behind it no contract says.
-    pub fn new(hub: Hub<V>, alarm: &'a A) -> HubLock<'a, V, A> {
+impl<'a, V: Volumes, A: Alarm, K: Start<V>> HubLock<'a, V, A, K> {
+    ghost use Rattle.tp_crowd.specs.Locked.{IsFrom};
+
+    /// A lock that nobody has.
+    pub fn new(hub: Hub<V>, alarm: &'a A) -> HubLock<'a, V, A, K>
+        requires { K.is_start hub }
+    {
         HubLock {
-            hub: RwLock::new(hub),
+            hub: RwLock::new(Since::new(hub)),
             alarm,
             has_sounded: AtomicBool::new(false),
         }
     }
 
     /// The hub, as those who asked it left it.
-    pub fn into_inner(self) -> Hub<V> {
+    pub fn into_inner(self) -> Hub<V>
+        ensures { IsFrom V.view K.is_start result }
+    {
         let HubLock {
             hub,
             alarm: _,
             has_sounded: _,
         } = self;
-        hub.into_inner()
+        hub.into_inner().into_hub()
     }
 
     /// Sounds the alarm, unless it has sounded.
@@ -62,12 +74,12 @@ impl<'a, V: Volumes, A: Alarm> HubLock<'a, V, A> {
     }
 
     /// The hub, shared.
-    fn shared<R: Wait>(&self, rt: &R) -> RwLockReadGuard<'_, Hub<V>> {
+    fn shared<R: Wait>(&self, rt: &R) -> RwLockReadGuard<'_, Since<V, K>> {
         self.hub.read(rt)
     }
 
     /// The hub alone. To be woken takes time in which nobody has it, so who waits tries again and again for a while, and lets others run in between.
-    fn alone<R: Wait>(&self, rt: &R) -> RwLockWriteGuard<'_, Hub<V>> {
+    fn alone<R: Wait>(&self, rt: &R) -> RwLockWriteGuard<'_, Since<V, K>> {
         for _ in 0..TRIES {
             if let Some(guard) = self.hub.try_write() {
                 return guard;
@@ -86,45 +98,35 @@ impl<'a, V: Volumes, A: Alarm> HubLock<'a, V, A> {
 ///
 /// Behind an ask alone that leaves the pool failed the alarm sounds, if it has not. Shared READs fail no pool.
 ///
-/// Others ask the same hub in between, so an ask is known to be a run of some sessions over some pool, and not of which.
+/// Others ask the same hub in between, so an ask is known here to be a run of some sessions over some pool, and not of which. That it is one of those by
+/// which the hub behind the lock came of the one that was put there the lock knows; which of them, no clause says.
 #[derive(Drop)]
-pub struct LockedDesk<'m, R: Wait, V: Volumes, A: Alarm> {
+pub struct LockedDesk<'m, R: Wait, V: Volumes, A: Alarm, K: Start<V>> {
     pub rt: &'m R,
     pub alloc: Global,
-    pub hub: &'m HubLock<'m, V, A>,
-}
-
-/// Asks a hub once.
-fn ask_hub<V: Managed>(alloc: Global, hub: &mut Hub<V>, event: Event<'_>, out: &mut Answers) -> Ran
-    requires { session_of event < 64 }
-    ensures { IsAsked (λ took answers. SomeRuns V.view took answers) (incoming event.entry) result.events result.bytes out.old out.new }
-{
-    let mut desk = HubDesk { alloc, hub };
-    let ran = desk.ask(event, out);
-    let HubDesk { alloc: _, hub: _ } = desk;
-    ran
+    pub hub: &'m HubLock<'m, V, A, K>,
 }
 
 /// Asks a hub once, and tells whether its pool is failed behind it.
-fn ask_and_look<V: Managed>(
+fn ask_and_look<V: Managed, K: Start<V>>(
     alloc: Global,
-    hub: &mut Hub<V>,
+    hub: &mut Since<V, K>,
     event: Event<'_>,
     out: &mut Answers,
 ) -> (Ran, bool)
     requires { session_of event < 64 }
-    ensures asked { IsAsked (λ took answers. SomeRuns V.view took answers) (incoming event.entry) result.0.events result.0.bytes out.old out.new }
+    ensures asked { IsAsked (λ took answers. HubRuns V.view hub.old took answers hub.new) (incoming event.entry) result.0.events result.0.bytes out.old out.new }
     ensures failed { result.1 ≡ is_failed (V.view.outline hub.new.pool).mode }
 {
-    let ran = ask_hub(alloc, hub, event, out);
+    let ran = hub.ask(alloc, event, out);
     (ran, hub.mode() == Mode::Failed)
 }
 
 /// Asks a hub behind a lock alone. The alarm sounds when the lock is let go.
-fn ask_alone<R: Wait, V: Managed, A: Alarm>(
+fn ask_alone<R: Wait, V: Managed, A: Alarm, K: Start<V>>(
     rt: &R,
     alloc: Global,
-    hub: &HubLock<'_, V, A>,
+    hub: &HubLock<'_, V, A, K>,
     event: Event<'_>,
     out: &mut Answers,
 ) -> Ran
@@ -141,13 +143,13 @@ fn ask_alone<R: Wait, V: Managed, A: Alarm>(
 }
 
 /// Asks a hub for the READs with which an event begins, while others may do the same. None where it has to be asked alone.
-fn ask_beside_others<V: SharedVolumes>(
-    hub: &Hub<V>,
+fn ask_beside_others<V: SharedVolumes, K: Start<V>>(
+    hub: &Since<V, K>,
     event: &Event<'_>,
     out: &mut Answers,
 ) -> Option<Ran>
     requires { session_of event.now < 64 }
-    ensures asked { IfSome result (λ ran. IsAsked (λ took answers. SomeRuns V.view took answers) (incoming event.now) ran.events ran.bytes out.old out.new) }
+    ensures asked { IfSome result (λ ran. IsAsked (λ took answers. HubRuns V.view hub.now took answers hub.now) (incoming event.now) ran.events ran.bytes out.old out.new) }
     ensures none { result ≡ None → IsWider out.old out.new }
 {
     match *event {
@@ -156,8 +158,10 @@ fn ask_beside_others<V: SharedVolumes>(
     }
 }
 
-/// Whether an event may begin with a READ, by its bytes alone.
-fn is_read(event: &Event<'_>) -> bool {
+/// Whether an event begins with a READ, by its bytes alone.
+fn is_read(event: &Event<'_>) -> bool
+    ensures { MatchBool result (IsRead (incoming event.now)) (IsRead (incoming event.now) → ⊥) }
+{
     match *event {
         Event::Bytes(_, piece) => begins_with_read(piece),
         _ => false,
@@ -165,9 +169,9 @@ fn is_read(event: &Event<'_>) -> bool {
 }
 
 /// The same of a hub behind a lock, which is shared for the time of the ask, and is not taken where the event begins with no READ.
-fn ask_shared<R: Wait, V: SharedVolumes, A: Alarm>(
+fn ask_shared<R: Wait, V: SharedVolumes, A: Alarm, K: Start<V>>(
     rt: &R,
-    hub: &HubLock<'_, V, A>,
+    hub: &HubLock<'_, V, A, K>,
     event: &Event<'_>,
     out: &mut Answers,
 ) -> Option<Ran>
@@ -183,10 +187,10 @@ fn ask_shared<R: Wait, V: SharedVolumes, A: Alarm>(
 }
 
 /// Asks a hub behind a lock once: beside others, or where that cannot be, alone.
-fn ask_once<R: Wait, V: Managed + SharedVolumes, A: Alarm>(
+fn ask_once<R: Wait, V: Managed + SharedVolumes, A: Alarm, K: Start<V>>(
     rt: &R,
     alloc: Global,
-    hub: &HubLock<'_, V, A>,
+    hub: &HubLock<'_, V, A, K>,
     event: Event<'_>,
     out: &mut Answers,
 ) -> Ran
@@ -200,10 +204,10 @@ fn ask_once<R: Wait, V: Managed + SharedVolumes, A: Alarm>(
 }
 
 /// Asks the first requests of a piece, and tells how many bytes these were where it has more.
-fn ask_turn<R: Wait, V: Managed + SharedVolumes, A: Alarm>(
+fn ask_turn<R: Wait, V: Managed + SharedVolumes, A: Alarm, K: Start<V>>(
     rt: &R,
     alloc: Global,
-    hub: &HubLock<'_, V, A>,
+    hub: &HubLock<'_, V, A, K>,
     number: u8,
     piece: &[u8],
     out: &mut Answers,
@@ -225,7 +229,13 @@ fn ask_turn<R: Wait, V: Managed + SharedVolumes, A: Alarm>(
     }
 }
 
-impl<'m, R: Wait, V: Managed + SharedVolumes, A: Alarm> Desk for LockedDesk<'m, R, V, A> {
+impl<'m, R, V, A, K> Desk for LockedDesk<'m, R, V, A, K>
+where
+    R: Wait,
+    V: Managed + SharedVolumes,
+    A: Alarm,
+    K: Start<V>,
+{
     ghost use Rattle.tp_crowd.specs.Locked.{SomeRuns};
 
     ghost asks = { λ a took answers b. SomeRuns V.view took answers };

@@ -1,7 +1,9 @@
 //! A client's TCP stream.
 
-ghost use Rattle.std.specs.Prelude.{◌≡◌, ◌<◌, ◌≤◌, [], length, None};
+ghost use Rattle.std.specs.Prelude.{◌≡◌, ◌<◌, ◌≤◌, ◌+◌, ◌-◌, [], length, min, IfSome, None};
+ghost use Rattle.std.proofs.Props.{props};
 ghost use Rattle.tp_hub.specs.Streams.{GivesSome, TakesSome};
+ghost use Rattle.tp_crowd.specs.Framing.{at_first, given, given_in, passed};
 
 use crate::ahead::{Ahead, Crew};
 use crate::frames::Frames;
@@ -36,6 +38,8 @@ pub struct Socket<'c, R: Threads> {
     frames: Frames,
     stream: Polled,
     ahead: Ahead<'c, R>,
+    ghost follows: { frames ≡ passed at_first (given_in log.calls) },
+    ghost beside: { IfSome ahead.under_way (λ h. h.promise.frames ≡ frames) } by { Prim.hlevel props },
 }
 
 impl<'c, R: Threads> Socket<'c, R> {
@@ -61,19 +65,25 @@ impl<'c, R: Threads> Socket<'c, R> {
         } = self;
         ahead.end(&stream);
     }
+}
 
-    /// What a read ahead brought, or else a read brings now.
-    fn read(&mut self, buffer: &mut Vec<u8>) -> Received
-        requires { 0 < length buffer.old.items }
-        ensures some { GivesSome result (length buffer.new.items) }
-        ensures len { length buffer.new.items ≡ length buffer.old.items }
-        ensures over { self.new.ahead.under_way ≡ None }
-        ensures log { self.new.log ≡ self.old.log }
-    {
-        match self.ahead.finish(&mut self.frames, buffer) {
-            Some(received) => received,
-            None => read_frames(&mut self.stream, &mut self.frames, buffer.as_mut_slice()),
-        }
+/// What a read ahead brought, or else a read brings now.
+fn read<R: Threads>(
+    ahead: &mut Ahead<'_, R>,
+    stream: &mut Polled,
+    frames: &mut Frames,
+    buffer: &mut Vec<u8>,
+) -> Received
+    requires room { 0 < length buffer.old.items }
+    requires beside { IfSome ahead.old.under_way (λ h. h.promise.frames ≡ frames.old) }
+    ensures some { GivesSome result (length buffer.new.items) }
+    ensures len { length buffer.new.items ≡ length buffer.old.items }
+    ensures follows { frames.new ≡ passed frames.old (given result buffer.new.items) }
+    ensures over { ahead.new.under_way ≡ None }
+{
+    match ahead.finish(frames, buffer) {
+        Some(received) => received,
+        None => read_frames(stream, frames, buffer.as_mut_slice()),
     }
 }
 
@@ -101,6 +111,9 @@ fn reach(missing: usize, at: usize, len: usize) -> usize
     requires { at < len }
     ensures more { at < result }
     ensures within { result ≤ len }
+    ensures whole { at + min missing (len - at) ≤ result }
+    ensures alone { 65536 ≤ missing → result ≡ at + min missing (len - at) }
+    ensures piece { missing < 65536 → min 262144 len ≤ result }
 {
     let end = at + missing.min(len - at);
     if missing >= LONG {
@@ -127,6 +140,7 @@ pub(crate) fn read_frames<T: Read>(
     requires { 0 < length buffer.old }
     ensures some { GivesSome result (length buffer.new) }
     ensures len { length buffer.new ≡ length buffer.old }
+    ensures follows { frames.new ≡ passed frames.old (given result buffer.new) }
 {
     let mut at = 0;
     for turn in 0..u64::MAX {
@@ -160,7 +174,7 @@ impl<'c, R: Threads> Stream for Socket<'c, R> {
     ghost calls = { λ s. s.log.calls };
 
     fn receive(&mut self, buffer: &mut Vec<u8>) -> Received {
-        let received = self.read(buffer);
+        let received = read(&mut self.ahead, &mut self.stream, &mut self.frames, buffer);
         self.log.note(&Made::Read(received), buffer.as_slice());
         if is_long(received) {
             let frames = self.frames.copy();

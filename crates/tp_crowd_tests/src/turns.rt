@@ -3,12 +3,13 @@
 use crate::talk::{FLUSH, GO};
 use crate::waiting::Seen;
 use std::alloc::{AllocError, Global};
+use std::marker::Brand;
 use std::sync::Wait;
 use std::test::Fail;
 use tp_crowd::{HubLock, LockedDesk};
 use tp_hub::{Answers, Desk, Event, Hub, Ran};
 use tp_model::Refusal;
-use tp_shelf::blank_shelf;
+use tp_shelf::{Shelf, blank_shelf};
 
 /// Bytes of 16 requests.
 const TURN: usize = 16 * 28;
@@ -33,7 +34,7 @@ where
     H: Wait + Sync + Alloc<A = Global>,
 {
     let alarm = Seen::nothing();
-    let hub = HubLock::new(Hub::new(blank_shelf(rt.alloc())?), &alarm);
+    let hub = HubLock::<Shelf, Seen, Brand>::new(Hub::new(blank_shelf(rt.alloc())?), &alarm);
     let mut out = Answers::new(rt.alloc());
     let mut desk = LockedDesk {
         rt,

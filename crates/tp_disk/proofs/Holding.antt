@@ -88,3 +88,14 @@ holds_flush {size} {kept} {kept'} {newest} {writes} {writes'} {state} {state'} h
       newest_is = h.newest_is ∙ sym (ap concat (seen-settled (seen state.cells))) ∙ sym (ap (λ (l : List Cell). concat (seen l)) cells');
       newest_long = h.newest_long;
     }
+
+-- what reads give, as the image of a disk that is handed out anew
+pub renewed_image : {size : ℕ} {kept newest : List ℕ} {writes : List Logged} {state : DiskState} → Holds size kept newest writes state → chopped size newest ≡ seen state.cells
+renewed_image {size} {kept} {newest} {writes} {state} h =
+    ap (chopped size) h.newest_is ∙ chopped-concat (seen state.cells) size (length-seen h.well_formed ∙ h.size_is) (whole-seen h.well_formed)
+
+pub holds_renewed : {size : ℕ} {kept kept' newest : List ℕ} {writes writes' : List Logged} {state state' : DiskState} → Holds size kept newest writes state → kept' ≡ newest → writes' ≡ []
+    → state' ≡ fresh (chopped size newest) → Holds size kept' newest writes' state'
+holds_renewed {size} {kept} {kept'} {newest} {writes} {writes'} {state} {state'} h same none e =
+    let fits : size ≤ 2 ^ 54 = omega (arith, h.size_is, h.well_formed.fits) in
+    holds_first size kept' newest writes' state' fits (ap length same ∙ h.newest_long) none (sym same) (e ∙ sym (ap (λ l. fresh (chopped size l)) same))

@@ -1,4 +1,3 @@
-mod Claim
 pub mod Currents
 pub mod Holding
 pub mod Picking
@@ -7,3 +6,4 @@ pub mod Replays
 pub mod Unclaimed
 pub mod Settling
 pub mod Stopping
+pub mod Walks

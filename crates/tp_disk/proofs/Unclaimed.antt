@@ -1,12 +1,13 @@
--- The state of a disk of which nothing is claimed stays well formed.
-use Rattle.std.proofs.Common.{◌≡◌, ℕ, zero, suc, ◌≤◌, ◌^◌, Bool, true, false, List, length, replicate, refl, sym, subst}
+-- The state of a disk of which nothing is claimed stays well formed, and promises nothing of contents.
+use Rattle.std.proofs.Common.{◌≡◌, ℕ, zero, suc, ◌≤◌, ◌^◌, Bool, true, false, List, length, replicate, refl, sym, ◌∙◌, subst, true≢false}
 use Rattle.std.proofs.lemmas.List.{length-replicate}
-use Rattle.std.specs.Prelude.{◌%◌}
+use Rattle.std.specs.Prelude.{◌%◌, IsTrue}
 use Rattle.std.specs.List.{AllByRecursion}
 use Rattle.tp_model.specs.Sectors.{zero_sector, sectors_of}
-use Rattle.tp_model.specs.Disk.{DiskState, IsWellFormed, settled, after_flush}
+use Rattle.tp_model.specs.Disk.{DiskState, IsSettled, IsWellFormed, settled, after_flush}
 use Rattle.tp_model.proofs.DiskLaws.{IsWellFormed-flushed, IsWellFormed-written, IsWellFormed-settled, whole-sectors_of}
-use Rattle.tp_disk.specs.Shadow.{after_newest}
+use Rattle.tp_disk.specs.HandedOut.{IsHandedOut}
+use Rattle.tp_disk.specs.Shadow.{after_newest, unclaimed}
 
 -- the same size, no more claimed, and well formed
 pub record Kept (old new : DiskState) : Type 0 where
@@ -35,3 +36,10 @@ zeros_whole (suc n) = (length-zero_sector, zeros_whole n)
 
 pub zeros_well : (size : ℕ) → size ≤ 2 ^ 54 → IsWellFormed size (settled (replicate size zero_sector))
 zeros_well size fits = IsWellFormed-settled size (replicate size zero_sector) fits (length-replicate size zero_sector) (zeros_whole size)
+
+pub unclaimed_promises : {P : Type 0} (b : Bool) → b ≡ false → IsTrue b → P
+unclaimed_promises b e h = absurd (true≢false (sym h ∙ e))
+
+pub unclaimed_is_handed_out : (size : ℕ) (state : DiskState) → state ≡ unclaimed size → IsHandedOut state
+unclaimed_is_handed_out size state e =
+    subst IsHandedOut (sym e) (record { past = refl; failures = refl; flushes = refl; settled = λ honest. unclaimed_promises {P = IsSettled (unclaimed size).cells} false refl honest })

@@ -1,6 +1,6 @@
 pub mod Calls
-pub mod Claim
 pub mod File
+pub mod HandedOut
 pub mod Log
 pub mod Memory
 pub mod Picking

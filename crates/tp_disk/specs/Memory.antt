@@ -1,4 +1,4 @@
--- Internal: what contracts see of a `MemDisk`.
+-- Trusted reading: what contracts see of a `MemDisk`.
 use Rattle.std.specs.Prelude.{ℕ, List}
 use Rattle.tp_model.specs.Disk.{DiskState}
 use Rattle.tp_disk.specs.declared.calls.Calls.{Calls}

@@ -1,4 +1,4 @@
--- Which descriptors a disk's file may have.
+-- Internal: which descriptors a disk's file may have.
 use Rattle.std.specs.Prelude.{pos, ◌<ℤ◌}
 use Rattle.std.specs.Fd.{file_raw_fd}
 use Rattle.std.specs.declared.fs.File.{File}

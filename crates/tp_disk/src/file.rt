@@ -1,8 +1,8 @@
-//! A disk over a file. Whether a file gives back what was written is outside of every proof: no contract tells whether such
-//! a disk is honest, or what it held when it was opened. A promise about what it holds has that as its premise.
-ghost use Rattle.std.specs.Prelude.{◌≡◌, IfOk};
+//! A disk over a file. Whether a file gives back what was written is outside of every proof, so such a disk claims nothing of itself: in
+//! its state it is not honest, and no promise on contents speaks of it. What is proved of contents is proved of each honest disk; that files are such is a
+//! premise of those who use them.
+ghost use Rattle.std.specs.Prelude.{◌≡◌, IfOk, false};
 ghost use Rattle.tp_model.specs.Disk.{IsWellFormed};
-ghost use Rattle.tp_disk.specs.Claim.{claimed_of_files};
 ghost use Rattle.tp_disk.specs.Streams.{IsNoStream};
 
 use crate::disk::MOST_SECTORS;
@@ -43,18 +43,19 @@ pub struct FileDisk {
     trouble: Option<Trouble>,
     ghost is_no_stream: { IsNoStream file },
     ghost size_is: { shadow.state.size ≡ size },
-    ghost unclaimed: { shadow.state.is_honest ≡ claimed_of_files },
+    ghost unclaimed: { shadow.state.is_honest ≡ false },
     ghost well_formed: { IsWellFormed shadow.state.size shadow.state.cells },
 }
 
 impl FileDisk {
-    ghost use Rattle.tp_disk.specs.File.{IsUntouched, file_state};
+    ghost use Rattle.tp_disk.specs.File.{file_state};
+    ghost use Rattle.tp_disk.specs.HandedOut.{IsHandedOut};
 
     /// The disk over an existing file. A part of a sector at the end is not counted. Refused where the system refuses, as for a missing file or one that
     /// cannot be synced, where it is no regular file, another open holds its lock, or it would have one of descriptors 0 to 2, and where there are more
     /// than 2^54 sectors.
     pub fn open<R: Files<File = File>>(rt: &R, path: &str) -> Result<FileDisk, OpenError>
-        ensures { IfOk result (λ disk. IsUntouched (file_state disk)) }
+        ensures { IfOk result (λ disk. IsHandedOut (file_state disk)) }
     {
         let file = open_there(rt, path)?;
         let size = lock(&file)?;
@@ -64,7 +65,7 @@ impl FileDisk {
     /// The same disk, to read alone: it needs no right to write the file, and each write of it is a `Fault`. Any number of such
     /// disks may be open over one file, and none beside a disk of `open` or `create`. Refused as `open`.
     pub fn open_to_read<R: Files<File = File>>(rt: &R, path: &str) -> Result<FileDisk, OpenError>
-        ensures { IfOk result (λ disk. IsUntouched (file_state disk)) }
+        ensures { IfOk result (λ disk. IsHandedOut (file_state disk)) }
     {
         let file = open_there_to_read(rt, path)?;
         let size = lock_shared(&file)?;
@@ -81,7 +82,7 @@ impl FileDisk {
         sectors: u64,
     ) -> Result<FileDisk, OpenError>
         ensures size { IfOk result (λ disk. (file_state disk).size ≡ sectors) }
-        ensures untouched { IfOk result (λ disk. IsUntouched (file_state disk)) }
+        ensures untouched { IfOk result (λ disk. IsHandedOut (file_state disk)) }
     {
         if sectors > MOST_SECTORS {
             return Err(OpenError::TooLarge);
@@ -105,7 +106,7 @@ impl FileDisk {
     fn over(file: File, size: u64) -> Result<FileDisk, OpenError>
         requires { IsNoStream file }
         ensures size { IfOk result (λ disk. (file_state disk).size ≡ size) }
-        ensures untouched { IfOk result (λ disk. IsUntouched (file_state disk)) }
+        ensures untouched { IfOk result (λ disk. IsHandedOut (file_state disk)) }
     {
         if size > MOST_SECTORS {
             return Err(OpenError::TooLarge);

@@ -22,4 +22,4 @@ pub use file::FileDisk;
 pub use memory::{MemDisk, picks_are_stops};
 pub use opening::{OpenError, OpenStep};
 pub use shared::{SharedDisk, SharedReader};
-pub use trouble::{DiskCall, Trouble};
+pub use trouble::{DiskCall, TellsTrouble, Trouble};

@@ -163,6 +163,20 @@ impl MemDisk {
         counted(&self.write_counts, at)
     }
 
+    /// Makes the disk as it is when it is handed out anew: a stop leaves what reads give, and no call was made of it. Calls are counted on.
+    pub fn renew(&mut self)
+        ensures state { mem_state self.new ≡ fresh (seen (mem_state self.old).cells) }
+        ensures calls { calls_of self.new ≡ calls_of self.old }
+        ensures watch { watch_of self.new ≡ watch_of self.old }
+        ensures reads { reads_of self.new ≡ reads_of self.old }
+        ensures writes { writes_of self.new ≡ writes_of self.old }
+    {
+        self.kept.copy_from_slice(&self.newest);
+        self.writes = Vec::new(self.alloc);
+        self.shadow
+            .note(&Step::Image { sectors: self.size }, &self.newest);
+    }
+
     /// A disk as a stop leaves it: sector i holds entry `picks[i]` of its kept value followed by those written since,
     /// and the last one where there is no such entry or pick. `AllocError` where there is no memory for it. It takes
     /// time by the size of the disk and the bytes that were written since the last flush.

@@ -1,5 +1,6 @@
 //! What the system said of a call that failed a disk.
 
+use crate::{FileDisk, MemDisk};
 use std::fmt::{self, Display, Formatter};
 use std::io;
 
@@ -38,5 +39,23 @@ impl Display for Trouble {
 pub(crate) fn note_trouble(trouble: &mut Option<Trouble>, call: DiskCall, done: io::Result<()>) {
     if let Err(error) = done {
         *trouble = Some(Trouble { call, error });
+    }
+}
+
+/// A disk that tells what the system said of the last call that failed.
+pub trait TellsTrouble {
+    fn trouble(&self) -> Option<Trouble>;
+}
+
+impl TellsTrouble for FileDisk {
+    fn trouble(&self) -> Option<Trouble> {
+        FileDisk::trouble(self)
+    }
+}
+
+/// No system stands below it.
+impl TellsTrouble for MemDisk {
+    fn trouble(&self) -> Option<Trouble> {
+        None
     }
 }

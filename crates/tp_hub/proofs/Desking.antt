@@ -1,11 +1,12 @@
--- One event asked of a hub.
+-- One event asked of a hub, and asks of what stands on one.
 use Rattle.std.proofs.Common.{◌≡◌, ℕ, zero, suc, ◌≤◌, List, [], ◌∷◌, ◌++◌, length, inl, inr, refl, ap, subst, ◌∙◌, arith, append-nil}
 use Rattle.tp_model.specs.Clauses.{PoolCall, View}
 use Rattle.nbd_session.specs.Turns.{Sessions}
-use Rattle.tp_hub.specs.Told.{HasRoom, IsFull, Told, all_sent}
+use Rattle.tp_hub.specs.Told.{Answer, HasRoom, IsFull, Told, all_sent}
 use Rattle.tp_hub.specs.Runs.{AsksLine, AsksLineOf, Brings, Comes, Goes, Incoming, Orders, IsPartOfNext, IsShortOfNext, Runs, Served, answered_in, events_in, taken_of}
 use Rattle.std.specs.Prelude.{drop}
-use Rattle.tp_hub.specs.Desks.{IsAsked, IsBegun, IsCut, RunsSo}
+use Rattle.tp_hub.specs.Desks.{AreAsked, Exchange, IsAsked, IsBegun, IsCut, RunsSo}
+use Rattle.tp_hub.specs.Serving.{HubState}
 
 none_served : {S : Type 0} (xs : List (Served S)) → events_in xs ≡ [] → answered_in xs ≡ []
 none_served [] e = refl
@@ -75,3 +76,8 @@ asked {D} view at at' p p' event all events bytes before after is le part short 
       begun = begun_is at' event events bytes before after one (subst (λ l. IsShortOfNext at' (drop events l) after) is short)
           (λ none nothing. r.adds.list ∙ (ap (λ l. before.list ++ l) (silent none nothing) ∙ append-nil before.list)) cut r.adds.room r.adds.marks;
     }
+
+-- asks of what stands on a hub are runs of it
+pub asked_through : {A S : Type 0} (Ran : HubState S → List Incoming → List Answer → HubState S → Type 0) (f : A → HubState S) (xs : List Exchange) (a b : A) → AreAsked (λ x took answers y. Ran (f x) took answers (f y)) a xs b → AreAsked Ran (f a) xs (f b)
+asked_through Ran f [] a b h = ap f h
+asked_through Ran f (x ∷ xs) a b h = (f h.0, h.1, asked_through Ran f xs h.0 b h.2)

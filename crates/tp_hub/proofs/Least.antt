@@ -1,13 +1,11 @@
--- The least number that is not open, and a client that is carried under it.
+-- The least number that is not open.
 use Rattle.std.proofs.Common.{◌≡◌, ℕ, ◌+◌, ◌<◌, ◌≤◌, Bool, true, false, List, [], ◌∷◌, length, Option, Some, None, get_or, inl, inr, refl, sym, ap, subst, ◌∙◌, arith}
 use Rattle.std.specs.Prelude.{IfSome, IsSome, is_some}
 use Rattle.std.proofs.lemmas.Bool.{cases_eq}
 use Rattle.std.proofs.lemmas.List.{get_or_read}
-use Rattle.tp_model.specs.Clauses.{View}
 use Rattle.nbd_session.specs.Session.{State}
 use Rattle.tp_hub.specs.Serving.{HubState, Slots, slot_at}
-use Rattle.tp_hub.specs.Desks.{AreAsked, Exchange}
-use Rattle.tp_hub.specs.Serve.{AreAllOpen, HubRuns, IsLeastFree}
+use Rattle.tp_hub.specs.Serve.{AreAllOpen, IsLeastFree}
 
 -- the place that was read
 pub read_at : (slots : Slots) (i n : ℕ) (d : Option State) → i ≡ n → n < 64 → length slots ≡ 64 → d ≡ get_or slots i d → slot_at slots n ≡ d
@@ -38,8 +36,3 @@ least_shown {D} s t r same h = subst (λ (x : HubState D). IfSome r (λ n. IsLea
 
 pub open_shown : {D : Type 0} (s t : HubState D) → s ≡ t → AreAllOpen s.slots → AreAllOpen t.slots
 open_shown {D} s t same h = subst (λ (x : HubState D). AreAllOpen x.slots) same h
-
--- asks of what stands on a hub are runs of it
-pub asked_through : {A D : Type 0} (view : View D) (f : A → HubState D) (xs : List Exchange) (a b : A) → AreAsked (λ x took answers y. HubRuns view (f x) took answers (f y)) a xs b → AreAsked (HubRuns view) (f a) xs (f b)
-asked_through view f [] a b h = ap f h
-asked_through view f (x ∷ xs) a b h = (f h.0, h.1, asked_through view f xs h.0 b h.2)

@@ -230,7 +230,7 @@ module _ {D : Type 0} (view : View D) where
   pub leave_none : (at at' : Sessions) (p : D) → at ≡ at' → LeaveTo view at p at' p
   leave_none at at' p same = record { turns = []; are = tt; leaving = tt; sessions_are = same; pool_is = refl }
 
-  leaving_join : (at : Sessions) (xs ys : List (Happened D)) → AreLeaving view at xs → AreLeaving view (sessions_after at xs) ys → AreLeaving view at (xs ++ ys)
+  leaving_join : (at : Sessions) (xs ys : List (Happened D)) → AreLeaving at xs → AreLeaving (sessions_after at xs) ys → AreLeaving at (xs ++ ys)
   leaving_join at [] ys a b = b
   leaving_join at (x ∷ xs) ys a b = (a.0, a.1, a.2, leaving_join x.sessions xs ys a.3 b)
 
@@ -241,7 +241,7 @@ module _ {D : Type 0} (view : View D) where
       record {
         turns = x.turns ++ y.turns;
         are = turns_join view.outline (PoolCall view) a p x.turns y.turns x.are there;
-        leaving = leaving_join a x.turns y.turns x.leaving (subst (λ (s : Sessions). AreLeaving view s y.turns) (sym x.sessions_are) y.leaving);
+        leaving = leaving_join a x.turns y.turns x.leaving (subst (λ (s : Sessions). AreLeaving s y.turns) (sym x.sessions_are) y.leaving);
         sessions_are = sessions_join a x.turns y.turns ∙ (ap (λ (s : Sessions). sessions_after s y.turns) x.sessions_are ∙ y.sessions_are);
         pool_is = pool_join p x.turns y.turns ∙ (ap (λ (d : D). pool_after d y.turns) x.pool_is ∙ y.pool_is);
       }

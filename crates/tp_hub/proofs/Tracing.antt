@@ -1,15 +1,23 @@
--- A run over a pool that has a trace is a run of the traced plain pool.
-use Rattle.std.proofs.Common.{◌≡◌, ℕ, Bool, true, false, List, [], ◌∷◌, ◌++◌, length, ◌⊎◌, refl, sym, ap, subst, ◌∙◌, arith}
-use Rattle.std.specs.Prelude.{Err, MatchBool, MatchResult, Ok, Result, nat_lt}
+-- A run over a pool that has a trace is a run of the traced plain pool; so are asks of a hub, and the end of all its sessions.
+use Rattle.std.proofs.Common.{◌≡◌, ℕ, Bool, true, false, List, [], ◌∷◌, ◌++◌, length, ◌⊎◌, inl, inr, refl, sym, ap, subst, ◌∙◌, arith}
+use Rattle.std.specs.Prelude.{Err, IfSome, MatchBool, MatchResult, None, Ok, Option, Result, Some, nat_lt}
 use Rattle.tp_model.specs.Pool.{PlainPool}
-use Rattle.tp_model.specs.Clauses.{HasTrace, PoolCall, Traced, TracedCall, View, ViewLaws, outline_of_traced}
+use Rattle.tp_model.specs.Clauses.{Continues, HasTrace, PoolCall, Traced, TracedCall, View, ViewLaws, outline_of_traced}
+use Rattle.tp_model.proofs.Running as running
+use Rattle.nbd_session.specs.Clauses.{GoesWithTrace}
 use Rattle.nbd_session.specs.Session.{has_ended}
 use Rattle.nbd_session.specs.Turns.{AreSame, Happened, Sessions, Turn, pool_after, sessions_after}
 use Rattle.nbd_session.proofs.Turning as turning
 use Rattle.tp_model.specs.Calls.{Call, Status, ThinStatus}
 use Rattle.tp_model.specs.Calls as calls
 use Rattle.tp_msg.specs.Messages.{reading}
+use Rattle.tp_hub.specs.declared.client.Carried.{Carried}
+use Rattle.tp_hub.specs.declared.hub.Ran.{Ran}
 use Rattle.tp_hub.specs.Told.{Answer, Grows, Told}
+use Rattle.tp_hub.specs.Desks.{AreAsked, Exchange, IsAsked, RanSo, RunsSo}
+use Rattle.tp_hub.specs.Serve.{HubRuns, IsServedBy, PlainRuns, with_pool}
+use Rattle.tp_hub.specs.Serving.{AllLeave, AllLeaveSo, AreLeaving, HubState, LeaveSo, LeaveTo, sessions_of}
+use Rattle.tp_hub.specs.Streams.{StreamCall}
 use Rattle.tp_hub.specs.Runs.{AreServed, AsksLine, AsksLineOf, Brings, Comes, Goes, Incoming, IsAnswered, IsCalled, IsOnly, Orders, TellsDone, TellsLine, call_of, Runs, Served, TakesText, answered_in, answers_in, answers_of, events_in, turns_in}
 
 map_bool : (b : Bool) (P Q P' Q' : Type 0) → (P → P') → (Q → Q') → MatchBool b P Q → MatchBool b P' Q'
@@ -90,6 +98,20 @@ module _ {D : Type 0} (view : View D) (laws : ViewLaws view) (from : D) (s : Pla
   same_join d t [] (k ∷ ks) is ls are more = absurd are
   same_join d t (h ∷ hs) [] is ls are more = absurd are
 
+  -- what is left in turns one after another
+  pub turns_continue : (d : D) (t : Traced) (hs : List (Happened D)) (ks : List (Happened Traced)) → HasTrace view from s d t → AreSame view from s d t hs ks → Continues view from s d t (pool_after d hs) (pool_after t ks)
+  turns_continue d t [] [] has are = running.stays view laws from s d t has
+  turns_continue d t (h ∷ hs) (k ∷ ks) has are = running.goes_on view laws from s d h.pool (pool_after h.pool hs) t k.pool (pool_after k.pool ks) are.3 (turns_continue h.pool k.pool hs ks are.2 are.4)
+  turns_continue d t [] (k ∷ ks) has are = absurd are
+  turns_continue d t (h ∷ hs) [] has are = absurd are
+
+  pub leaving_same : (at : Sessions) (d : D) (t : Traced) (hs : List (Happened D)) (ks : List (Happened Traced)) → AreSame view from s d t hs ks → AreLeaving at hs → AreLeaving at ks
+  leaving_same at d t [] [] are leaving = tt
+  leaving_same at d t (h ∷ hs) (k ∷ ks) are leaving =
+      (leaving.0, leaving.1, are.0 ∙ leaving.2, subst (λ (r : Sessions). AreLeaving r ks) (sym are.1) (leaving_same h.sessions h.pool k.pool hs ks are.4 leaving.3))
+  leaving_same at d t [] (k ∷ ks) are leaving = absurd are
+  leaving_same at d t (h ∷ hs) [] are leaving = absurd are
+
   pub served_traced : (at : Sessions) (d : D) (t : Traced) (xs : List (Served D)) → HasTrace view from s d t → AreServed view.outline (PoolCall view) at d xs
       → (ys : List (Served Traced)) × AreServed outline_of_traced (TracedCall view.has_use) at t ys × (events_in ys ≡ events_in xs) × (answered_in ys ≡ answered_in xs) × AreSame view from s d t (turns_in xs) (turns_in ys)
   served_traced at d t [] has are = ([], tt, refl, refl, tt)
@@ -122,3 +144,94 @@ module _ {D : Type 0} (view : View D) (laws : ViewLaws view) (from : D) (s : Pla
         subst (λ (p : D). HasTrace view from s p (pool_after t (turns_in k.0))) run.pool_is (turning.last_traced view laws from s d t (turns_in run.served) (turns_in k.0) has k.4),
         k.4,
       )
+
+module _ {D : Type 0} (view : View D) (laws : ViewLaws view) where
+  -- nothing was done
+  pub still_goes : (pool after : D) → after ≡ pool → GoesWithTrace view pool after (λ t t'. t' ≡ t)
+  still_goes pool after is from s t has =
+      (t, refl, subst (λ (p : D). HasTrace view from s p t) (sym is) has, subst (λ (p : D). Continues view from s pool t p t) (sym is) (running.stays view laws from s pool t has))
+
+  -- one after another
+  pub goes_join : (a b c : D) (First Second Both : Traced → Traced → Type 0) → ((t u w : Traced) → First t u → Second u w → Both t w) → GoesWithTrace view a b First → GoesWithTrace view b c Second → GoesWithTrace view a c Both
+  goes_join a b c First Second Both join one two from s t has =
+      let x = one from s t has in
+      let y = two from s x.0 x.2 in
+      (y.0, join t x.0 y.0 x.1 y.1, y.2, running.goes_on view laws from s a b c t x.0 y.0 x.3 y.3)
+
+  pub goes_so : (a b : D) (Likewise Also : Traced → Traced → Type 0) → ((t u : Traced) → Likewise t u → Also t u) → GoesWithTrace view a b Likewise → GoesWithTrace view a b Also
+  goes_so a b Likewise Also so goes from s t has = let x = goes from s t has in (x.0, so t x.0 x.1, x.2, x.3)
+
+  -- ---- runs
+
+  pub run_goes : (at after : Sessions) (pool new : D) (events : List Incoming) (before out : Told) → Runs view.outline (PoolCall view) at pool events before out after new
+      → GoesWithTrace view pool new (λ t t'. Runs outline_of_traced (TracedCall view.has_use) at t events before out after t')
+  run_goes at after pool new events before out run from s t has =
+      let x = runs_traced view laws from s at after pool new t events before out has run in
+      let goes = turns_continue view laws from s pool t (turns_in run.served) (turns_in x.1.served) has x.3 in
+      (x.0, x.1, x.2, subst (λ (p : D). Continues view from s pool t p x.0) run.pool_is (subst (λ (u : Traced). Continues view from s pool t (pool_after pool (turns_in run.served)) u) x.1.pool_is goes))
+
+  pub ran_goes : (at after : Sessions) (pool new : D) (took : List Incoming) (answers : List Answer) → RunsSo view at pool took answers after new
+      → GoesWithTrace view pool new (λ t t'. RanSo outline_of_traced (TracedCall view.has_use) at t took answers after t')
+  ran_goes at after pool new took answers ran =
+      goes_so pool new _ (λ t t'. RanSo outline_of_traced (TracedCall view.has_use) at t took answers after t') (λ t t' run. (ran.0, ran.1, run, ran.3)) (run_goes at after pool new took ran.0 ran.1 ran.2)
+
+  asked_goes : (at : Sessions) (pool : D) (event : Incoming) (events bytes : ℕ) (before out : Told) → IsAsked (λ took answers. RunsSo view at pool took answers at pool) event events bytes before out
+      → GoesWithTrace view pool pool (λ t t'. IsAsked (λ took answers. RanSo outline_of_traced (TracedCall view.has_use) at t took answers at t') event events bytes before out)
+  asked_goes at pool event events bytes before out a =
+      goes_so pool pool _ (λ t t'. IsAsked (λ took answers. RanSo outline_of_traced (TracedCall view.has_use) at t took answers at t') event events bytes before out)
+      (λ t t' ran. record { answers = a.answers; did = ran; adds = a.adds; cut = a.cut; silent = a.silent; begun = a.begun }) (ran_goes at at pool pool _ a.answers a.did)
+
+  -- READs that were answered while others looked
+  pub shared_goes : (o : Option Ran) (h : HubState D) (event : Incoming) (before out : Told) → IfSome o (λ r. IsAsked (λ took answers. RunsSo view (sessions_of h.slots) h.pool took answers (sessions_of h.slots) h.pool) event r.events r.bytes before out)
+      → IfSome o (λ r. GoesWithTrace view h.pool h.pool (λ t t'. IsAsked (λ took answers. RanSo outline_of_traced (TracedCall view.has_use) (sessions_of h.slots) t took answers (sessions_of h.slots) t') event r.events r.bytes before out))
+  shared_goes None h event before out asked = tt
+  shared_goes (Some r) h event before out asked = asked_goes (sessions_of h.slots) h.pool event r.events r.bytes before out asked
+
+  -- ---- asks of a hub
+
+  pub asks_go : (a b : HubState D) (xs : List Exchange) → AreAsked (HubRuns view) a xs b → GoesWithTrace view a.pool b.pool (λ t t'. AreAsked (PlainRuns view) (with_pool a t) xs (with_pool b t'))
+  asks_go a b [] asked =
+      goes_so a.pool b.pool _ (λ t t'. AreAsked (PlainRuns view) (with_pool a t) [] (with_pool b t'))
+      (λ t t' is. ap (λ (u : Traced). with_pool b u) is ∙ ap (λ (h : HubState D). with_pool h t) asked) (still_goes a.pool b.pool (ap (λ (h : HubState D). h.pool) asked))
+  asks_go a b (x ∷ xs) asked =
+      let mid = asked.0 in
+      goes_join a.pool mid.pool b.pool (λ t u. PlainRuns view (with_pool a t) x.took x.answers (with_pool mid u)) (λ u w. AreAsked (PlainRuns view) (with_pool mid u) xs (with_pool b w)) (λ t w. AreAsked (PlainRuns view) (with_pool a t) (x ∷ xs) (with_pool b w))
+      (λ t u w one rest. (with_pool mid u, one, rest)) (ran_goes (sessions_of a.slots) (sessions_of mid.slots) a.pool mid.pool x.took x.answers asked.1) (asks_go mid b xs asked.2)
+
+  -- one client
+  pub serving_goes : (old new : HubState D) (calls calls' : List StreamCall) (out : Told) (ending : Carried) → IsServedBy (HubRuns view) old new calls calls' out ending
+      → GoesWithTrace view old.pool new.pool (λ t t'. IsServedBy (PlainRuns view) (with_pool old t) (with_pool new t') calls calls' out ending)
+  serving_goes old new calls calls' out ending (inl h) =
+      goes_so old.pool new.pool _ (λ t t'. IsServedBy (PlainRuns view) (with_pool old t) (with_pool new t') calls calls' out ending)
+      (λ t t' is. inl (h.0, is, h.2, h.3)) (asks_go old new [] h.1)
+  serving_goes old new calls calls' out ending (inr h) =
+      goes_so old.pool new.pool _ (λ t t'. IsServedBy (PlainRuns view) (with_pool old t) (with_pool new t') calls calls' out ending)
+      (λ t t' asked. inr (h.0, h.1, (h.2.0, asked, h.2.2))) (asks_go old new h.2.0 h.2.1)
+
+  -- ---- the end of all
+
+  pub leave_goes : (at after : Sessions) (pool new : D) → LeaveTo view at pool after new → GoesWithTrace view pool new (λ t t'. LeaveSo outline_of_traced (TracedCall view.has_use) at t after t')
+  leave_goes at after pool new left from s t has =
+      let ks = turning.turns_traced view laws from s at pool t left.turns has left.are in
+      let end = pool_after t ks.0 in (
+        end,
+        record {
+          turns = ks.0;
+          are = ks.1;
+          leaving = leaving_same view laws from s at pool t left.turns ks.0 ks.2 left.leaving;
+          sessions_are = sym (turning.same_sessions view laws from s at pool t left.turns ks.0 ks.2) ∙ left.sessions_are;
+          pool_is = refl;
+        },
+        subst (λ (p : D). HasTrace view from s p end) left.pool_is (turning.last_traced view laws from s pool t left.turns ks.0 has ks.2),
+        subst (λ (p : D). Continues view from s pool t p end) left.pool_is (turns_continue view laws from s pool t left.turns ks.0 has ks.2),
+      )
+
+  -- ---- of what a hub shows
+
+  pub hub_run_goes : (h now : HubState D) (after : Sessions) (new : D) (events : List Incoming) (before out : Told) → h ≡ now → Runs view.outline (PoolCall view) (sessions_of h.slots) h.pool events before out after new
+      → GoesWithTrace view now.pool new (λ t t'. Runs outline_of_traced (TracedCall view.has_use) (sessions_of now.slots) t events before out after t')
+  hub_run_goes h now after new events before out is run =
+      run_goes (sessions_of now.slots) after now.pool new events before out (subst (λ (k : HubState D). Runs view.outline (PoolCall view) (sessions_of k.slots) k.pool events before out after new) is run)
+
+  pub hub_leave_goes : (h now : HubState D) (after : Sessions) (new : D) → h ≡ now → LeaveTo view (sessions_of h.slots) h.pool after new → GoesWithTrace view now.pool new (λ t t'. LeaveSo outline_of_traced (TracedCall view.has_use) (sessions_of now.slots) t after t')
+  hub_leave_goes h now after new is left = leave_goes (sessions_of now.slots) after now.pool new (subst (λ (k : HubState D). LeaveTo view (sessions_of k.slots) k.pool after new) is left)

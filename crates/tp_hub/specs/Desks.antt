@@ -1,5 +1,8 @@
 -- Trusted reading: what is asked of a desk, ask after ask (own).
 use Rattle.std.specs.Prelude.{◌≡◌, ℕ, zero, suc, ◌+◌, ◌<◌, List, [], ◌∷◌, length, ◌⊎◌}
+use Rattle.tp_model.specs.Pool.{Outline}
+use Rattle.tp_model.specs.Calls.{Call}
+use Rattle.tp_model.specs.Calls as calls
 use Rattle.tp_model.specs.Clauses.{PoolCall, View}
 use Rattle.nbd_session.specs.Turns.{Sessions}
 use Rattle.tp_hub.specs.Told.{Answer, Grows, HasRoom, Told}
@@ -44,6 +47,11 @@ abbrev pub AreAsked : {D : Type 0} → (D → List Incoming → List Answer → 
 AreAsked Did old [] new = new ≡ old
 AreAsked {D} Did old (x ∷ xs) new = (mid : D) × Did old x.took x.answers mid × AreAsked Did mid xs new
 
--- what a hub does where it is the desk: a run, with these answers
+-- What a hub does where it is the desk: a run, with these answers. S: pools of any kind. outline: a pool's geometry, mode and holds. Calls: that a call of a
+-- pool is given an answer, and leaves another pool.
+abbrev pub RanSo : {S : Type 0} → (S → Outline) → (S → Call → calls.Answer → S → Type 0) → Sessions → S → List Incoming → List Answer → Sessions → S → Type 0
+RanSo outline Calls at p events answers at' p' = (before : Told) × (after : Told) × Runs outline Calls at p events before after at' p' × Grows before after answers
+
+-- the same over a pool that serves
 abbrev pub RunsSo : {D : Type 0} → View D → Sessions → D → List Incoming → List Answer → Sessions → D → Type 0
-RunsSo view at p events answers at' p' = (before : Told) × (after : Told) × Runs view.outline (PoolCall view) at p events before after at' p' × Grows before after answers
+RunsSo view = RanSo view.outline (PoolCall view)

@@ -2,6 +2,8 @@
 use Rattle.std.specs.Prelude.{◌≡◌, ℕ, false, List, [], ◌∷◌, ◌++◌, length, Option, Some, None, slice_index_or}
 use Rattle.tp_model.specs.Geometry.{Geometry}
 use Rattle.tp_model.specs.Pool.{Outline}
+use Rattle.tp_model.specs.Calls.{Call}
+use Rattle.tp_model.specs.Calls as calls
 use Rattle.tp_model.specs.Clauses.{PoolCall, View}
 use Rattle.nbd_session.specs.declared.phase.Phase.{Phase}
 use Rattle.nbd_session.specs.declared.phase.Phase.TheVariants.{Flags, Options, Transmission, Ended}
@@ -70,20 +72,28 @@ pub record HubState (D : Type 0) : Type 0 where
 
 -- ---- the end of all
 
-module _ {D : Type 0} (view : View D) where
-  -- turns in which sessions that are open leave, and no others
-  abbrev pub AreLeaving : Sessions → List (Happened D) → Type 0
-  AreLeaving at [] = Unit {0}
-  AreLeaving at (h ∷ hs) = (n : ℕ) × (has_ended (at n).phase ≡ false) × (h.turn ≡ Leaves n) × AreLeaving h.sessions hs
+-- turns in which sessions that are open leave, and no others
+abbrev pub AreLeaving : {S : Type 0} → Sessions → List (Happened S) → Type 0
+AreLeaving at [] = Unit {0}
+AreLeaving at (h ∷ hs) = (n : ℕ) × (has_ended (at n).phase ≡ false) × (h.turn ≡ Leaves n) × AreLeaving h.sessions hs
 
+-- S: pools. outline: a pool's geometry, mode and holds. Calls: that a call of a pool is given an answer, and leaves another pool.
+module _ {S : Type 0} (outline : S → Outline) (Calls : S → Call → calls.Answer → S → Type 0) where
   -- Sessions leave, one after another, and nothing else is done.
-  pub record LeaveTo (at : Sessions) (p : D) (at' : Sessions) (p' : D) : Type 0 where
-    pub turns : List (Happened D)
-    pub are : AreTurns view.outline (PoolCall view) at p turns
+  pub record LeaveSo (at : Sessions) (p : S) (at' : Sessions) (p' : S) : Type 0 where
+    pub turns : List (Happened S)
+    pub are : AreTurns outline Calls at p turns
     pub leaving : AreLeaving at turns
     pub sessions_are : sessions_after at turns ≡ at'
     pub pool_is : pool_after p turns ≡ p'
 
   -- all that are open leave
-  abbrev pub AllLeave : Sessions → D → D → Type 0
-  AllLeave at p p' = LeaveTo at p closed p'
+  abbrev pub AllLeaveSo : Sessions → S → S → Type 0
+  AllLeaveSo at p p' = LeaveSo at p closed p'
+
+-- the same over a pool that serves
+abbrev pub LeaveTo : {D : Type 0} → View D → Sessions → D → Sessions → D → Type 0
+LeaveTo view = LeaveSo view.outline (PoolCall view)
+
+abbrev pub AllLeave : {D : Type 0} → View D → Sessions → D → D → Type 0
+AllLeave view = AllLeaveSo view.outline (PoolCall view)

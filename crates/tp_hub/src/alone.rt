@@ -1,10 +1,11 @@
 //! One client over a hub that nobody else uses.
 
 ghost use Rattle.std.specs.Prelude.{◌≡◌, ◌<◌, ◌≤◌, [], List, length};
+ghost use Rattle.nbd_session.specs.Clauses.{GoesWithTrace};
 ghost use Rattle.tp_hub.specs.Told.{Answer};
 ghost use Rattle.tp_hub.specs.Runs.{Incoming, incoming, session_of};
 ghost use Rattle.tp_hub.specs.Desks.{IsAsked};
-ghost use Rattle.tp_hub.specs.Serve.{HubRuns, IsServedAs, IsServedBy};
+ghost use Rattle.tp_hub.specs.Serve.{HubRuns, IsServedAs, IsServedBy, PlainRuns, with_pool};
 
 use crate::answers::Answers;
 use crate::client::{Carried, carry};
@@ -43,7 +44,7 @@ fn serve_as<V: Managed, S: Stream>(
     requires number { number < 64 }
     requires room { 0 < length buffer.old.items }
     requires empty { out.old.list ≡ [] }
-    ensures served { IsServedAs V.view number hub result.0 (S.calls stream.old) (S.calls stream.new) out.new result.1 }
+    ensures served { IsServedAs (HubRuns V.view) number hub result.0 (S.calls stream.old) (S.calls stream.new) out.new result.1 }
     ensures empty { out.new.list ≡ [] }
     ensures wide { out.old.room ≤ out.new.room }
     ensures long { out.old.marks ≤ out.new.marks }
@@ -65,7 +66,9 @@ pub fn serve<V: Managed, S: Stream>(
 ) -> (Hub<V>, Carried)
     requires room { 0 < length buffer.old.items }
     requires empty { out.old.list ≡ [] }
-    ensures served { IsServedBy V.view hub result.0 (S.calls stream.old) (S.calls stream.new) out.new result.1 }
+    ensures served { IsServedBy (HubRuns V.view) hub result.0 (S.calls stream.old) (S.calls stream.new) out.new result.1 }
+    ensures traced { GoesWithTrace V.view hub.pool result.0.pool (λ t t'. IsServedBy (PlainRuns V.view) (with_pool hub t) (with_pool result.0 t')
+        (S.calls stream.old) (S.calls stream.new) out.new result.1) }
     ensures empty { out.new.list ≡ [] }
     ensures wide { out.old.room ≤ out.new.room }
     ensures long { out.old.marks ≤ out.new.marks }

@@ -50,8 +50,10 @@ impl<V: Volumes> Hub<V> {
     ghost use Rattle.std.specs.Prelude.{◌≡◌, None, IfSome};
     ghost use Rattle.tp_hub.specs.Serve.{AreAllOpen, IsLeastFree};
     ghost use Rattle.std.specs.FinMap.{empty};
+    ghost use Rattle.tp_model.specs.Clauses.{TracedCall, outline_of_traced};
+    ghost use Rattle.nbd_session.specs.Clauses.{GoesWithTrace};
     ghost use Rattle.nbd_session.specs.Turns.{closed};
-    ghost use Rattle.tp_hub.specs.Serving.{AllLeave, sessions_of};
+    ghost use Rattle.tp_hub.specs.Serving.{AllLeave, AllLeaveSo, sessions_of};
 
     /// A hub with no session. It takes no memory.
     pub fn new(pool: V) -> Hub<V>
@@ -83,6 +85,7 @@ impl<V: Volumes> Hub<V> {
     /// The pool, after all sessions ended. It takes no memory.
     pub fn into_pool(self) -> V
         ensures leaves { AllLeave V.view (sessions_of self.slots) self.pool result }
+        ensures traced { GoesWithTrace V.view self.pool result (λ t t'. AllLeaveSo outline_of_traced (TracedCall V.view.has_use) (sessions_of self.slots) t t') }
         ensures free { (V.view.outline result).holds ≡ empty }
     {
         let Hub { pool, sessions } = self;
@@ -92,7 +95,9 @@ impl<V: Volumes> Hub<V> {
 
 impl<V: SharedVolumes> Hub<V> {
     ghost use Rattle.std.specs.Prelude.{◌≡◌, ◌<◌, ◌≤◌, None, IfSome};
-    ghost use Rattle.tp_hub.specs.Desks.{IsAsked, RunsSo};
+    ghost use Rattle.tp_model.specs.Clauses.{TracedCall, outline_of_traced};
+    ghost use Rattle.nbd_session.specs.Clauses.{GoesWithTrace};
+    ghost use Rattle.tp_hub.specs.Desks.{IsAsked, RanSo, RunsSo};
     ghost use Rattle.tp_hub.specs.Runs.{Brings};
     ghost use Rattle.tp_hub.specs.Serving.{sessions_of};
 
@@ -102,6 +107,9 @@ impl<V: SharedVolumes> Hub<V> {
         requires { number < 64 }
         ensures asked { IfSome result (λ ran. IsAsked (λ took answers. RunsSo V.view (sessions_of self.now.slots) self.now.pool took answers (sessions_of self.now.slots) self.now.pool)
             (Brings number piece.now) ran.events ran.bytes out.old out.new) }
+        ensures traced { IfSome result (λ ran. GoesWithTrace V.view self.now.pool self.now.pool (λ t t'. IsAsked
+            (λ took answers. RanSo outline_of_traced (TracedCall V.view.has_use) (sessions_of self.now.slots) t took answers (sessions_of self.now.slots) t')
+            (Brings number piece.now) ran.events ran.bytes out.old out.new)) }
         ensures none { result ≡ None → (out.new.list ≡ out.old.list) × (out.old.room ≤ out.new.room) × (out.old.marks ≤ out.new.marks) }
     {
         ask_place(&self.sessions, &self.pool, number, piece, out)
@@ -110,7 +118,8 @@ impl<V: SharedVolumes> Hub<V> {
 
 impl<V: Managed> Hub<V> {
     ghost use Rattle.std.specs.Prelude.{◌<◌, ◌≤◌, length, map, drop, All};
-    ghost use Rattle.tp_model.specs.Clauses.{PoolCall};
+    ghost use Rattle.tp_model.specs.Clauses.{PoolCall, TracedCall, outline_of_traced};
+    ghost use Rattle.nbd_session.specs.Clauses.{GoesWithTrace};
     ghost use Rattle.tp_hub.specs.Runs.{IsPartOfNext, IsShortOfNext, Runs, incoming, session_of, taken_of};
     ghost use Rattle.tp_hub.specs.Serving.{sessions_of};
 
@@ -130,6 +139,8 @@ impl<V: Managed> Hub<V> {
         requires { All (λ e. session_of e < 64) events.now }
         ensures runs { Runs V.view.outline (PoolCall V.view) (sessions_of self.old.slots) self.old.pool
             (taken_of (map incoming events.now) result.events result.bytes) out.old out.new (sessions_of self.new.slots) self.new.pool }
+        ensures traced { GoesWithTrace V.view self.old.pool self.new.pool (λ t t'. Runs outline_of_traced (TracedCall V.view.has_use) (sessions_of self.old.slots) t
+            (taken_of (map incoming events.now) result.events result.bytes) out.old out.new (sessions_of self.new.slots) t') }
         ensures part { IsPartOfNext (sessions_of self.new.slots) (drop result.events (map incoming events.now)) result.bytes }
         ensures short { IsShortOfNext (sessions_of self.new.slots) (drop result.events (map incoming events.now)) out.new }
         ensures within { result.events ≤ length events.now }

@@ -3,9 +3,13 @@
 ghost use Rattle.std.specs.Prelude.{◌≡◌, ℕ, List, [], ◌∷◌, ◌++◌};
 ghost use Rattle.tp_model.specs.Pool.{PlainPool};
 ghost use Rattle.tp_model.specs.Clauses.{HasTrace, PoolCall, Traced, TracedCall, outline_of_traced};
+ghost use Rattle.nbd_session.specs.Clauses.{GoesWithTrace};
 ghost use Rattle.nbd_session.specs.Turns.{AreSame, AreTurns, Sessions, closed, pool_after, sessions_after};
 ghost use Rattle.tp_hub.specs.Told.{Told};
 ghost use Rattle.tp_hub.specs.Runs.{AreServed, Brings, Comes, Incoming, Runs, Served, turns_in};
+ghost use Rattle.tp_hub.specs.Desks.{AreAsked, Exchange};
+ghost use Rattle.tp_hub.specs.Serve.{HubRuns, PlainRuns, with_pool};
+ghost use Rattle.tp_hub.specs.Serving.{HubState};
 ghost use Rattle.tp_hub.specs.Lives.{AreHubLives, ArePlainLives, HubLife};
 ghost use Rattle.tp_hub.specs.Pairs.{InTurn};
 
@@ -53,6 +57,13 @@ pub fn runs_are_traced<V: Volumes>()
         → (run : Runs V.view.outline (PoolCall V.view) at pool events before out after new)
         → (t' : Traced) × (plainly : Runs outline_of_traced (TracedCall V.view.has_use) at t events before out after t')
         × HasTrace V.view from s new t' × AreSame V.view from s pool t (turns_in run.served) (turns_in plainly.served) }
+{}
+
+/// Asks of a hub one after another, over a pool that has a trace, are asks of a hub of the traced plain pool: the same was taken and the same answered, and
+/// what a stop leaves at any moment of any of them stands on the trace. So what is carried over a desk that is a hub, as `carry` does, goes with the trace.
+pub fn asks_are_traced<V: Volumes>()
+    ensures { (a b : HubState V) (xs : List Exchange) → AreAsked (HubRuns V.view) a xs b
+        → GoesWithTrace V.view a.pool b.pool (λ t t'. AreAsked (PlainRuns V.view) (with_pool a t) xs (with_pool b t')) }
 {}
 
 /// Where two clients come, and the first sends a text and then the second, each is greeted, and the second is heard over the pool that the first

@@ -29,10 +29,10 @@ pub use desk::{Desk, HubDesk};
 pub use event::Event;
 pub use hub::{Hub, Ran, SESSIONS};
 pub use laws::{
-    hub_lives_are_plain, runs_are_traced, runs_are_turns, runs_go_on, runs_join,
+    asks_are_traced, hub_lives_are_plain, runs_are_traced, runs_are_turns, runs_go_on, runs_join,
     two_are_heard_in_turn,
 };
 pub use log::{Log, Made};
 pub use orders::apply;
 pub use pairs::serve_two;
-pub use stream::{Put, Received, Stream, send_all};
+pub use stream::{Put, Received, Stream, send_all, write_out};

@@ -61,7 +61,7 @@ fn put_some<S: Stream>(stream: &mut S, bytes: &[u8]) -> Option<usize>
 }
 
 /// Writes all bytes, or tells that the stream failed. A short write goes on.
-fn write_out<S: Stream>(stream: &mut S, bytes: &[u8]) -> bool
+pub fn write_out<S: Stream>(stream: &mut S, bytes: &[u8]) -> bool
     ensures { Makes (S.calls stream.old) (S.calls stream.new) (λ did. IsPut bytes.now did result) }
 {
     let mut at = 0;

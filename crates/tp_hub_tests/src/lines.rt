@@ -1,40 +1,49 @@
 //! Lines over the hub, from a reader that gives little at once, and to a writer that takes little.
 
+ghost use Rattle.std.specs.Prelude.{◌≡◌};
+
 use std::alloc::Global;
 use std::io;
 use std::io::{ErrorKind, Read, Write};
+use std::marker::Brand;
 use std::test::Fail;
 use tp_hub::{Desk, Hub, HubDesk};
-use tp_lines::{Ended, LinesEnd, Taken, attend_lines, play_script, send, take_some};
+use tp_lines::{Begins, Ended, Ends, LinesEnd, Piped, attend_lines, play_script, send_text};
 use tp_shelf::blank_shelf;
 
 /// How many lines are read.
 const LINES: u64 = 2000;
 
-/// So many empty lines, one a read.
+/// So many empty lines, one a read, each of which is interrupted before.
 #[derive(Drop)]
-struct EmptyLines(u64);
+struct EmptyLines {
+    left: u64,
+    is_ready: bool,
+}
 
-impl Read for EmptyLines {
-    fn read(&mut self, buffer: &mut [u8]) -> io::Result<usize> {
-        match buffer.first_mut() {
-            Some(place) if self.0 > 0 => {
-                *place = b'\n';
-                self.0 -= 1;
-                Ok(1)
-            }
-            _ => Ok(0),
+impl EmptyLines {
+    fn new() -> EmptyLines {
+        EmptyLines {
+            left: LINES,
+            is_ready: false,
         }
     }
 }
 
-/// A reader that is interrupted.
-#[derive(Drop)]
-struct Interrupted;
-
-impl Read for Interrupted {
-    fn read(&mut self, _: &mut [u8]) -> io::Result<usize> {
-        Err(io::Error::from(ErrorKind::Interrupted))
+impl Read for EmptyLines {
+    fn read(&mut self, buffer: &mut [u8]) -> io::Result<usize> {
+        self.is_ready = !self.is_ready;
+        if self.is_ready {
+            return Err(io::Error::from(ErrorKind::Interrupted));
+        }
+        match buffer.first_mut() {
+            Some(place) if self.left > 0 => {
+                *place = b'\n';
+                self.left -= 1;
+                Ok(1)
+            }
+            _ => Ok(0),
+        }
     }
 }
 
@@ -81,10 +90,58 @@ impl Write for Drips {
     }
 }
 
+/// How a script is played from a reader to a writer.
+fn play<'a, D: Desk, R: Read, W: Write, K: Begins>(
+    alloc: Global,
+    desk: &mut D,
+    ends: Ends<'a, R, W>,
+) -> (Ends<'a, R, W>, Ended)
+    requires { K.opening ≡ record { reader = ends.input.ghost_name; writer = ends.output.ghost_name; left = R.remaining ends.input.now; told = W.contents ends.output.now } }
+{
+    let mut piped = Piped::<R, W, K>::begin(ends);
+    let ended = play_script(alloc, desk, &mut piped);
+    (piped.end(), ended)
+}
+
+/// How control lines from it end.
+fn attend<'a, D: Desk, R: Read, W: Write, K: Begins>(
+    alloc: Global,
+    desk: &mut D,
+    ends: Ends<'a, R, W>,
+) -> (Ends<'a, R, W>, LinesEnd)
+    requires { K.opening ≡ record { reader = ends.input.ghost_name; writer = ends.output.ghost_name; left = R.remaining ends.input.now; told = W.contents ends.output.now } }
+{
+    let mut piped = Piped::<R, W, K>::begin(ends);
+    let ending = attend_lines(alloc, desk, &mut piped);
+    (piped.end(), ending)
+}
+
+/// The same over any reader and any writer.
+fn play_all<D: Desk, R: Read, W: Write>(
+    alloc: Global,
+    desk: &mut D,
+    input: &mut R,
+    output: &mut W,
+) -> Ended {
+    let (_, ended) = play::<D, R, W, Brand>(alloc, desk, Ends { input, output });
+    ended
+}
+
+/// The same of control lines.
+fn attend_all<D: Desk, R: Read, W: Write>(
+    alloc: Global,
+    desk: &mut D,
+    input: &mut R,
+    output: &mut W,
+) -> LinesEnd {
+    let (_, ending) = attend::<D, R, W, Brand>(alloc, desk, Ends { input, output });
+    ending
+}
+
 /// How many empty lines are played, and how as many control lines end.
 fn read_all<D: Desk>(alloc: Global, desk: &mut D) -> (Ended, LinesEnd) {
-    let ended = play_script(alloc, desk, &mut EmptyLines(LINES), &mut Drips::new());
-    let ending = attend_lines(alloc, desk, &mut EmptyLines(LINES), &mut Drips::new());
+    let ended = play_all(alloc, desk, &mut EmptyLines::new(), &mut Drips::new());
+    let ending = attend_all(alloc, desk, &mut EmptyLines::new(), &mut Drips::new());
     (ended, ending)
 }
 
@@ -101,7 +158,7 @@ fn read_all_alone(alloc: Global) -> Result<(Ended, LinesEnd), Fail> {
     Ok(told)
 }
 
-/// The end of a script ends its last line, so that is one line more.
+/// An interrupted read is made again. The end of a script ends its last line, so that is one line more.
 #[test]
 fn any_number_of_reads(rt: HostRuntime) -> Result<(), Fail> {
     let told = read_all_alone(rt.alloc())?;
@@ -113,19 +170,24 @@ fn any_number_of_reads(rt: HostRuntime) -> Result<(), Fail> {
     Ok(())
 }
 
-#[test]
-fn an_interrupted_read_is_made_again(rt: HostRuntime) {
-    let taken = take_some(&mut Interrupted, &mut [0; 1]);
-    assert_eq!(rt; taken, Taken::Bytes(0));
-}
-
 /// All bytes are written, and then flushed.
 #[test]
 fn a_slow_writer_is_sent_all(rt: HostRuntime) {
     let mut output = Drips::new();
-    let is_sent = send(&mut output, b"ABCDEFGH");
+    let is_sent = send_text(&mut EmptyLines::new(), &mut output, b"ABCDEFGH");
     assert_eq!(rt;
         (is_sent, output.kept, output.flushed),
         (true, *b"ABCDEFGH", 8)
+    );
+}
+
+/// A writer that takes no more has failed, and is not flushed.
+#[test]
+fn a_full_writer_has_failed(rt: HostRuntime) {
+    let mut output = Drips::new();
+    let is_sent = send_text(&mut EmptyLines::new(), &mut output, b"ABCDEFGHI");
+    assert_eq!(rt;
+        (is_sent, output.kept, output.flushed),
+        (false, *b"ABCDEFGH", 0)
     );
 }

@@ -1,24 +1,25 @@
 -- Control lines answered one after another.
-use Rattle.std.proofs.Common.{◌≡◌, ℕ, zero, suc, ◌+◌, ◌<◌, Bool, true, false, List, [], ◌∷◌, ◌++◌, length, get_or, Option, Some, None, refl, sym, ap, subst, ◌∙◌, arith, append_assoc}
-use Rattle.std.specs.Prelude.{◌==◌, if◌then◌else◌, codes, MatchOption}
+use Rattle.std.proofs.Common.{◌≡◌, ℕ, zero, suc, ◌+◌, ◌-◌, ◌^◌, ◌<◌, ◌≤◌, Bool, true, false, List, [], ◌∷◌, ◌++◌, length, get_or, Option, Some, None, refl, sym, ap, subst, ◌∙◌, arith, inl, inr}
+use Rattle.std.specs.Prelude.{◌==◌, codes, Result, Ok, Err}
 use Rattle.std.specs.Fmt.{decimal}
 use Rattle.std.proofs.lemmas.Bool.{ne_eqb}
-use Rattle.std.proofs.lemmas.List.{append-nil}
-use Rattle.std.specs.Io.KnownBytes.{Appends, Consumes, IsAtEnd, Keeps}
 use Rattle.tp_hub.specs.Told.{Answer, Told, HasRoom}
 use Rattle.tp_hub.specs.Runs.{Incoming, Comes, Brings, Goes, Orders, AsksLine, AsksLineOf, taken_of}
-use Rattle.tp_hub.specs.Desks.{AreAsked, Exchange, IsAsked, IsBegun, IsCut}
-use Rattle.tp_lines.specs.Controls.{AnswersBytes, AnswersLine, AnswersLines, AnswersRead, AnswersUpTo, AsksFor, AsksForAll, AttendsLines, EndsLines, IsControl}
+use Rattle.tp_hub.specs.Desks.{Exchange, IsAsked, IsBegun, IsCut}
+use Rattle.tp_hub.specs.Carrying.{IsSaid}
+use Rattle.tp_hub.specs.Streams.{Gave, GaveAgain, GaveEnd, GaveNone, Makes, StreamCall}
+use Rattle.tp_lines.specs.Controls.{AnswersLine, AnswersOrEnds, AsksFor, AttendsLines, IsControl, drops_last, ended_by}
 use Rattle.tp_lines.specs.Lines.{IsLine, IsNoLine, spelling}
-use Rattle.tp_lines.specs.Plays.{answered, left_from, lines_from, longer}
+use Rattle.tp_lines.specs.ReadLines.{AreDone, AreRead, IsReadOnce, Leads, ReadEnd, ReadFail, ReadStop, answered, left_from, lines_from, one_more}
 use Rattle.tp_lines.specs.Texts.{text_in}
-use Rattle.tp_lines.specs.Writing.{Writes}
 use Rattle.tp_lines.specs.declared.control.LinesEnd.{LinesEnd}
 use Rattle.tp_lines.specs.declared.control.LinesEnd.TheVariants.{NoMemory, EndOfInput, InputFailed, OutputFailed}
+use Rattle.tp_lines.specs.declared.control.Lost.{Lost}
+use Rattle.tp_lines.specs.declared.control.Lost.TheVariants.{Input, Output}
 use Rattle.tp_lines.specs.declared.line.ScriptLine.{ScriptLine}
 use Rattle.tp_lines.specs.declared.line.ScriptLine.TheVariants.{Nothing, Open, Bytes, Hangup, Message, Status, Thin}
-use Rattle.tp_lines.proofs.Bytes.{appends_none, appends_then, consumes_none, consumes_then, keeps_same}
-use Rattle.tp_lines.proofs.Playing.{asks_join, left_from-append, lines_from-append, one_text, text-append}
+use Rattle.tp_lines.proofs.Doing.{SoFar, byte_ends, byte_held, leads_none, so_far_ends, so_far_more, so_far_tired, text_join, text_none, text_stops}
+use Rattle.tp_lines.proofs.Playing.{one_text}
 
 -- ---- one line
 
@@ -62,137 +63,105 @@ asks_one : (text : List ℕ) (event : Incoming) (x : Exchange) → 0 < length te
 asks_one [] event x some is took = absurd (omega (arith, some))
 asks_one (byte ∷ bytes) event x some is took = (event, x, is, took, refl)
 
-as_for_join : (ts us : List (List ℕ)) (xs ys : List Exchange) → AsksForAll ts xs → AsksForAll us ys → AsksForAll (ts ++ us) (xs ++ ys)
-as_for_join [] us xs ys none more = subst (λ (v : List Exchange). AsksForAll us (v ++ ys)) (sym none) more
-as_for_join (t ∷ ts) us xs ys (vs, zs, one, parts, rest) more = (vs, zs ++ ys, one, ap (λ (v : List Exchange). v ++ ys) parts ∙ append_assoc vs zs ys, as_for_join ts us zs ys rest more)
-
 -- a line without bytes
 pub empty_is : (text : List ℕ) → (length text == 0) ≡ true → text ≡ []
 empty_is [] is = refl
 empty_is (byte ∷ bytes) is = let wrong : false ≡ true = sym (ne_eqb (length (byte ∷ bytes)) 0 (λ e. absurd (omega (arith, e)))) ∙ is in absurd cc
 
 module _ {D : Type 0} (Did : D → List Incoming → List Answer → D → Type 0) where
-  pub line_asked : (text : List ℕ) (event : Incoming) (events bytes : ℕ) (old new : D) (before after : Told) (told told' : Option (List ℕ)) (all : Bool) → 0 < length text → IsControl text event → before.list ≡ [] → HasRoom before
-      → IsAsked (λ took answers. Did old took answers new) event events bytes before after → Writes told told' (text_in after.list) all → AnswersLine Did text old new told told' all
-  line_asked text event events bytes old new before after told told' all some is empty fits a wrote =
+  pub line_asked : (text : List ℕ) (event : Incoming) (events bytes : ℕ) (old new : D) (before after : Told) (told told' : List StreamCall) (all : Bool) → 0 < length text → IsControl text event → before.list ≡ [] → HasRoom before
+      → IsAsked (λ took answers. Did old took answers new) event events bytes before after → Makes told told' (λ did. IsSaid (text_in after.list) did all) → Leads Did (λ asks did. AnswersLine text asks did all) old new told told'
+  line_asked text event events bytes old new before after told told' all some is empty fits a says =
       let whole : taken_of (event ∷ []) events bytes ≡ event ∷ [] = whole_of text event events bytes is a.cut (a.begun fits) in
       let only : after.list ≡ a.answers = a.adds.list ∙ ap (λ (l : List Answer). l ++ a.answers) empty in
+      let x : Exchange = record { took = event ∷ []; answers = a.answers } in
       record {
-        asks = record { took = event ∷ []; answers = a.answers } ∷ [];
+        asks = x ∷ [];
         asked = (new, subst (λ (took : List Incoming). Did old took a.answers new) whole a.did, refl);
-        line = asks_one text event (record { took = event ∷ []; answers = a.answers }) some is refl;
-        wrote = subst (λ (l : List ℕ). Writes told told' l all) (ap text_in only ∙ sym (one_text a.answers)) wrote;
+        did = says.0;
+        made = says.1;
+        are = (asks_one text event x some is refl, subst (λ (l : List ℕ). IsSaid l says.0 all) (ap text_in only ∙ sym (one_text a.answers)) says.2);
       }
 
-  pub line_empty : (text : List ℕ) (d : D) (t : Option (List ℕ)) → text ≡ [] → AnswersLine Did text d d t t true
-  line_empty text d t is = subst (λ (l : List ℕ). AnswersLine Did l d d t t true) (sym is) (record { asks = []; asked = refl; line = refl; wrote = appends_none t t (keeps_same t) })
+  pub line_empty : (text : List ℕ) (d : D) (t : List StreamCall) → text ≡ [] → Leads Did (λ asks did. AnswersLine text asks did true) d d t t
+  line_empty text d t is = leads_none Did (λ asks did. AnswersLine text asks did true) d t (subst (λ (l : List ℕ). AnswersLine l [] [] true) (sym is) (refl, (refl, refl)))
 
-  -- ---- byte after byte
+-- ---- the same as what goes on or ends
 
-  pub lines_none : (line : List ℕ) (d : D) (t : Option (List ℕ)) → AnswersLines Did line [] d d t t line
-  lines_none line d t = record { asks = []; asked = refl; lines = refl; wrote = appends_none t t (keeps_same t); left_is = refl }
+pub answered_all : (text : List ℕ) (xs : List Exchange) (ds : List StreamCall) (all : Bool) → AnswersLine text xs ds all → all ≡ true → AnswersOrEnds text xs ds (Ok (tt {0}))
+answered_all text xs ds true p is = p
+answered_all text xs ds false p is = absurd cc
 
-  pub lines_join : (line a b last left : List ℕ) (old mid new : D) (t t1 t2 : Option (List ℕ)) → AnswersLines Did line a old mid t t1 last → AnswersLines Did last b mid new t1 t2 left → AnswersLines Did line (a ++ b) old new t t2 left
-  lines_join line a b last left old mid new t t1 t2 p q =
-      let same : lines_from line (a ++ b) ≡ lines_from line a ++ lines_from last b = lines_from-append a b line ∙ ap (λ (l : List ℕ). lines_from line a ++ lines_from l b) (sym p.left_is) in
-      record {
-        asks = p.asks ++ q.asks;
-        asked = asks_join Did p.asks q.asks old mid new p.asked q.asked;
-        lines = subst (λ (ts : List (List ℕ)). AsksForAll ts (p.asks ++ q.asks)) (sym same) (as_for_join (lines_from line a) (lines_from last b) p.asks q.asks p.lines q.lines);
-        wrote = subst (λ (l : List ℕ). Appends t t2 l) (sym (text-append p.asks q.asks)) (appends_then t t1 t2 (text_in (answered p.asks)) (text_in (answered q.asks)) p.wrote q.wrote);
-        left_is = q.left_is ∙ (ap (λ (l : List ℕ). left_from l b) p.left_is ∙ sym (left_from-append a b line));
-      }
+pub answered_lost : (text : List ℕ) (xs : List Exchange) (ds : List StreamCall) (all : Bool) → AnswersLine text xs ds all → all ≡ false → AnswersOrEnds text xs ds (Err Output)
+answered_lost text xs ds true p is = absurd cc
+answered_lost text xs ds false p is = p
 
-  pub lost_join : (line a b last left : List ℕ) (old mid new : D) (t t1 t2 : Option (List ℕ)) → AnswersLines Did line a old mid t t1 last → AnswersBytes Did last b mid new t1 t2 left false → (more : List ℕ) → AnswersBytes Did line ((a ++ b) ++ more) old new t t2 left false
-  lost_join line a b last left old mid new t t1 t2 p (front, rest, end, here, between, parts, q, stops) more = (
-    a ++ front,
-    rest ++ more,
-    end,
-    here,
-    between,
-    ap (λ (l : List ℕ). (a ++ l) ++ more) parts ∙ (ap (λ (l : List ℕ). l ++ more) (sym (append_assoc a front (10 ∷ rest))) ∙ append_assoc (a ++ front) (10 ∷ rest) more),
-    lines_join line a front last end old mid here t t1 between p q,
-    stops,
-  )
+-- however many lines were done before
+abbrev pub DoneSo : List ℕ → List ℕ → Result (Unit {0}) Lost → List Exchange → List StreamCall → Type 0
+DoneSo line text result xs ds = (count : ℕ) → (after : ℕ) × AreDone AnswersOrEnds (lines_from line text) count xs ds after result
 
-  newline_so : (line left : List ℕ) (old new : D) (t t' : Option (List ℕ)) (all : Bool) → left ≡ [] → AnswersLine Did line old new t t' all → AnswersBytes Did line (10 ∷ []) old new t t' left all
-  newline_so line left old new t t' true next e = record { asks = e.asks; asked = e.asked; lines = (e.asks, [], e.line, sym (append-nil e.asks), refl); wrote = e.wrote; left_is = next }
-  newline_so line left old new t t' false next e = ([], [], line, old, t, refl, lines_none line old t, e)
+abbrev pub OnceSo : List ℕ → List ℕ → Option (Result (Unit {0}) Lost) → List Exchange → List StreamCall → Type 0
+OnceSo line line' went xs ds = (count : ℕ) → (after : ℕ) × IsReadOnce AnswersOrEnds Input drops_last line count xs ds line' after went
 
-  pub byte_ends : (line text left : List ℕ) (byte : ℕ) (old new : D) (t t' : Option (List ℕ)) (all : Bool) → byte ≡ 10 → left ≡ [] → text ≡ line → AnswersLine Did text old new t t' all → AnswersBytes Did line (byte ∷ []) old new t t' left all
-  byte_ends line text left byte old new t t' all is next same e =
-      subst (λ (b : ℕ). AnswersBytes Did line (b ∷ []) old new t t' left all) (sym is) (newline_so line left old new t t' all next (subst (λ (l : List ℕ). AnswersLine Did l old new t t' all) same e))
+pub line_so : (line : List ℕ) (byte : ℕ) (result : Result (Unit {0}) Lost) (xs : List Exchange) (ds : List StreamCall) → byte ≡ 10 → AnswersOrEnds line xs ds result → DoneSo line (byte ∷ []) result xs ds
+line_so line byte (Ok done) xs ds is p count = (one_more count, byte_ends AnswersOrEnds line byte count (one_more count) xs ds (Ok done) is refl tt p)
+line_so line byte (Err why) xs ds is p count = (count, byte_ends AnswersOrEnds line byte count count xs ds (Err why) is tt refl p)
 
-  pub byte_held : (line left : List ℕ) (byte : ℕ) (d : D) (t : Option (List ℕ)) → (byte ≡ 10 → ⊥) → left ≡ longer line byte → AnswersLines Did line (byte ∷ []) d d t t left
-  byte_held line left byte d t other left_is =
-      let no_end : (byte == 10) ≡ false = ne_eqb byte 10 other in
-      record {
-        asks = [];
-        asked = refl;
-        lines = subst (λ (ts : List (List ℕ)). AsksForAll ts []) (sym (ap (λ (b : Bool). if b then line ∷ lines_from [] [] else lines_from (longer line byte) []) no_end)) refl;
-        wrote = appends_none t t (keeps_same t);
-        left_is = left_is ∙ sym (ap (λ (b : Bool). if b then left_from [] [] else left_from (longer line byte) []) no_end);
-      }
+pub held_so : (line : List ℕ) (byte : ℕ) → (byte ≡ 10 → ⊥) → DoneSo line (byte ∷ []) (Ok (tt {0})) [] []
+held_so line byte other count = (count, byte_held AnswersOrEnds line byte count other)
 
-  pub bytes_told : (line text left : List ℕ) (old new : D) (t t' : Option (List ℕ)) (all : Bool) → AnswersBytes Did line text old new t t' left all → all ≡ true → AnswersLines Did line text old new t t' left
-  bytes_told line text left old new t t' true b is = b
-  bytes_told line text left old new t t' false b is = absurd cc
+pub none_so : (line : List ℕ) → DoneSo line [] (Ok (tt {0})) [] []
+none_so line count = (count, text_none AnswersOrEnds line count)
 
-  pub bytes_lost : (line text left : List ℕ) (old new : D) (t t' : Option (List ℕ)) (all : Bool) → AnswersBytes Did line text old new t t' left all → all ≡ false → AnswersBytes Did line text old new t t' left false
-  bytes_lost line text left old new t t' true b is = absurd cc
-  bytes_lost line text left old new t t' false b is = b
+pub join_so : (line a b last : List ℕ) (r : Result (Unit {0}) Lost) → last ≡ left_from line a → (xs ys : List Exchange) (ds es : List StreamCall) → DoneSo line a (Ok (tt {0})) xs ds → DoneSo last b r ys es → DoneSo line (a ++ b) r (xs ++ ys) (ds ++ es)
+join_so line a b last r is xs ys ds es p q count = let mid = p count in let after = q mid.0 in (after.0, text_join AnswersOrEnds line a b last count mid.0 after.0 xs ys ds es r is mid.1 after.1)
 
-  -- ---- read after read
+pub stops_so : (line a more : List ℕ) (why : Lost) (xs : List Exchange) (ds : List StreamCall) → DoneSo line a (Err why) xs ds → DoneSo line (a ++ more) (Err why) xs ds
+stops_so line a more why xs ds p count = let after = p count in (after.0, text_stops AnswersOrEnds line a more count after.0 xs ds why after.1)
 
-  -- what was read so far is answered
-  pub record SoFar (line : List ℕ) (left left' : Option (List ℕ)) (old now : D) (told told' : Option (List ℕ)) (line' : List ℕ) : Type 0 where
-    pub text : List ℕ
-    pub read : Consumes left left' text
-    pub answers : AnswersLines Did line text old now told told' line'
+-- ---- one read
 
-  pub so_far_none : (line : List ℕ) (left : Option (List ℕ)) (d : D) (t : Option (List ℕ)) → SoFar line left left d d t t line
-  so_far_none line left d t = record { text = []; read = consumes_none left left (keeps_same left); answers = lines_none line d t }
+pub gave_on : (line line' piece : List ℕ) (xs : List Exchange) (ds : List StreamCall) → line' ≡ left_from line piece → DoneSo line piece (Ok (tt {0})) xs ds → OnceSo line line' None xs (Gave piece ∷ ds)
+gave_on line line' piece xs ds left p count = let after = p count in (after.0, inl (piece, ds, refl, left, after.1))
 
-  pub so_far_more : (line : List ℕ) (l0 l1 l2 : Option (List ℕ)) (old mid new : D) (t0 t1 t2 : Option (List ℕ)) (last left : List ℕ) (went : Option LinesEnd) → SoFar line l0 l1 old mid t0 t1 last → AnswersRead Did last l1 l2 mid new t1 t2 left went → went ≡ None
-      → SoFar line l0 l2 old new t0 t2 left
-  so_far_more line l0 l1 l2 old mid new t0 t1 t2 last left None r (text, read, answers) goes = record {
-    text = r.text ++ text;
-    read = consumes_then l0 l1 l2 r.text text r.read read;
-    answers = lines_join line r.text text last left old mid new t0 t1 t2 r.answers answers;
-  }
-  so_far_more line l0 l1 l2 old mid new t0 t1 t2 last left (Some ending) r p goes = absurd cc
+pub gave_last : (line line' piece : List ℕ) (why : Lost) (xs : List Exchange) (ds : List StreamCall) → DoneSo line piece (Err why) xs ds → OnceSo line line' (Some (Err why)) xs (Gave piece ∷ ds)
+gave_last line line' piece why xs ds p count = let after = p count in (after.0, λ reads. ReadStop piece after.1)
 
-  ends_join : (line a b last end : List ℕ) (l2 : Option (List ℕ)) (old mid new : D) (t t1 t2 : Option (List ℕ)) (ending : LinesEnd) → AnswersLines Did line a old mid t t1 last → AnswersUpTo Did last b l2 mid new t1 t2 end ending
-      → AnswersUpTo Did line (a ++ b) l2 old new t t2 end ending
-  ends_join line a b last end l2 old mid new t t1 t2 NoMemory p q = absurd q
-  ends_join line a b last end l2 old mid new t t1 t2 EndOfInput p q = (q.0, lines_join line a b last end old mid new t t1 t2 p q.1)
-  ends_join line a b last end l2 old mid new t t1 t2 InputFailed p q = lines_join line a b last end old mid new t t1 t2 p q
-  ends_join line a b last end l2 old mid new t t1 t2 OutputFailed p q =
-      subst (λ (l : List ℕ). AnswersBytes Did line l old new t t2 end false) (append-nil (a ++ b)) (lost_join line a b last end old mid new t t1 t2 p q [])
+pub gave_again : (line : List ℕ) → OnceSo line line None [] (GaveAgain ∷ [])
+gave_again line count = (count, inr (refl, refl, refl, refl))
 
-  so_far_up_to : (line : List ℕ) (l0 l1 l2 : Option (List ℕ)) (old mid new : D) (t0 t1 t2 : Option (List ℕ)) (last : List ℕ) (ending : LinesEnd) → SoFar line l0 l1 old mid t0 t1 last → EndsLines Did last l1 l2 mid new t1 t2 ending → EndsLines Did line l0 l2 old new t0 t2 ending
-  so_far_up_to line l0 l1 l2 old mid new t0 t1 t2 last ending r (text, end, read, upto) =
-      (r.text ++ text, end, consumes_then l0 l1 l2 r.text text r.read read, ends_join line r.text text last end l2 old mid new t0 t1 t2 ending r.answers upto)
+pub gave_end : (line line' : List ℕ) → OnceSo line line' (Some (Ok (tt {0}))) [] (GaveEnd ∷ [])
+gave_end line line' count = (count, λ reads. ReadEnd (refl, refl, refl, refl))
 
-  pub so_far_ends : (line : List ℕ) (l0 l1 l2 : Option (List ℕ)) (old mid new : D) (t0 t1 t2 : Option (List ℕ)) (last left : List ℕ) (went : Option LinesEnd) (ending : LinesEnd) → SoFar line l0 l1 old mid t0 t1 last → AnswersRead Did last l1 l2 mid new t1 t2 left went
-      → went ≡ Some ending → EndsLines Did line l0 l2 old new t0 t2 ending
-  so_far_ends line l0 l1 l2 old mid new t0 t1 t2 last left went ending r p is =
-      so_far_up_to line l0 l1 l2 old mid new t0 t1 t2 last ending r (subst (λ (o : Option LinesEnd). AnswersRead Did last l1 l2 mid new t1 t2 left o) is p)
+pub gave_none : (line line' : List ℕ) → OnceSo line line' (Some (Err Input)) [] (GaveNone ∷ [])
+gave_none line line' count = (count, λ reads. ReadFail)
 
-  pub so_far_tired : (line : List ℕ) (l0 l1 : Option (List ℕ)) (old mid : D) (t0 t1 : Option (List ℕ)) (last : List ℕ) → SoFar line l0 l1 old mid t0 t1 last → EndsLines Did line l0 l1 old mid t0 t1 InputFailed
-  so_far_tired line l0 l1 old mid t0 t1 last r = (r.text, last, r.read, r.answers)
+-- ---- read after read
 
-  pub read_ended : (line : List ℕ) (l0 l1 : Option (List ℕ)) (d : D) (t : Option (List ℕ)) → Consumes l0 l1 [] × IsAtEnd l1 → EndsLines Did line l0 l1 d d t t EndOfInput
-  read_ended line l0 l1 d t read = ([], line, read.0, (read.1, lines_none line d t))
+abbrev pub AllSo : List ℕ → Result (Unit {0}) Lost → List Exchange → List StreamCall → Type 0
+AllSo line result xs ds = (count : ℕ) × AreRead AnswersOrEnds Input drops_last 0 line 0 xs ds count result
 
-  pub read_failed : (line : List ℕ) (l0 l1 : Option (List ℕ)) (d : D) (t : Option (List ℕ)) → Keeps l0 l1 → EndsLines Did line l0 l1 d d t t InputFailed
-  read_failed line l0 l1 d t kept = ([], line, consumes_none l0 l1 kept, lines_none line d t)
+abbrev pub GoneOn : List ℕ → ℕ → List ℕ → List Exchange → List StreamCall → Type 0
+GoneOn line turns line' xs ds = (m : ℕ) × SoFar AnswersOrEnds Input drops_last line 0 turns line' m xs ds
 
-  from_first : (line : List ℕ) (l0 l1 : Option (List ℕ)) (old new : D) (t t' : Option (List ℕ)) (ending : LinesEnd) → line ≡ [] → EndsLines Did line l0 l1 old new t t' ending → EndsLines Did [] l0 l1 old new t t' ending
-  from_first line l0 l1 old new t t' ending first ends = subst (λ (l : List ℕ). EndsLines Did l l0 l1 old new t t' ending) first ends
+pub gone_none : (line : List ℕ) → GoneOn line 0 line [] []
+gone_none line = (0, λ more later k r p. p)
 
-  pub attends : (line : List ℕ) (l0 l1 : Option (List ℕ)) (old new : D) (t t' : Option (List ℕ)) (ending : LinesEnd) → line ≡ [] → EndsLines Did line l0 l1 old new t t' ending → AttendsLines Did l0 l1 old new t t' ending
-  attends line l0 l1 old new t t' NoMemory first (text, end, read, wrong) = absurd wrong
-  attends line l0 l1 old new t t' EndOfInput first ends = from_first line l0 l1 old new t t' EndOfInput first ends
-  attends line l0 l1 old new t t' InputFailed first ends = from_first line l0 l1 old new t t' InputFailed first ends
-  attends line l0 l1 old new t t' OutputFailed first ends = from_first line l0 l1 old new t t' OutputFailed first ends
+pub gone_more : (line l l' : List ℕ) (turns : ℕ) (went : Option (Result (Unit {0}) Lost)) → went ≡ None → (xs ys : List Exchange) (ds es : List StreamCall) → GoneOn line turns l xs ds → OnceSo l l' went ys es → GoneOn line (turns + 1) l' (xs ++ ys) (ds ++ es)
+gone_more line l l' turns None is xs ys ds es g p = let after = p g.0 in (after.0, so_far_more AnswersOrEnds Input drops_last line l l' 0 turns g.0 after.0 xs ys ds es g.1 after.1)
+gone_more line l l' turns (Some r) is xs ys ds es g p = absurd cc
+
+pub gone_ends : (line l l' : List ℕ) (turns : ℕ) (went : Option (Result (Unit {0}) Lost)) (result : Result (Unit {0}) Lost) → went ≡ Some result → (xs ys : List Exchange) (ds es : List StreamCall) → GoneOn line turns l xs ds → OnceSo l l' went ys es → AllSo line result (xs ++ ys) (ds ++ es)
+gone_ends line l l' turns went result is xs ys ds es g p =
+    let after = subst (λ (o : Option (Result (Unit {0}) Lost)). OnceSo l l' o ys es) is p g.0 in
+    (after.0, so_far_ends AnswersOrEnds Input drops_last line l l' 0 turns g.0 after.0 xs ys ds es result g.1 after.1)
+
+pub gone_tired : (line l : List ℕ) (turns : ℕ) → 2 ^ 64 - 1 ≤ turns → (xs : List Exchange) (ds : List StreamCall) → GoneOn line turns l xs ds → AllSo line (Err Input) xs ds
+gone_tired line l turns many xs ds g = (g.0, so_far_tired AnswersOrEnds Input drops_last line l 0 turns g.0 xs ds g.1 many)
+
+pub attends_end : (line : List ℕ) → line ≡ [] → (xs : List Exchange) (ds : List StreamCall) → AllSo line (Ok (tt {0})) xs ds → AttendsLines xs ds EndOfInput
+attends_end line first xs ds all = subst (λ (l : List ℕ). AllSo l (Ok (tt {0})) xs ds) first all
+
+pub attends_lost : (line : List ℕ) (why : Lost) → line ≡ [] → (xs : List Exchange) (ds : List StreamCall) → AllSo line (Err why) xs ds → AttendsLines xs ds (ended_by why)
+attends_lost line Input first xs ds all = subst (λ (l : List ℕ). AllSo l (Err Input) xs ds) first all
+attends_lost line Output first xs ds all = subst (λ (l : List ℕ). AllSo l (Err Output) xs ds) first all

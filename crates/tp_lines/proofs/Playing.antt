@@ -1,20 +1,18 @@
--- Lines played one after another.
-use Rattle.std.proofs.Common.{◌≡◌, ℕ, zero, suc, ◌+◌, ◌<◌, ◌≤◌, Bool, true, false, List, [], ◌∷◌, ◌++◌, length, take, drop, get_or, Option, Some, None, refl, sym, ap, subst, ◌∙◌, arith, inl, inr, append_assoc}
-use Rattle.std.specs.Prelude.{◌⊎◌, ◌==◌, if◌then◌else◌, not, OnErr, OnOk, Result, Ok, Err}
-use Rattle.std.proofs.lemmas.Bool.{ne_eqb}
-use Rattle.std.proofs.lemmas.List.{append-nil, drop-drop, drop_more, length-drop, length-take-le, take-append-drop}
-use Rattle.std.specs.Io.KnownBytes.{Appends, Consumes, IsAtEnd, Keeps}
-use Rattle.tp_hub.specs.Told.{Answer}
+-- Lines of a script played one after another.
+use Rattle.std.proofs.Common.{◌≡◌, ℕ, zero, suc, ◌+◌, ◌<◌, ◌≤◌, Bool, true, false, List, [], ◌∷◌, ◌++◌, length, take, drop, Option, Some, None, refl, sym, ap, subst, ◌∙◌, arith, inl, inr, append_assoc}
+use Rattle.std.specs.Prelude.{◌⊎◌, not, OnErr, OnOk, Result, Ok, Err}
+use Rattle.std.proofs.lemmas.List.{append-nil, drop-drop, drop_all, length-drop, length-take-le, take-append-drop}
+use Rattle.tp_hub.specs.Told.{Answer, HasRoom, Told}
 use Rattle.tp_hub.specs.Runs.{Incoming, Comes, Brings, Goes, Orders, AsksLine, AsksLineOf, taken_of}
-use Rattle.tp_hub.specs.Desks.{AreAsked, Exchange, IsBegun, IsCut}
-use Rattle.tp_lines.specs.Plays.{ArePlayed, Asks, Does, EndsLine, EndsScript, GivesAll, GivesTo, IsWhole, Played, PlaysBytes, PlaysLine, PlaysRead, Takes, answered, counted, left_from, lines_from, longer, one_more}
-use Rattle.tp_lines.specs.Lines.{IsLine, spelling}
-use Rattle.tp_lines.specs.declared.line.ScriptLine.{ScriptLine}
+use Rattle.tp_hub.specs.Desks.{Exchange, IsAsked, IsBegun, IsCut}
+use Rattle.tp_hub.specs.Carrying.{IsSaid}
+use Rattle.tp_hub.specs.Streams.{Gave, GaveAgain, GaveEnd, GaveNone, Makes, StreamCall}
+use Rattle.tp_lines.specs.Plays.{Asks, GivesAll, IsWhole, PlaysLine, PlaysScript, Takes, ends_last}
+use Rattle.tp_lines.specs.ReadLines.{AreDone, AreRead, IsReadOnce, Leads, ReadEnd, ReadFail, ReadStop, left_from, lines_from, one_more}
 use Rattle.tp_lines.specs.declared.play.Stopped.{Stopped}
-use Rattle.tp_lines.specs.declared.play.Stopped.TheVariants.{Memory, Output, Script}
-use Rattle.tp_lines.specs.Texts.{text_in, text_of}
-use Rattle.tp_lines.specs.Writing.{Writes}
-use Rattle.tp_lines.proofs.Bytes.{appends_none, appends_then, consumes_none, consumes_then, keeps_same, writes_then}
+use Rattle.tp_lines.specs.declared.play.Stopped.TheVariants.{BadLine, Memory, Output, Script}
+use Rattle.tp_lines.specs.Texts.{text_in}
+use Rattle.tp_lines.proofs.Doing.{SoFar, byte_ends, leads_join, done_one, so_far_ends, so_far_more}
 
 -- ---- one ask
 
@@ -22,15 +20,25 @@ pub one_text : (answers : List Answer) → text_in (answers ++ []) ≡ text_in a
 one_text answers = ap text_in (append-nil answers)
 
 -- what was taken of an event that is no piece
-taken_whole : (event : Incoming) (events bytes : ℕ) → IsWhole event → IsCut event events bytes → ((0 < events) × (taken_of (event ∷ []) events bytes ≡ event ∷ [])) ⊎ ((events ≡ 0) × (taken_of (event ∷ []) events bytes ≡ []))
-taken_whole (Comes n) zero bytes whole cut = inr (refl, refl)
+taken_whole : (event : Incoming) (events bytes : ℕ) → IsWhole event → IsCut event events bytes
+    → ((0 < events) × (taken_of (event ∷ []) events bytes ≡ event ∷ [])) ⊎ ((events ≡ 0) × (bytes ≡ 0) × (taken_of (event ∷ []) events bytes ≡ []))
+taken_whole (Comes n) zero bytes whole cut = inr (refl, cut, refl)
 taken_whole (Brings n piece) zero bytes whole cut = absurd whole
-taken_whole (Goes n) zero bytes whole cut = inr (refl, refl)
-taken_whole (Orders line) zero bytes whole cut = inr (refl, refl)
-taken_whole AsksLine zero bytes whole cut = inr (refl, refl)
-taken_whole (AsksLineOf id) zero bytes whole cut = inr (refl, refl)
+taken_whole (Goes n) zero bytes whole cut = inr (refl, cut, refl)
+taken_whole (Orders line) zero bytes whole cut = inr (refl, cut, refl)
+taken_whole AsksLine zero bytes whole cut = inr (refl, cut, refl)
+taken_whole (AsksLineOf id) zero bytes whole cut = inr (refl, cut, refl)
 taken_whole event (suc zero) bytes whole cut = inl (omega arith, refl)
 taken_whole event (suc (suc n)) bytes whole cut = let none = cut.0 in absurd (omega (arith, none))
+
+-- Only a client that comes may not be taken.
+comes_so : (event : Incoming) (bytes : ℕ) → IsWhole event → IsBegun event 0 bytes → (n : ℕ) × (event ≡ Comes n)
+comes_so (Comes n) bytes whole begun = (n, refl)
+comes_so (Brings n piece) bytes whole begun = absurd whole
+comes_so (Goes n) bytes whole begun = absurd (omega (arith, begun))
+comes_so (Orders line) bytes whole begun = absurd (omega (arith, begun))
+comes_so AsksLine bytes whole begun = absurd (omega (arith, begun))
+comes_so (AsksLineOf id) bytes whole begun = absurd (omega (arith, begun))
 
 -- and of a piece
 taken_piece : (n : ℕ) (piece : List ℕ) (events bytes : ℕ) → IsCut (Brings n piece) events bytes → IsBegun (Brings n piece) events bytes
@@ -50,284 +58,165 @@ pub not_true : (b : Bool) → not b ≡ false → b ≡ true
 not_true true e = refl
 not_true false e = absurd cc
 
-text_in-append : (a b : List Answer) → text_in (a ++ b) ≡ text_in a ++ text_in b
-text_in-append [] b = refl
-text_in-append (x ∷ a) b = ap (λ (l : List ℕ). text_of x ++ l) (text_in-append a b) ∙ sym (append_assoc (text_of x) (text_in a) (text_in b))
-
-answered-append : (xs ys : List Exchange) → answered (xs ++ ys) ≡ answered xs ++ answered ys
-answered-append [] ys = refl
-answered-append (x ∷ xs) ys = ap (λ (l : List Answer). x.answers ++ l) (answered-append xs ys) ∙ sym (append_assoc x.answers (answered xs) (answered ys))
-
-pub text-append : (xs ys : List Exchange) → text_in (answered (xs ++ ys)) ≡ text_in (answered xs) ++ text_in (answered ys)
-text-append xs ys = ap text_in (answered-append xs ys) ∙ text_in-append (answered xs) (answered ys)
-
-gives_more : (n : ℕ) (piece : List ℕ) (xs : List Exchange) (front rest : List ℕ) (x : Exchange) → GivesTo n piece xs (front ++ rest) → 0 < length front → x.took ≡ Brings n front ∷ [] → GivesTo n piece (xs ++ x ∷ []) rest
-gives_more n piece [] front rest x given some took = (front, rest, given, some, took, refl)
-gives_more n piece (y ∷ xs) front rest x (f, b, e, s, t, given) some took = (f, b, e, s, t, gives_more n b xs front rest x given some took)
+said_nothing : (answers : List Answer) (did : List StreamCall) (all : Bool) → answers ≡ [] → IsSaid (text_in answers) did all → (did ≡ []) × (all ≡ true)
+said_nothing answers did all none says = subst (λ (l : List Answer). IsSaid (text_in l) did all) none says
 
 module _ {D : Type 0} (Did : D → List Incoming → List Answer → D → Type 0) where
-  -- a piece up to a place
-  pub record Giving (n : ℕ) (piece : List ℕ) (at : ℕ) (old now : D) (told told' : Option (List ℕ)) : Type 0 where
-    pub asks : List Exchange
-    pub asked : AreAsked Did old asks now
-    pub given : GivesTo n piece asks (drop at piece)
-    pub wrote : Appends told told' (text_in (answered asks))
-
-  pub asks_join : (xs ys : List Exchange) (old mid new : D) → AreAsked Did old xs mid → AreAsked Did mid ys new → AreAsked Did old (xs ++ ys) new
-  asks_join [] ys old mid new e more = subst (λ (d : D). AreAsked Did d ys new) e more
-  asks_join (x ∷ xs) ys old mid new (d, did, asked) more = (d, did, asks_join xs ys d mid new asked more)
-
-  exchange_of : (event : Incoming) (old new : D) (told told' : Option (List ℕ)) (events bytes : ℕ) (all : Bool) → Asks Did event old new told told' events bytes all → Exchange
-  exchange_of event old new told told' events bytes all a = record { took = taken_of (event ∷ []) events bytes; answers = a.answers }
-
-  taken_or_not : (event : Incoming) (events bytes : ℕ) (answers : List Answer) → IsWhole event → IsCut event events bytes → Takes event (record { took = taken_of (event ∷ []) events bytes; answers = answers } ∷ []) false
-  taken_or_not event events bytes answers whole cut = elim (taken_whole event events bytes whole cut) [ inl yes_it ↦ (record { took = taken_of (event ∷ []) events bytes; answers = answers }, refl, inl yes_it.1) | inr none ↦ (record { took = taken_of (event ∷ []) events bytes; answers = answers }, refl, inr none.1) ]
-
-  pub event_lost : (event : Incoming) (old new : D) (told told' : Option (List ℕ)) (events bytes : ℕ) (all : Bool) → IsWhole event → Asks Did event old new told told' events bytes all → all ≡ false → EndsLine Did (λ xs every. Takes event xs every) old new told told' (Err Output)
-  event_lost event old new told told' events bytes all whole a lost = record {
-    asks = record { took = taken_of (event ∷ []) events bytes; answers = a.answers } ∷ [];
-    asked = (new, a.did, refl);
-    done = taken_or_not event events bytes a.answers whole a.cut;
-    wrote = subst (λ (l : List ℕ). Writes told told' l false) (sym (one_text a.answers)) (subst (λ (b : Bool). Writes told told' (text_in a.answers) b) lost a.wrote);
-    why = tt;
-  }
-
-  pub event_short : (event : Incoming) (old new : D) (told told' : Option (List ℕ)) (events bytes : ℕ) (all : Bool) → IsWhole event → Asks Did event old new told told' events bytes all → all ≡ true → EndsLine Did (λ xs every. Takes event xs every) old new told told' (Err Memory)
-  event_short event old new told told' events bytes all whole a done = record {
-    asks = record { took = taken_of (event ∷ []) events bytes; answers = a.answers } ∷ [];
-    asked = (new, a.did, refl);
-    done = taken_or_not event events bytes a.answers whole a.cut;
-    wrote = subst (λ (l : List ℕ). Writes told told' l true) (sym (one_text a.answers)) (subst (λ (b : Bool). Writes told told' (text_in a.answers) b) done a.wrote);
-    why = tt;
-  }
-
-  taken_it : (event : Incoming) (events bytes : ℕ) (answers : List Answer) → IsWhole event → IsCut event events bytes → 0 < events → Takes event (record { took = taken_of (event ∷ []) events bytes; answers = answers } ∷ []) true
-  taken_it event events bytes answers whole cut some = elim (taken_whole event events bytes whole cut) [ inl yes_it ↦ (record { took = taken_of (event ∷ []) events bytes; answers = answers }, refl, yes_it.1) | inr none ↦ let z = none.0 in absurd (omega (arith, z, some)) ]
-
-  pub event_done : (event : Incoming) (old new : D) (told told' : Option (List ℕ)) (events bytes : ℕ) (all : Bool) → IsWhole event → Asks Did event old new told told' events bytes all → all ≡ true → 0 < events → EndsLine Did (λ xs every. Takes event xs every) old new told told' (Ok (tt {0}))
-  event_done event old new told told' events bytes all whole a done some = record {
-    asks = record { took = taken_of (event ∷ []) events bytes; answers = a.answers } ∷ [];
-    asked = (new, a.did, refl);
-    done = taken_it event events bytes a.answers whole a.cut some;
-    wrote = subst (λ (l : List ℕ). Writes told told' l true) (sym (one_text a.answers)) (subst (λ (b : Bool). Writes told told' (text_in a.answers) b) done a.wrote);
-    why = tt;
-  }
-
-  -- ---- pieces
-
-  given_whole : (n : ℕ) (piece rest : List ℕ) (at : ℕ) (xs : List Exchange) (x : Exchange) → rest ≡ drop at piece → 0 < length rest → GivesTo n piece xs (drop at piece) → x.took ≡ Brings n rest ∷ [] → GivesTo n piece (xs ++ x ∷ []) []
-  given_whole n piece rest at xs x is some given took = gives_more n piece xs rest [] x (subst (λ (l : List ℕ). GivesTo n piece xs l) (sym is ∙ sym (append-nil rest)) given) some took
-
-  given_part : (n : ℕ) (piece rest : List ℕ) (at bytes : ℕ) (xs : List Exchange) (x : Exchange) → rest ≡ drop at piece → 0 < bytes → bytes < length rest → GivesTo n piece xs (drop at piece) → x.took ≡ Brings n (take bytes rest) ∷ [] → GivesTo n piece (xs ++ x ∷ []) (drop (at + bytes) piece)
-  given_part n piece rest at bytes xs x is some lt given took =
-      let parts : drop at piece ≡ take bytes rest ++ drop (at + bytes) piece =
-      sym is ∙ (sym (take-append-drop bytes rest) ∙ ap (λ (l : List ℕ). take bytes rest ++ l) (ap (drop bytes) is ∙ drop-drop bytes at piece)) in
-      gives_more n piece xs (take bytes rest) (drop (at + bytes) piece) x (subst (λ (l : List ℕ). GivesTo n piece xs l) parts given) (omega (arith, length-take-le bytes rest (omega (arith, lt)), some)) took
-
-  wrote_more : (told between told' : Option (List ℕ)) (xs : List Exchange) (x : Exchange) (all : Bool) → Appends told between (text_in (answered xs)) → Writes between told' (text_in x.answers) all → Writes told told' (text_in (answered (xs ++ x ∷ []))) all
-  wrote_more told between told' xs x all before more =
-      subst (λ (l : List ℕ). Writes told told' l all) (sym (text-append xs (x ∷ []))) (writes_then told between told' (text_in (answered xs)) (text_in (x.answers ++ [])) all before (subst (λ (l : List ℕ). Writes between told' l all) (sym (one_text x.answers)) more))
-
-  pub piece_lost : (n : ℕ) (piece rest : List ℕ) (at : ℕ) (old now new : D) (told between told' : Option (List ℕ)) (events bytes : ℕ) (all : Bool) → rest ≡ drop at piece → 0 < length rest
-      → Giving n piece at old now told between → Asks Did (Brings n rest) now new between told' events bytes all → all ≡ false → EndsLine Did (λ xs every. GivesAll n piece xs every) old new told told' (Err Output)
-  piece_lost n piece rest at old now new told between told' events bytes all is some g a lost =
-      let x : Exchange = record { took = taken_of (Brings n rest ∷ []) events bytes; answers = a.answers } in
+  pub asks_so : (event : Incoming) (events bytes : ℕ) (old new : D) (before after : Told) (t t' : List StreamCall) (all : Bool) → IsAsked (λ took answers. Did old took answers new) event events bytes before after → before.list ≡ [] → HasRoom before
+      → Makes t t' (λ did. IsSaid (text_in after.list) did all) → Asks Did event old new t t' events bytes all
+  asks_so event events bytes old new before after t t' all a empty fits says =
+      let only : after.list ≡ a.answers = a.adds.list ∙ ap (λ (l : List Answer). l ++ a.answers) empty in
       record {
-        asks = g.asks ++ x ∷ [];
-        asked = asks_join g.asks (x ∷ []) old now new g.asked (new, a.did, refl);
-        done = elim (taken_piece n rest events bytes a.cut a.begun) [ inl all_of_it ↦ ([], given_whole n piece rest at g.asks x is some g.given all_of_it.1) | inr part ↦ (drop (at + bytes) piece, given_part n piece rest at bytes g.asks x is part.1 part.2 g.given part.3) ];
-        wrote = wrote_more told between told' g.asks x false g.wrote (subst (λ (b : Bool). Writes between told' (text_in a.answers) b) lost a.wrote);
-        why = tt;
+        answers = a.answers;
+        asked = a.did;
+        cut = a.cut;
+        silent = a.silent;
+        begun = a.begun fits;
+        did = says.0;
+        made = says.1;
+        says = subst (λ (l : List ℕ). IsSaid l says.0 all) (ap text_in only) says.2;
       }
 
-  pub piece_done : (n : ℕ) (piece rest : List ℕ) (at : ℕ) (old now new : D) (told between told' : Option (List ℕ)) (events bytes : ℕ) (all : Bool) → rest ≡ drop at piece → 0 < length rest
-      → Giving n piece at old now told between → Asks Did (Brings n rest) now new between told' events bytes all → all ≡ true → 0 < events → EndsLine Did (λ xs every. GivesAll n piece xs every) old new told told' (Ok (tt {0}))
-  piece_done n piece rest at old now new told between told' events bytes all is some g a done taken =
-      let x : Exchange = record { took = taken_of (Brings n rest ∷ []) events bytes; answers = a.answers } in
-      record {
-        asks = g.asks ++ x ∷ [];
-        asked = asks_join g.asks (x ∷ []) old now new g.asked (new, a.did, refl);
-        done = elim (taken_piece n rest events bytes a.cut a.begun) [ inl all_of_it ↦ given_whole n piece rest at g.asks x is some g.given all_of_it.1 | inr part ↦ let z = part.0 in absurd (omega (arith, z, taken)) ];
-        wrote = wrote_more told between told' g.asks x true g.wrote (subst (λ (b : Bool). Writes between told' (text_in a.answers) b) done a.wrote);
-        why = tt;
-      }
+  module _ (event : Incoming) (old new : D) (t t' : List StreamCall) (events bytes : ℕ) (all : Bool) (whole : IsWhole event) (a : Asks Did event old new t t' events bytes all) where
+    abbrev this : Exchange
+    this = record { took = taken_of (event ∷ []) events bytes; answers = a.answers }
 
-  pub piece_inside : (n : ℕ) (piece rest : List ℕ) (at : ℕ) (old new : D) (told told' : Option (List ℕ)) (events bytes : ℕ) (all : Bool) → rest ≡ drop at piece → at ≤ length piece
-      → Asks Did (Brings n rest) old new told told' events bytes all → events ≡ 0 → at + bytes ≤ length piece
-  piece_inside n piece rest at old new told told' events bytes all is within a none =
-      elim (taken_piece n rest events bytes a.cut a.begun) [
-        | inl all_of_it ↦ let s = all_of_it.0 in absurd (omega (arith, s, none))
-        | inr part ↦ let lt = part.2 in let len : length rest ≡ length (drop at piece) = ap length is in omega (arith, lt, len, length-drop at piece, within)
-      ]
+    by_this : (result : Result (Unit {0}) Stopped) → Takes event (this ∷ []) a.did result → Leads Did (λ asks did. Takes event asks did result) old new t t'
+    by_this result takes = record { asks = this ∷ []; asked = (new, a.asked, refl); did = a.did; made = a.made; are = takes }
 
-  pub piece_more : (n : ℕ) (piece rest : List ℕ) (at : ℕ) (old now new : D) (told between told' : Option (List ℕ)) (events bytes : ℕ) (all : Bool) → rest ≡ drop at piece
-      → Giving n piece at old now told between → Asks Did (Brings n rest) now new between told' events bytes all → all ≡ true → events ≡ 0 → Giving n piece (at + bytes) old new told told'
-  piece_more n piece rest at old now new told between told' events bytes all is g a done none =
-      let x : Exchange = record { took = taken_of (Brings n rest ∷ []) events bytes; answers = a.answers } in
-      record {
-        asks = g.asks ++ x ∷ [];
-        asked = asks_join g.asks (x ∷ []) old now new g.asked (new, a.did, refl);
-        given = elim (taken_piece n rest events bytes a.cut a.begun) [ inl all_of_it ↦ let s = all_of_it.0 in absurd (omega (arith, s, none)) | inr part ↦ given_part n piece rest at bytes g.asks x is part.1 part.2 g.given part.3 ];
-        wrote = wrote_more told between told' g.asks x true g.wrote (subst (λ (b : Bool). Writes between told' (text_in a.answers) b) done a.wrote);
-      }
+    pub event_lost : all ≡ false → Leads Did (λ asks did. Takes event asks did (Err Output)) old new t t'
+    event_lost lost = by_this (Err Output) (elim (taken_whole event events bytes whole a.cut) [
+      | inl it ↦ (this, refl, it.1, subst (λ (b : Bool). IsSaid (text_in a.answers) a.did b) lost a.says)
+      | inr none ↦ let wrong = (said_nothing a.answers a.did all (a.silent none.0 none.1) a.says).1 in let no_such : false ≡ true = sym lost ∙ wrong in absurd cc
+    ])
 
--- something is left
+    pub event_short : all ≡ true → events ≡ 0 → Leads Did (λ asks did. Takes event asks did (Err Memory)) old new t t'
+    event_short done none = by_this (Err Memory) (elim (taken_whole event events bytes whole a.cut) [
+      | inl it ↦ let some = it.0 in absurd (omega (arith, some, none))
+      | inr nothing ↦
+          let silent : a.answers ≡ [] = a.silent nothing.0 nothing.1 in
+          (this, refl, nothing.2, silent, (said_nothing a.answers a.did all silent a.says).0, comes_so event bytes whole (subst (λ (n : ℕ). IsBegun event n bytes) none a.begun))
+    ])
+
+    pub event_done : all ≡ true → 0 < events → Leads Did (λ asks did. Takes event asks did (Ok (tt {0}))) old new t t'
+    event_done done some = by_this (Ok (tt {0})) (elim (taken_whole event events bytes whole a.cut) [
+      | inl it ↦ (this, refl, it.1, subst (λ (b : Bool). IsSaid (text_in a.answers) a.did b) done a.says)
+      | inr none ↦ let z = none.0 in absurd (omega (arith, z, some))
+    ])
+
+-- ---- pieces
+
+-- so far a piece was given up to a place, and whatever is given from there on completes it
+abbrev pub GivenTo : ℕ → List ℕ → ℕ → List Exchange → List StreamCall → Type 0
+GivenTo n piece at xs ds = (ys : List Exchange) (later : List StreamCall) (result : Result (Unit {0}) Stopped) → GivesAll n (drop at piece) ys later result → GivesAll n piece (xs ++ ys) (ds ++ later) result
+
+pub given_none : (n : ℕ) (piece : List ℕ) → GivenTo n piece 0 [] []
+given_none n piece ys later result p = p
+
+pub given_all : (n : ℕ) (piece : List ℕ) (at : ℕ) (xs : List Exchange) (ds : List StreamCall) → length piece ≤ at → GivenTo n piece at xs ds → GivesAll n piece xs ds (Ok (tt {0}))
+given_all n piece at xs ds over g =
+    subst (λ (l : List Exchange). GivesAll n piece l ds (Ok (tt {0}))) (append-nil xs) (subst (λ (l : List StreamCall). GivesAll n piece (xs ++ []) l (Ok (tt {0}))) (append-nil ds) (g [] [] (Ok (tt {0})) (drop_all at piece over, refl, refl)))
+
 pub left_some : (at : ℕ) (piece rest : List ℕ) → at < length piece → rest ≡ drop at piece → 0 < length rest
 left_some at piece rest lt is = let len : length rest ≡ length (drop at piece) = ap length is in omega (arith, len, length-drop at piece, lt)
 
--- ---- lines one after another
+module _ {D : Type 0} (Did : D → List Incoming → List Answer → D → Type 0) (n : ℕ) (piece rest : List ℕ) (at : ℕ) (mid new : D) (t1 t2 : List StreamCall) (events bytes : ℕ) (all : Bool) (is : rest ≡ drop at piece) (a : Asks Did (Brings n rest) mid new t1 t2 events bytes all) where
+  abbrev asked : Exchange
+  asked = record { took = taken_of (Brings n rest ∷ []) events bytes; answers = a.answers }
 
-played_more : (ts : List (List ℕ)) (xs ys : List Exchange) (text : List ℕ) (l : ScriptLine) → ArePlayed ts xs → IsLine l → text ≡ spelling l → Does l ys true → ArePlayed (ts ++ text ∷ []) (xs ++ ys)
-played_more [] xs ys text l none good is does = (l, ys, [], good, is, does, (ap (λ (zs : List Exchange). zs ++ ys) none ∙ sym (append-nil ys)), refl)
-played_more (t ∷ ts) xs ys text l (k, us, zs, kgood, kis, kdoes, parts, rest) good is does =
-    (k, us, zs ++ ys, kgood, kis, kdoes, ap (λ (v : List Exchange). v ++ ys) parts ∙ append_assoc us zs ys, played_more ts zs ys text l rest good is does)
+  -- the front that was taken
+  front_so : 0 < length rest → (front : List ℕ) × (behind : List ℕ) × (rest ≡ front ++ behind) × (asked.took ≡ Brings n front ∷ []) × (0 < length front)
+  front_so some = elim (taken_piece n rest events bytes a.cut a.begun) [
+    | inl it ↦ (rest, [], sym (append-nil rest), it.1, some)
+    | inr part ↦ let b = part.1 in let lt = part.2 in (take bytes rest, drop bytes rest, sym (take-append-drop bytes rest), part.3, omega (arith, length-take-le bytes rest (omega (arith, lt)), b))
+  ]
 
-are_played_join : (ts us : List (List ℕ)) (xs ys : List Exchange) → ArePlayed ts xs → ArePlayed us ys → ArePlayed (ts ++ us) (xs ++ ys)
-are_played_join [] us xs ys none more = subst (λ (v : List Exchange). ArePlayed us (v ++ ys)) (sym none) more
-are_played_join (t ∷ ts) us xs ys (k, vs, zs, kgood, kis, kdoes, parts, rest) more =
-    (k, vs, zs ++ ys, kgood, kis, kdoes, ap (λ (v : List Exchange). v ++ ys) parts ∙ append_assoc vs zs ys, are_played_join ts us zs ys rest more)
+  front_all : 0 < events → asked.took ≡ Brings n rest ∷ []
+  front_all some = elim (taken_piece n rest events bytes a.cut a.begun) [ inl it ↦ it.1 | inr part ↦ let z = part.0 in absurd (omega (arith, z, some)) ]
 
-counted-append : (n : ℕ) (a b : List (List ℕ)) → counted n (a ++ b) ≡ counted (counted n a) b
-counted-append n [] b = refl
-counted-append n (x ∷ a) b = counted-append (one_more n) a b
+  abbrev FrontPart : Type 0
+  FrontPart = (0 < bytes) × (bytes < length rest) × (asked.took ≡ Brings n (take bytes rest) ∷ [])
 
-lines_from_byte : (line : List ℕ) (byte : ℕ) (a b : List ℕ) (is : Bool) → ((now : List ℕ) → lines_from now (a ++ b) ≡ lines_from now a ++ lines_from (left_from now a) b)
-    → (if is then line ∷ lines_from [] (a ++ b) else lines_from (longer line byte) (a ++ b)) ≡ (if is then line ∷ lines_from [] a else lines_from (longer line byte) a) ++ lines_from (if is then left_from [] a else left_from (longer line byte) a) b
-lines_from_byte line byte a b true rest = ap (λ (l : List (List ℕ)). line ∷ l) (rest [])
-lines_from_byte line byte a b false rest = rest (longer line byte)
+  front_part : events ≡ 0 → FrontPart
+  front_part none = elim (taken_piece n rest events bytes a.cut a.begun) [ inl it ↦ let s = it.0 in absurd (omega (arith, s, none)) | inr part ↦ (part.1, part.2, part.3) ]
 
-pub lines_from-append : (a b line : List ℕ) → lines_from line (a ++ b) ≡ lines_from line a ++ lines_from (left_from line a) b
-lines_from-append [] b line = refl
-lines_from-append (byte ∷ a) b line = lines_from_byte line byte a b (byte == 10) (lines_from-append a b)
+  one_ask : (result : Result (Unit {0}) Stopped) → GivesAll n rest (asked ∷ []) a.did result → Leads Did (λ asks did. GivesAll n (drop at piece) asks did result) mid new t1 t2
+  one_ask result gives = record { asks = asked ∷ []; asked = (new, a.asked, refl); did = a.did; made = a.made; are = subst (λ (l : List ℕ). GivesAll n l (asked ∷ []) a.did result) is gives }
 
-left_from_byte : (line : List ℕ) (byte : ℕ) (a b : List ℕ) (is : Bool) → ((now : List ℕ) → left_from now (a ++ b) ≡ left_from (left_from now a) b)
-    → (if is then left_from [] (a ++ b) else left_from (longer line byte) (a ++ b)) ≡ left_from (if is then left_from [] a else left_from (longer line byte) a) b
-left_from_byte line byte a b true rest = rest []
-left_from_byte line byte a b false rest = rest (longer line byte)
+  module _ (old : D) (t0 : List StreamCall) (g : Leads Did (GivenTo n piece at) old mid t0 t1) where
+    ends_so : (result : Result (Unit {0}) Stopped) → GivesAll n rest (asked ∷ []) a.did result → Leads Did (λ asks did. GivesAll n piece asks did result) old new t0 t2
+    ends_so result gives = leads_join Did (GivenTo n piece at) (λ asks did. GivesAll n (drop at piece) asks did result) (λ asks did. GivesAll n piece asks did result) old mid new t0 t1 t2 g (one_ask result gives) (λ xs ys ds es s p. s ys es result p)
 
-pub left_from-append : (a b line : List ℕ) → left_from line (a ++ b) ≡ left_from (left_from line a) b
-left_from-append [] b line = refl
-left_from-append (byte ∷ a) b line = left_from_byte line byte a b (byte == 10) (left_from-append a b)
+    pub piece_lost : 0 < length rest → all ≡ false → Leads Did (λ asks did. GivesAll n piece asks did (Err Output)) old new t0 t2
+    piece_lost some lost =
+        let f = front_so some in
+        ends_so (Err Output) (f.0, f.1, a.did, [], false, f.2, sym (append-nil a.did), f.3, f.4, subst (λ (b : Bool). IsSaid (text_in a.answers) a.did b) lost a.says, (refl, refl, refl))
 
-module _ {D : Type 0} (Did : D → List Incoming → List Answer → D → Type 0) where
-  pub played_none : (line : List ℕ) (count : ℕ) (d : D) (told : Option (List ℕ)) → Played Did line [] count d d told told line count
-  played_none line count d told = record { asks = []; asked = refl; lines = refl; wrote = appends_none told told (keeps_same told); left_is = refl; count_is = refl }
+    pub piece_done : 0 < length rest → all ≡ true → 0 < events → Leads Did (λ asks did. GivesAll n piece asks did (Ok (tt {0}))) old new t0 t2
+    piece_done some done whole =
+        ends_so (Ok (tt {0})) (rest, [], a.did, [], true, sym (append-nil rest), sym (append-nil a.did), front_all whole, some, subst (λ (b : Bool). IsSaid (text_in a.answers) a.did b) done a.says, (refl, refl, refl))
 
-  pub played_join : (line a b last left : List ℕ) (count mid_count after : ℕ) (old mid new : D) (t t1 t2 : Option (List ℕ)) → Played Did line a count old mid t t1 last mid_count → Played Did last b mid_count mid new t1 t2 left after → Played Did line (a ++ b) count old new t t2 left after
-  played_join line a b last left count mid_count after old mid new t t1 t2 p q =
-      let same : lines_from line (a ++ b) ≡ lines_from line a ++ lines_from last b = lines_from-append a b line ∙ ap (λ (l : List ℕ). lines_from line a ++ lines_from l b) (sym p.left_is) in
-      record {
-        asks = p.asks ++ q.asks;
-        asked = asks_join Did p.asks q.asks old mid new p.asked q.asked;
-        lines = subst (λ (ts : List (List ℕ)). ArePlayed ts (p.asks ++ q.asks)) (sym same) (are_played_join (lines_from line a) (lines_from last b) p.asks q.asks p.lines q.lines);
-        wrote = subst (λ (l : List ℕ). Appends t t2 l) (sym (text-append p.asks q.asks)) (appends_then t t1 t2 (text_in (answered p.asks)) (text_in (answered q.asks)) p.wrote q.wrote);
-        left_is = q.left_is ∙ (ap (λ (l : List ℕ). left_from l b) p.left_is ∙ sym (left_from-append a b line));
-        count_is = q.count_is ∙ (ap (λ (n : ℕ). counted n (lines_from last b)) p.count_is ∙ (sym (counted-append count (lines_from line a) (lines_from last b)) ∙ ap (counted count) (sym same)));
-      }
+    pub piece_inside : at ≤ length piece → events ≡ 0 → at + bytes ≤ length piece
+    piece_inside within none = let lt = (front_part none).1 in let len : length rest ≡ length (drop at piece) = ap length is in omega (arith, lt, len, length-drop at piece, within)
 
-  -- one byte more
-  pub bytes_join : (line a b last left : List ℕ) (count mid_count after : ℕ) (old mid new : D) (t t1 t2 : Option (List ℕ)) (why : Stopped) → Played Did line a count old mid t t1 last mid_count → PlaysBytes Did last b mid_count mid new t1 t2 left after (Err why)
-      → (more : List ℕ) → PlaysBytes Did line ((a ++ b) ++ more) count old new t t2 left after (Err why)
-  bytes_join line a b last left count mid_count after old mid new t t1 t2 why p (front, rest, end, here, between, parts, q, stops) more = (
-    a ++ front,
-    rest ++ more,
-    end,
-    here,
-    between,
-    ap (λ (l : List ℕ). (a ++ l) ++ more) parts ∙ (ap (λ (l : List ℕ). l ++ more) (sym (append_assoc a front (10 ∷ rest))) ∙ append_assoc (a ++ front) (10 ∷ rest) more),
-    played_join line a front last end count mid_count after old mid here t t1 between p q,
-    stops,
-  )
+    pub piece_begun : events ≡ 0 → 0 < bytes
+    piece_begun none = (front_part none).0
 
-  -- a line ends
-  ends_line : (line : List ℕ) (count after : ℕ) (old new : D) (t t' : Option (List ℕ)) → PlaysLine Did line old new t t' (Ok (tt {0})) → after ≡ one_more count → Played Did line (10 ∷ []) count old new t t' [] after
-  ends_line line count after old new t t' (inl none) count_is = let wrong = none.1 in absurd cc
-  ends_line line count after old new t t' (inr (l, good, is, e)) count_is = record {
-    asks = e.asks;
-    asked = e.asked;
-    lines = (l, e.asks, [], good, is, e.done, sym (append-nil e.asks), refl);
-    wrote = e.wrote;
-    left_is = refl;
-    count_is = count_is;
-  }
+    pub piece_more : all ≡ true → events ≡ 0 → Leads Did (GivenTo n piece (at + bytes)) old new t0 t2
+    piece_more done none =
+        let f : FrontPart = front_part none in
+        let b = f.0 in
+        let lt = f.1 in
+        let behind : drop bytes rest ≡ drop (at + bytes) piece = ap (drop bytes) is ∙ drop-drop bytes at piece in
+        let here : Leads Did (λ asks did. (asks ≡ asked ∷ []) × (did ≡ a.did)) mid new t1 t2 = record { asks = asked ∷ []; asked = (new, a.asked, refl); did = a.did; made = a.made; are = (refl, refl) } in
+        leads_join Did (GivenTo n piece at) (λ asks did. (asks ≡ asked ∷ []) × (did ≡ a.did)) (GivenTo n piece (at + bytes)) old mid new t0 t1 t2 g here (λ xs ys ds es s p. λ zs later result rest_of.
+        let step : GivesAll n rest (asked ∷ zs) (a.did ++ later) result = (
+          take bytes rest,
+          drop bytes rest,
+          a.did,
+          later,
+          true,
+          sym (take-append-drop bytes rest),
+          refl,
+          f.2,
+          omega (arith, length-take-le bytes rest (omega (arith, lt)), b),
+          subst (λ (v : Bool). IsSaid (text_in a.answers) a.did v) done a.says,
+          subst (λ (l : List ℕ). GivesAll n l zs later result) (sym behind) rest_of,
+        ) in
+        let whole : GivesAll n piece (xs ++ (asked ∷ zs)) (ds ++ (a.did ++ later)) result = s (asked ∷ zs) (a.did ++ later) result (subst (λ (l : List ℕ). GivesAll n l (asked ∷ zs) (a.did ++ later) result) is step) in
+        subst (λ (l : List Exchange). GivesAll n piece ((xs ++ l) ++ zs) ((ds ++ es) ++ later) result) (sym p.0)
+        (subst (λ (l : List StreamCall). GivesAll n piece ((xs ++ asked ∷ []) ++ zs) ((ds ++ l) ++ later) result) (sym p.1)
+        (subst (λ (l : List Exchange). GivesAll n piece l ((ds ++ a.did) ++ later) result) (sym (append_assoc xs (asked ∷ []) zs))
+        (subst (λ (l : List StreamCall). GivesAll n piece (xs ++ (asked ∷ zs)) l result) (sym (append_assoc ds a.did later)) whole))))
 
-  pub newline_so : (line left : List ℕ) (byte count after : ℕ) (old new : D) (t t' : Option (List ℕ)) (result : Result (Unit {0}) Stopped) → byte ≡ 10 → PlaysLine Did line old new t t' result
-      → OnOk result ((left ≡ []) × (after ≡ one_more count)) → OnErr result (after ≡ count) → PlaysBytes Did line (byte ∷ []) count old new t t' left after result
-  newline_so line left byte count after old new t t' (Ok tt) is plays next same =
-      subst (λ (b : ℕ). Played Did line (b ∷ []) count old new t t' left after) (sym is) (subst (λ (l : List ℕ). Played Did line (10 ∷ []) count old new t t' l after) (sym next.0) (ends_line line count after old new t t' plays next.1))
-  newline_so line left byte count after old new t t' (Err why) is plays next same =
-      ([], [], line, old, t, ap (λ (b : ℕ). b ∷ []) is, subst (λ (n : ℕ). Played Did line [] count old old t t line n) (sym same) (played_none line count old t), plays)
+-- ---- one read
 
-  pub byte_so : (line left : List ℕ) (byte count : ℕ) (d : D) (t : Option (List ℕ)) → (byte ≡ 10 → ⊥) → left ≡ longer line byte → Played Did line (byte ∷ []) count d d t t left count
-  byte_so line left byte count d t other left_is =
-      let no_end : (byte == 10) ≡ false = ne_eqb byte 10 other in
-      record {
-        asks = [];
-        asked = refl;
-        lines = subst (λ (ts : List (List ℕ)). ArePlayed ts []) (sym (ap (λ (b : Bool). if b then line ∷ lines_from [] [] else lines_from (longer line byte) []) no_end)) refl;
-        wrote = appends_none t t (keeps_same t);
-        left_is = left_is ∙ sym (ap (λ (b : Bool). if b then left_from [] [] else left_from (longer line byte) []) no_end);
-        count_is = sym (ap (λ (b : Bool). counted count (if b then line ∷ lines_from [] [] else lines_from (longer line byte) [])) no_end);
-      }
+pub played_on : (line line' piece : List ℕ) (n m : ℕ) (xs : List Exchange) (ds : List StreamCall) → line' ≡ left_from line piece → AreDone PlaysLine (lines_from line piece) n xs ds m (Ok (tt {0})) → IsReadOnce PlaysLine Script ends_last line n xs (Gave piece ∷ ds) line' m None
+played_on line line' piece n m xs ds left p = inl (piece, ds, refl, left, p)
 
--- a text at one of its bytes
-pub piece_at : (piece : List ℕ) (i : ℕ) → i < length piece → (take i piece ++ (get_or piece i 0 ∷ [])) ++ drop (i + 1) piece ≡ piece
-piece_at piece i lt = append_assoc (take i piece) (get_or piece i 0 ∷ []) (drop (i + 1) piece) ∙ (ap (λ (l : List ℕ). take i piece ++ l) (sym (drop_more piece i 0 lt)) ∙ take-append-drop i piece)
+pub played_last : (line line' piece : List ℕ) (n m : ℕ) (why : Stopped) (xs : List Exchange) (ds : List StreamCall) → AreDone PlaysLine (lines_from line piece) n xs ds m (Err why) → IsReadOnce PlaysLine Script ends_last line n xs (Gave piece ∷ ds) line' m (Some (Err why))
+played_last line line' piece n m why xs ds p reads = ReadStop piece p
+
+pub played_again : (line : List ℕ) (n : ℕ) → IsReadOnce PlaysLine Script ends_last line n [] (GaveAgain ∷ []) line n None
+played_again line n = inr (refl, refl, refl, refl)
+
+pub played_end : (line line' : List ℕ) (n m : ℕ) (result : Result (Unit {0}) Stopped) → OnOk result (m ≡ one_more n) → OnErr result (m ≡ n) → (xs : List Exchange) (ds : List StreamCall) → PlaysLine line xs ds result → IsReadOnce PlaysLine Script ends_last line n xs (GaveEnd ∷ ds) line' m (Some result)
+played_end line line' n m result next same xs ds p reads = ReadEnd (done_one PlaysLine line n m xs ds result next same p)
+
+pub played_none : (line line' : List ℕ) (n : ℕ) → IsReadOnce PlaysLine Script ends_last line n [] (GaveNone ∷ []) line' n (Some (Err Script))
+played_none line line' n reads = ReadFail
 
 -- ---- read after read
 
-module _ {D : Type 0} (Did : D → List Incoming → List Answer → D → Type 0) where
-  pub plays_join : (line a b last left : List ℕ) (count mid_count after : ℕ) (old mid new : D) (t t1 t2 : Option (List ℕ)) (result : Result (Unit {0}) Stopped) → Played Did line a count old mid t t1 last mid_count → PlaysBytes Did last b mid_count mid new t1 t2 left after result
-      → PlaysBytes Did line (a ++ b) count old new t t2 left after result
-  plays_join line a b last left count mid_count after old mid new t t1 t2 (Ok tt) p q = played_join Did line a b last left count mid_count after old mid new t t1 t2 p q
-  plays_join line a b last left count mid_count after old mid new t t1 t2 (Err why) p q =
-      subst (λ (l : List ℕ). PlaysBytes Did line l count old new t t2 left after (Err why)) (append-nil (a ++ b)) (bytes_join Did line a b last left count mid_count after old mid new t t1 t2 why p q [])
+pub read_more : (line l l' : List ℕ) (n turns m k : ℕ) (went : Option (Result (Unit {0}) Stopped)) → went ≡ None → (xs ys : List Exchange) (ds es : List StreamCall) → SoFar PlaysLine Script ends_last line n turns l m xs ds → IsReadOnce PlaysLine Script ends_last l m ys es l' k went
+    → SoFar PlaysLine Script ends_last line n (turns + 1) l' k (xs ++ ys) (ds ++ es)
+read_more line l l' n turns m k None is xs ys ds es s once = so_far_more PlaysLine Script ends_last line l l' n turns m k xs ys ds es s once
+read_more line l l' n turns m k (Some result) is xs ys ds es s once = absurd cc
 
-  -- what was read so far is played
-  pub record Reads (line : List ℕ) (count : ℕ) (left left' : Option (List ℕ)) (old now : D) (told told' : Option (List ℕ)) (line' : List ℕ) (count' : ℕ) : Type 0 where
-    pub text : List ℕ
-    pub read : Consumes left left' text
-    pub played : Played Did line text count old now told told' line' count'
+pub read_ends : (line l l' : List ℕ) (n turns m k : ℕ) (went : Option (Result (Unit {0}) Stopped)) (result : Result (Unit {0}) Stopped) → went ≡ Some result → (xs ys : List Exchange) (ds es : List StreamCall) → SoFar PlaysLine Script ends_last line n turns l m xs ds
+    → IsReadOnce PlaysLine Script ends_last l m ys es l' k went → AreRead PlaysLine Script ends_last 0 line n (xs ++ ys) (ds ++ es) k result
+read_ends line l l' n turns m k went result is xs ys ds es s once =
+    so_far_ends PlaysLine Script ends_last line l l' n turns m k xs ys ds es result s (subst (λ (o : Option (Result (Unit {0}) Stopped)). IsReadOnce PlaysLine Script ends_last l m ys es l' k o) is once)
 
-  pub reads_none : (line : List ℕ) (count : ℕ) (left : Option (List ℕ)) (d : D) (told : Option (List ℕ)) → Reads line count left left d d told told line count
-  reads_none line count left d told = record { text = []; read = consumes_none left left (keeps_same left); played = played_none Did line count d told }
-
-  pub reads_more : (line : List ℕ) (count : ℕ) (l0 l1 l2 : Option (List ℕ)) (old mid new : D) (t0 t1 t2 : Option (List ℕ)) (last left : List ℕ) (between after : ℕ) (went : Option (Result (Unit {0}) Stopped)) → Reads line count l0 l1 old mid t0 t1 last between
-      → PlaysRead Did last between l1 l2 mid new t1 t2 left after went → went ≡ None → Reads line count l0 l2 old new t0 t2 left after
-  reads_more line count l0 l1 l2 old mid new t0 t1 t2 last left between after None r (text, read, played) goes = record {
-    text = r.text ++ text;
-    read = consumes_then l0 l1 l2 r.text text r.read read;
-    played = played_join Did line r.text text last left count between after old mid new t0 t1 t2 r.played played;
-  }
-  reads_more line count l0 l1 l2 old mid new t0 t1 t2 last left between after (Some result) r p goes = absurd cc
-
-  ends_from : (line : List ℕ) (count : ℕ) (l0 l1 l2 : Option (List ℕ)) (old mid new : D) (t0 t1 t2 : Option (List ℕ)) (last : List ℕ) (between after : ℕ) (result : Result (Unit {0}) Stopped) → Reads line count l0 l1 old mid t0 t1 last between
-      → EndsScript Did last between l1 l2 mid new t1 t2 after result → EndsScript Did line count l0 l2 old new t0 t2 after result
-  ends_from line count l0 l1 l2 old mid new t0 t1 t2 last between after result r (text, end, read, inl (over, plays)) =
-      (r.text ++ text, end, consumes_then l0 l1 l2 r.text text r.read read, inl (over, subst (λ (l : List ℕ). PlaysBytes Did line l count old new t0 t2 end after result) (sym (append_assoc r.text text (10 ∷ []))) (plays_join line r.text (text ++ 10 ∷ []) last end count between after old mid new t0 t1 t2 result r.played plays)))
-  ends_from line count l0 l1 l2 old mid new t0 t1 t2 last between after result r (text, end, read, inr (inl (why, is, plays))) =
-      (r.text ++ text, end, consumes_then l0 l1 l2 r.text text r.read read, inr (inl (why, is, plays_join line r.text text last end count between after old mid new t0 t1 t2 (Err why) r.played plays)))
-  ends_from line count l0 l1 l2 old mid new t0 t1 t2 last between after result r (text, end, read, inr (inr (is, played))) =
-      (r.text ++ text, end, consumes_then l0 l1 l2 r.text text r.read read, inr (inr (is, played_join Did line r.text text last end count between after old mid new t0 t1 t2 r.played played)))
-
-  pub reads_end : (line : List ℕ) (count : ℕ) (l0 l1 l2 : Option (List ℕ)) (old mid new : D) (t0 t1 t2 : Option (List ℕ)) (last left : List ℕ) (between after : ℕ) (went : Option (Result (Unit {0}) Stopped)) (result : Result (Unit {0}) Stopped) → Reads line count l0 l1 old mid t0 t1 last between
-      → PlaysRead Did last between l1 l2 mid new t1 t2 left after went → went ≡ Some result → EndsScript Did line count l0 l2 old new t0 t2 after result
-  reads_end line count l0 l1 l2 old mid new t0 t1 t2 last left between after went result r p is =
-      ends_from line count l0 l1 l2 old mid new t0 t1 t2 last between after result r (subst (λ (o : Option (Result (Unit {0}) Stopped)). PlaysRead Did last between l1 l2 mid new t1 t2 left after o) is p)
-
-  pub reads_tired : (line : List ℕ) (count : ℕ) (l0 l1 : Option (List ℕ)) (old mid : D) (t0 t1 : Option (List ℕ)) (last : List ℕ) (between : ℕ) → Reads line count l0 l1 old mid t0 t1 last between → EndsScript Did line count l0 l1 old mid t0 t1 between (Err Script)
-  reads_tired line count l0 l1 old mid t0 t1 last between r = (r.text, last, r.read, inr (inr (refl, r.played)))
-
-  -- one read
-
-  pub read_stopped : (line left : List ℕ) (count after : ℕ) (l0 l1 : Option (List ℕ)) (old new : D) (t t' : Option (List ℕ)) (text : List ℕ) (why : Stopped) → Consumes l0 l1 text → PlaysBytes Did line text count old new t t' left after (Err why) → EndsScript Did line count l0 l1 old new t t' after (Err why)
-  read_stopped line left count after l0 l1 old new t t' text why read plays = (text, left, read, inr (inl (why, refl, plays)))
-
-  pub read_end : (line left : List ℕ) (count after : ℕ) (l0 l1 : Option (List ℕ)) (old new : D) (t t' : Option (List ℕ)) (result : Result (Unit {0}) Stopped) → Consumes l0 l1 [] × IsAtEnd l1 → PlaysBytes Did line (10 ∷ []) count old new t t' left after result → EndsScript Did line count l0 l1 old new t t' after result
-  read_end line left count after l0 l1 old new t t' result read plays = ([], left, read.0, inl (read.1, plays))
-
-  pub read_failed : (line : List ℕ) (count : ℕ) (l0 l1 : Option (List ℕ)) (d : D) (t : Option (List ℕ)) → Keeps l0 l1 → EndsScript Did line count l0 l1 d d t t count (Err Script)
-  read_failed line count l0 l1 d t kept = ([], line, consumes_none l0 l1 kept, inr (inr (refl, played_none Did line count d t)))
-
-  pub from_first : (line : List ℕ) (count : ℕ) (l0 l1 : Option (List ℕ)) (old new : D) (t t' : Option (List ℕ)) (after : ℕ) (result : Result (Unit {0}) Stopped) → line ≡ [] → count ≡ 0 → EndsScript Did line count l0 l1 old new t t' after result → EndsScript Did [] 0 l0 l1 old new t t' after result
-  from_first line count l0 l1 old new t t' after result first none ends = subst (λ (n : ℕ). EndsScript Did [] n l0 l1 old new t t' after result) none (subst (λ (l : List ℕ). EndsScript Did l count l0 l1 old new t t' after result) first ends)
+pub from_first : (line : List ℕ) (n k : ℕ) (result : Result (Unit {0}) Stopped) → line ≡ [] → n ≡ 0 → (xs : List Exchange) (ds : List StreamCall) → AreRead PlaysLine Script ends_last 0 line n xs ds k result → PlaysScript xs ds k result
+from_first line n k result first none xs ds p = inr (subst (λ (c : ℕ). AreRead PlaysLine Script ends_last 0 [] c xs ds k result) none (subst (λ (l : List ℕ). AreRead PlaysLine Script ends_last 0 l n xs ds k result) first p))

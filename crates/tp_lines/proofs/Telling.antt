@@ -1,30 +1,107 @@
 -- Answers told in text, line after line.
-use Rattle.std.proofs.Common.{◌≡◌, ℕ, zero, suc, ◌+◌, ◌<◌, ◌≤◌, Bool, false, List, [], ◌∷◌, ◌++◌, length, take, drop, get_or, Option, refl, sym, ap, subst, ◌∙◌, arith, append_assoc}
-use Rattle.std.specs.Prelude.{◌/◌, ◌%◌, codes}
+use Rattle.std.proofs.Common.{◌≡◌, ℕ, zero, suc, ◌+◌, ◌<◌, ◌≤◌, Bool, true, false, List, [], ◌∷◌, ◌++◌, length, take, drop, get_or, refl, sym, ap, subst, ◌∙◌, arith, append_assoc, inl, inr, length-append}
+use Rattle.std.specs.Prelude.{◌/◌, ◌%◌, ◌==◌, codes}
+use Rattle.std.proofs.lemmas.Bool.{ne_eqb}
 use Rattle.std.specs.Fmt.{decimal}
-use Rattle.std.specs.Io.KnownBytes.{Appends}
 use Rattle.std.proofs.lemmas.List.{append-nil, drop-drop, drop_all, drop_more, take-append-drop}
 use Rattle.std.proofs.Math.Seq.{take-add}
 use Rattle.tp_hub.specs.declared.answers.Mark.{Mark}
 use Rattle.tp_hub.specs.declared.answers.Mark.TheVariants as marks
-use Rattle.tp_hub.specs.Told.{Says, len_of, told, total}
+use Rattle.tp_hub.specs.Told.{Accepts, Answer, Closes, Lines, Refuses, Says, len_of, told, total}
+use Rattle.tp_hub.specs.Carrying.{IsSaid}
+use Rattle.tp_hub.specs.Streams.{Flushes, Gave, GaveAgain, GaveEnd, GaveNone, IsPut, IsSent, Makes, StreamCall, Took, TookAgain, TookNone, WritesTo}
+use Rattle.tp_hub.proofs.Streaming.{sent_whole}
 use Rattle.tp_lines.specs.Lines.{hex_digit}
 use Rattle.tp_lines.specs.Texts.{answer_of, hexed, newline, text_in, text_of}
 use Rattle.tp_lines.specs.Writing.{Writes}
-use Rattle.tp_lines.proofs.Bytes.{appends_none, appends_then, keeps_same, writes_then}
 
--- a beginning of the first text is one of both
-take_first : (n : ℕ) (a b : List ℕ) → (m : ℕ) × (take n a ≡ take m (a ++ b))
-take_first zero a b = (0, refl)
-take_first (suc n) [] b = (0, refl)
-take_first (suc n) (c ∷ a) b = let r = take_first n a b in (suc r.0, ap (λ (l : List ℕ). c ∷ l) r.1)
+-- ---- texts one after another
 
-pub writes_first : (t t' : Option (List ℕ)) (a b : List ℕ) → Writes t t' a false → Writes t t' (a ++ b) false
-writes_first t t' a b (n, p) = let r = take_first n a b in (r.0, subst (λ (l : List ℕ). Appends t t' l) r.1 p)
+-- a second text behind a first one
+both_to : (x y rest : List ℕ) (p q : List StreamCall) → WritesTo x p [] → WritesTo y q rest → WritesTo (x ++ y) (p ++ q) rest
+both_to x y rest [] q w v = subst (λ (l : List ℕ). WritesTo (l ++ y) q rest) (sym w) v
+both_to x y rest (Took b ∷ p) q w v = (w.0 ++ y, ap (λ (l : List ℕ). l ++ y) w.1 ∙ append_assoc b w.0 y, both_to w.0 y rest p q w.2 v)
+both_to x y rest (TookAgain ∷ p) q w v = both_to x y rest p q w v
+both_to x y rest (TookNone ∷ p) q w v = absurd w
+both_to x y rest (Gave b ∷ p) q w v = absurd w
+both_to x y rest (GaveAgain ∷ p) q w v = absurd w
+both_to x y rest (GaveEnd ∷ p) q w v = absurd w
+both_to x y rest (GaveNone ∷ p) q w v = absurd w
+both_to x y rest (Flushes done ∷ p) q w v = absurd w
 
-pub record Telling (t0 t : Option (List ℕ)) (at : ℕ) (left : List Mark) (bytes all : List ℕ) : Type 0 where
+-- and a longer one than was written
+longer_to : (x y rest : List ℕ) (p : List StreamCall) → WritesTo x p rest → WritesTo (x ++ y) p (rest ++ y)
+longer_to x y rest [] w = ap (λ (l : List ℕ). l ++ y) w
+longer_to x y rest (Took b ∷ p) w = (w.0 ++ y, ap (λ (l : List ℕ). l ++ y) w.1 ∙ append_assoc b w.0 y, longer_to w.0 y rest p w.2)
+longer_to x y rest (TookAgain ∷ p) w = longer_to x y rest p w
+longer_to x y rest (TookNone ∷ p) w = absurd w
+longer_to x y rest (Gave b ∷ p) w = absurd w
+longer_to x y rest (GaveAgain ∷ p) w = absurd w
+longer_to x y rest (GaveEnd ∷ p) w = absurd w
+longer_to x y rest (GaveNone ∷ p) w = absurd w
+longer_to x y rest (Flushes done ∷ p) w = absurd w
+
+pub writes_none : (a : List StreamCall) → Writes a a [] true
+writes_none a = ([], sym (append-nil a), refl)
+
+pub writes_then : (a b c : List StreamCall) (x y : List ℕ) (all : Bool) → Writes a b x true → Writes b c y all → Writes a c (x ++ y) all
+writes_then a b c x y true (p, e, w) (q, f, v) = (p ++ q, f ∙ (ap (λ (l : List StreamCall). l ++ q) e ∙ append_assoc a p q), both_to x y [] p q w v)
+writes_then a b c x y false (p, e, w) (q, f, (ws, rest, v, inl failed)) =
+    (p ++ q, f ∙ (ap (λ (l : List StreamCall). l ++ q) e ∙ append_assoc a p q), (p ++ ws, rest, both_to x y rest p ws w v, inl (ap (λ (l : List StreamCall). p ++ l) failed ∙ sym (append_assoc p ws (TookNone ∷ [])))))
+writes_then a b c x y false (p, e, w) (q, f, (ws, rest, v, inr (is, many))) =
+    let len : length (p ++ q) ≡ length p + length q = length-append p q in
+    (p ++ q, f ∙ (ap (λ (l : List StreamCall). l ++ q) e ∙ append_assoc a p q), (p ++ ws, rest, both_to x y rest p ws w v, inr (ap (λ (l : List StreamCall). p ++ l) is, omega (arith, len, many))))
+
+pub writes_first : (a b : List StreamCall) (x y : List ℕ) → Writes a b x false → Writes a b (x ++ y) false
+writes_first a b x y (q, f, (ws, rest, v, inl failed)) = (q, f, (ws, rest ++ y, longer_to x y rest ws v, inl failed))
+writes_first a b x y (q, f, (ws, rest, v, inr many)) = (q, f, (ws, rest ++ y, longer_to x y rest ws v, inr many))
+
+-- ---- and a flush behind them
+
+text_of-some : (answer : Answer) (texts : List ℕ) → 0 < length (text_of answer ++ texts)
+text_of-some (Says n bytes) texts = omega arith
+text_of-some (Closes n) texts = omega arith
+text_of-some (Refuses reason) texts = omega arith
+text_of-some Accepts texts = omega arith
+text_of-some (Lines bytes) texts =
+    let a : length ((bytes ++ newline) ++ texts) ≡ length (bytes ++ newline) + length texts = length-append (bytes ++ newline) texts in
+    let b : length (bytes ++ newline) ≡ length bytes + 1 = length-append bytes newline in
+    omega (arith, a, b)
+
+-- a text that has bytes
+sent_is_said : (text : List ℕ) (did : List StreamCall) (all : Bool) → 0 < length text → IsSent text did all → IsSaid text did all
+sent_is_said [] did all some s = absurd (omega (arith, some))
+sent_is_said (byte ∷ bytes) did all some s = s
+
+text_some : (answers : List Answer) → 0 < length answers → 0 < length (text_in answers)
+text_some [] some = absurd (omega (arith, some))
+text_some (answer ∷ answers) some = text_of-some answer (text_in answers)
+
+pub is_none : (n : ℕ) → (n == 0) ≡ true → n ≡ 0
+is_none zero e = refl
+is_none (suc n) e = let wrong : false ≡ true = sym (ne_eqb (suc n) 0 (λ z. absurd (omega (arith, z)))) ∙ e in absurd cc
+
+pub is_some : (n : ℕ) → (n == 0) ≡ false → 0 < n
+is_some zero e = absurd cc
+is_some (suc n) e = omega arith
+
+pub said_none : (a : List StreamCall) (answers : List Answer) → length answers ≡ 0 → Makes a a (λ did. IsSaid (text_in answers) did true)
+said_none a [] none = ([], sym (append-nil a), (refl, refl))
+said_none a (answer ∷ answers) none = absurd (omega (arith, none))
+
+pub said_lost : (a b : List StreamCall) (answers : List Answer) → 0 < length answers → Writes a b (text_in answers) false → Makes a b (λ did. IsSaid (text_in answers) did false)
+said_lost a b answers some (did, e, put) = (did, e, sent_is_said (text_in answers) did false (text_some answers some) (inl put))
+
+pub said_all : (a b c : List StreamCall) (answers : List Answer) (done : Bool) → 0 < length answers → Writes a b (text_in answers) true → c ≡ b ++ Flushes done ∷ [] → Makes a c (λ did. IsSaid (text_in answers) did done)
+said_all a b c answers done some put e =
+    let s = sent_whole a b c (text_in answers) done put e in
+    (s.0, s.1, sent_is_said (text_in answers) s.0 done (text_some answers some) s.2)
+
+-- ---- marks
+
+pub record Telling (t0 t : List StreamCall) (at : ℕ) (left : List Mark) (bytes all : List ℕ) : Type 0 where
   pub text : List ℕ
-  pub wrote : Appends t0 t text
+  pub wrote : Writes t0 t text true
   pub rest : text ++ text_in (told left (drop at bytes)) ≡ all
   pub fits : at + total left ≤ length bytes
 
@@ -44,7 +121,7 @@ pub hexed-append : (a b : List ℕ) → hexed (a ++ b) ≡ hexed a ++ hexed b
 hexed-append [] b = refl
 hexed-append (c ∷ a) b = ap (λ (l : List ℕ). hex_digit (c / 16) ∷ hex_digit (c % 16) ∷ l) (hexed-append a b)
 
-pub hex_lost : (t0 t t' : Option (List ℕ)) (bytes front : List ℕ) (at n : ℕ) → front ≡ take n (drop at bytes) → Appends t0 t (hexed (take at bytes)) → Writes t t' (hexed front) false → Writes t0 t' (hexed bytes) false
+pub hex_lost : (t0 t t' : List StreamCall) (bytes front : List ℕ) (at n : ℕ) → front ≡ take n (drop at bytes) → Writes t0 t (hexed (take at bytes)) true → Writes t t' (hexed front) false → Writes t0 t' (hexed bytes) false
 hex_lost t0 t t' bytes front at n is before lost =
     let both : Writes t0 t' (hexed (take at bytes) ++ hexed front) false = writes_then t0 t t' (hexed (take at bytes)) (hexed front) false before lost in
     let all : Writes t0 t' ((hexed (take at bytes) ++ hexed front) ++ hexed (drop n (drop at bytes))) false = writes_first t0 t' (hexed (take at bytes) ++ hexed front) (hexed (drop n (drop at bytes))) both in
@@ -54,29 +131,29 @@ hex_lost t0 t t' bytes front at n is before lost =
     ∙ (sym (hexed-append (take at bytes) (front ++ drop n (drop at bytes))) ∙ ap hexed (drop_at front bytes at n is))) in
     subst (λ (l : List ℕ). Writes t0 t' l false) whole all
 
-pub hex_more : (t0 t t' : Option (List ℕ)) (bytes front : List ℕ) (at n : ℕ) → front ≡ take n (drop at bytes) → Appends t0 t (hexed (take at bytes)) → Appends t t' (hexed front) → Appends t0 t' (hexed (take (at + n) bytes))
+pub hex_more : (t0 t t' : List StreamCall) (bytes front : List ℕ) (at n : ℕ) → front ≡ take n (drop at bytes) → Writes t0 t (hexed (take at bytes)) true → Writes t t' (hexed front) true → Writes t0 t' (hexed (take (at + n) bytes)) true
 hex_more t0 t t' bytes front at n is before more =
-    let both : Appends t0 t' (hexed (take at bytes) ++ hexed front) = appends_then t0 t t' (hexed (take at bytes)) (hexed front) before more in
-    subst (λ (l : List ℕ). Appends t0 t' l) (sym (hexed-append (take at bytes) front) ∙ ap hexed (ap (λ (l : List ℕ). take at bytes ++ l) is ∙ sym (take-add at n bytes))) both
+    let both : Writes t0 t' (hexed (take at bytes) ++ hexed front) true = writes_then t0 t t' (hexed (take at bytes)) (hexed front) true before more in
+    subst (λ (l : List ℕ). Writes t0 t' l true) (sym (hexed-append (take at bytes) front) ∙ ap hexed (ap (λ (l : List ℕ). take at bytes ++ l) is ∙ sym (take-add at n bytes))) both
 
 -- ---- what a session is sent
 
-pub sent_head : (t t' : Option (List ℕ)) (n : ℕ) (bytes head word : List ℕ) → word ≡ codes "sent " ++ decimal n → head ≡ word ++ codes " " → Writes t t' head false → Writes t t' (text_of (Says n bytes)) false
+pub sent_head : (t t' : List StreamCall) (n : ℕ) (bytes head word : List ℕ) → word ≡ codes "sent " ++ decimal n → head ≡ word ++ codes " " → Writes t t' head false → Writes t t' (text_of (Says n bytes)) false
 sent_head t t' n bytes head word w h lost =
     writes_first t t' ((codes "sent " ++ decimal n) ++ codes " ") (hexed bytes ++ newline) (subst (λ (l : List ℕ). Writes t t' l false) (h ∙ ap (λ (l : List ℕ). l ++ codes " ") w) lost)
 
-pub sent_hex : (t0 t t' : Option (List ℕ)) (n : ℕ) (bytes head word : List ℕ) → word ≡ codes "sent " ++ decimal n → head ≡ word ++ codes " " → Appends t0 t head → Writes t t' (hexed bytes) false → Writes t0 t' (text_of (Says n bytes)) false
+pub sent_hex : (t0 t t' : List StreamCall) (n : ℕ) (bytes head word : List ℕ) → word ≡ codes "sent " ++ decimal n → head ≡ word ++ codes " " → Writes t0 t head true → Writes t t' (hexed bytes) false → Writes t0 t' (text_of (Says n bytes)) false
 sent_hex t0 t t' n bytes head word w h before lost =
-    writes_then t0 t t' ((codes "sent " ++ decimal n) ++ codes " ") (hexed bytes ++ newline) false (subst (λ (l : List ℕ). Appends t0 t l) (h ∙ ap (λ (l : List ℕ). l ++ codes " ") w) before) (writes_first t t' (hexed bytes) newline lost)
+    writes_then t0 t t' ((codes "sent " ++ decimal n) ++ codes " ") (hexed bytes ++ newline) false (subst (λ (l : List ℕ). Writes t0 t l true) (h ∙ ap (λ (l : List ℕ). l ++ codes " ") w) before) (writes_first t t' (hexed bytes) newline lost)
 
-pub sent_all : (t0 t1 t2 t3 : Option (List ℕ)) (n : ℕ) (bytes head word : List ℕ) (all : Bool) → word ≡ codes "sent " ++ decimal n → head ≡ word ++ codes " " → Appends t0 t1 head → Appends t1 t2 (hexed bytes) → Writes t2 t3 newline all → Writes t0 t3 (text_of (Says n bytes)) all
+pub sent_all : (t0 t1 t2 t3 : List StreamCall) (n : ℕ) (bytes head word : List ℕ) (all : Bool) → word ≡ codes "sent " ++ decimal n → head ≡ word ++ codes " " → Writes t0 t1 head true → Writes t1 t2 (hexed bytes) true → Writes t2 t3 newline all → Writes t0 t3 (text_of (Says n bytes)) all
 sent_all t0 t1 t2 t3 n bytes head word all w h before more last =
-    writes_then t0 t1 t3 ((codes "sent " ++ decimal n) ++ codes " ") (hexed bytes ++ newline) all (subst (λ (l : List ℕ). Appends t0 t1 l) (h ∙ ap (λ (l : List ℕ). l ++ codes " ") w) before) (writes_then t1 t2 t3 (hexed bytes) newline all more last)
+    writes_then t0 t1 t3 ((codes "sent " ++ decimal n) ++ codes " ") (hexed bytes ++ newline) all (subst (λ (l : List ℕ). Writes t0 t1 l true) (h ∙ ap (λ (l : List ℕ). l ++ codes " ") w) before) (writes_then t1 t2 t3 (hexed bytes) newline all more last)
 
 -- ---- marks
 
-pub tell_none : (t : Option (List ℕ)) (marks : List Mark) (bytes : List ℕ) → total marks ≤ length bytes → Telling t t 0 marks bytes (text_in (told marks bytes))
-tell_none t marks bytes fits = record { text = []; wrote = appends_none t t (keeps_same t); rest = refl; fits = omega (arith, fits) }
+pub tell_none : (t : List StreamCall) (marks : List Mark) (bytes : List ℕ) → total marks ≤ length bytes → Telling t t 0 marks bytes (text_in (told marks bytes))
+tell_none t marks bytes fits = record { text = []; wrote = writes_none t; rest = refl; fits = omega (arith, fits) }
 
 left_more : (at i : ℕ) (d : Mark) (marks : List Mark) (bytes front : List ℕ) → i < length marks → front ≡ take (len_of (get_or marks i d)) (drop at bytes)
     → text_in (told (drop i marks) (drop at bytes)) ≡ text_of (answer_of (get_or marks i d) front) ++ text_in (told (drop (i + 1) marks) (drop (at + len_of (get_or marks i d)) bytes))
@@ -90,18 +167,18 @@ left_more at i d marks bytes front lt is =
 pub mark_fits : (at i : ℕ) (d : Mark) (marks : List Mark) (bytes : List ℕ) → i < length marks → at + total (drop i marks) ≤ length bytes → at + len_of (get_or marks i d) + total (drop (i + 1) marks) ≤ length bytes
 mark_fits at i d marks bytes lt fits = let e = ap total (drop_more marks i d lt) in omega (arith, e, fits)
 
-pub tell_more : (t0 t t' : Option (List ℕ)) (at i : ℕ) (d : Mark) (marks : List Mark) (bytes front all : List ℕ) → i < length marks → front ≡ take (len_of (get_or marks i d)) (drop at bytes)
-    → Telling t0 t at (drop i marks) bytes all → Appends t t' (text_of (answer_of (get_or marks i d) front)) → Telling t0 t' (at + len_of (get_or marks i d)) (drop (i + 1) marks) bytes all
+pub tell_more : (t0 t t' : List StreamCall) (at i : ℕ) (d : Mark) (marks : List Mark) (bytes front all : List ℕ) → i < length marks → front ≡ take (len_of (get_or marks i d)) (drop at bytes)
+    → Telling t0 t at (drop i marks) bytes all → Writes t t' (text_of (answer_of (get_or marks i d) front)) true → Telling t0 t' (at + len_of (get_or marks i d)) (drop (i + 1) marks) bytes all
 tell_more t0 t t' at i d marks bytes front all lt is r more =
     let one : List ℕ = text_of (answer_of (get_or marks i d) front) in
     record {
       text = r.text ++ one;
-      wrote = appends_then t0 t t' r.text one r.wrote more;
+      wrote = writes_then t0 t t' r.text one true r.wrote more;
       rest = append_assoc r.text one _ ∙ (ap (λ (l : List ℕ). r.text ++ l) (sym (left_more at i d marks bytes front lt is)) ∙ r.rest);
       fits = mark_fits at i d marks bytes lt r.fits;
     }
 
-pub tell_lost : (t0 t t' : Option (List ℕ)) (at i : ℕ) (d : Mark) (marks : List Mark) (bytes front all : List ℕ) → i < length marks → front ≡ take (len_of (get_or marks i d)) (drop at bytes)
+pub tell_lost : (t0 t t' : List StreamCall) (at i : ℕ) (d : Mark) (marks : List Mark) (bytes front all : List ℕ) → i < length marks → front ≡ take (len_of (get_or marks i d)) (drop at bytes)
     → Telling t0 t at (drop i marks) bytes all → Writes t t' (text_of (answer_of (get_or marks i d) front)) false → Writes t0 t' all false
 tell_lost t0 t t' at i d marks bytes front all lt is r lost =
     let one : List ℕ = text_of (answer_of (get_or marks i d) front) in
@@ -109,7 +186,7 @@ tell_lost t0 t t' at i d marks bytes front all lt is r lost =
     subst (λ (l : List ℕ). Writes t0 t' l false) (ap (λ (l : List ℕ). r.text ++ l) (sym (left_more at i d marks bytes front lt is)) ∙ r.rest)
     (writes_then t0 t t' r.text (one ++ rest) false r.wrote (writes_first t t' one rest lost))
 
-pub tell_all : (t0 t : Option (List ℕ)) (at i : ℕ) (marks : List Mark) (bytes all : List ℕ) → length marks ≤ i → Telling t0 t at (drop i marks) bytes all → Appends t0 t all
+pub tell_all : (t0 t : List StreamCall) (at i : ℕ) (marks : List Mark) (bytes all : List ℕ) → length marks ≤ i → Telling t0 t at (drop i marks) bytes all → Writes t0 t all true
 tell_all t0 t at i marks bytes all over r =
     let none : text_in (told (drop i marks) (drop at bytes)) ≡ [] = ap (λ (l : List Mark). text_in (told l (drop at bytes))) (drop_all i marks over) in
-    subst (λ (l : List ℕ). Appends t0 t l) (sym (append-nil r.text) ∙ (ap (λ (l : List ℕ). r.text ++ l) (sym none) ∙ r.rest)) r.wrote
+    subst (λ (l : List ℕ). Writes t0 t l true) (sym (append-nil r.text) ∙ (ap (λ (l : List ℕ). r.text ++ l) (sym none) ∙ r.rest)) r.wrote

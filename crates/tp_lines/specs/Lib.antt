@@ -1,7 +1,8 @@
 pub mod Controls
 pub mod Lines
+pub mod Pipes
 pub mod Plays
-pub mod Reading
+pub mod ReadLines
 pub mod Split
 pub mod Texts
 pub mod Writing

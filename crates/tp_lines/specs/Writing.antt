@@ -1,8 +1,7 @@
--- Trusted reading: bytes that are written.
-use Rattle.std.specs.Prelude.{ℕ, Bool, true, false, List, take, Option}
-use Rattle.std.specs.Io.KnownBytes.{Appends}
+-- Trusted reading: a text that is written to a stream.
+use Rattle.std.specs.Prelude.{ℕ, Bool, List}
+use Rattle.tp_hub.specs.Streams.{IsPut, Makes, StreamCall}
 
--- all of the bytes were written, or a beginning of them
-abbrev pub Writes : Option (List ℕ) → Option (List ℕ) → List ℕ → Bool → Type 0
-Writes old new bytes true = Appends old new bytes
-Writes old new bytes false = (n : ℕ) × Appends old new (take n bytes)
+-- all of it was written, or a beginning of it, up to a write that failed
+abbrev pub Writes : List StreamCall → List StreamCall → List ℕ → Bool → Type 0
+Writes old new text all = Makes old new (λ did. IsPut text did all)

@@ -1,18 +1,17 @@
 //! Control lines over a desk: messages to a pool that is served, and questions for its status lines.
 
-ghost use Rattle.std.specs.Prelude.{◌≡◌, ◌<◌, ◌∷◌, [], IfOk, length};
+ghost use Rattle.std.specs.Prelude.{◌≡◌, ◌<◌, ◌∷◌, ℕ, [], IfOk, OnOk, length};
 ghost use Rattle.tp_hub.specs.Told.{HasRoom};
 ghost use Rattle.tp_hub.specs.Runs.{incoming};
-ghost use Rattle.tp_lines.specs.Controls.{AnswersBytes, AnswersLine, AnswersRead, AttendsLines, EndsLines, IsControl};
+ghost use Rattle.tp_lines.specs.Controls.{AnswersLine, AnswersOrEnds, AttendsLines, IsControl, drops_last, ended_by};
+ghost use Rattle.tp_lines.specs.ReadLines.{AreDone, AreRead, IsReadOnce, Leads, left_from, lines_from};
 ghost use Rattle.tp_lines.specs.Lines.{IsLine, spelling};
 
 use crate::held::{HeldLine, zeroes};
 use crate::line::{ScriptLine, read_line};
-use crate::reading::{Taken, take_some};
 use crate::text::tell;
 use std::alloc::{AllocError, Global};
-use std::io::{Read, Write};
-use tp_hub::{Answers, Desk, Event};
+use tp_hub::{Answers, Desk, Event, Received, Stream};
 
 /// Why no more lines are answered.
 #[derive(Clone, Copy, Debug, PartialEq, Eq)]
@@ -23,8 +22,27 @@ pub enum LinesEnd {
     EndOfInput,
     /// A read failed, or 2^64 - 1 of them were made.
     InputFailed,
-    /// The writer failed: it took a beginning of the last answer.
+    /// A write or a flush failed, or a write took nothing: a beginning of the last answer went out.
     OutputFailed,
+}
+
+/// What breaks lines off.
+#[derive(Clone, Copy, Debug)]
+pub enum Lost {
+    /// A read failed, or 2^64 - 1 of them were made.
+    Input,
+    /// A write or a flush failed.
+    Output,
+}
+
+/// The ending that it is.
+fn ended_by(lost: Lost) -> LinesEnd
+    ensures { result ≡ ended_by lost }
+{
+    match lost {
+        Lost::Input => LinesEnd::InputFailed,
+        Lost::Output => LinesEnd::OutputFailed,
+    }
 }
 
 /// The most bytes of one read.
@@ -57,140 +75,163 @@ fn event_of(line: &[u8]) -> Event<'_>
     }
 }
 
-/// Asks once for a line that is not empty, and writes what is answered. False where the writer failed.
-fn ask_line<D: Desk, W: Write>(desk: &mut D, line: &[u8], out: &mut Answers, output: &mut W) -> bool
+/// Asks once for a line that is not empty, and writes and flushes what is answered. False where the stream failed.
+fn ask_line<D: Desk, S: Stream>(
+    desk: &mut D,
+    line: &[u8],
+    out: &mut Answers,
+    stream: &mut S,
+) -> bool
     requires some { 0 < length line.now }
     requires empty { out.old.list ≡ [] }
     requires fits { HasRoom out.old }
-    ensures answered { AnswersLine D.asks line.now desk.old desk.new (W.contents output.old) (W.contents output.new) result }
+    ensures answered { Leads D.asks (λ asks did. AnswersLine line.now asks did result) desk.old desk.new (S.calls stream.old) (S.calls stream.new) }
     ensures empty { out.new.list ≡ [] }
     ensures fits { HasRoom out.new }
 {
     desk.ask(event_of(line), out);
-    let is_told = tell(output, out);
+    let is_told = tell(stream, out);
     out.clear();
     is_told
 }
 
-/// Answers a control line, which has no newline here: its event is asked once, and what is answered is written, a line each. An empty line does nothing.
-/// False where the writer failed: then it took a beginning of the answer. Nothing is flushed.
+/// Answers a control line, which has no newline here: its event is asked once, and what is answered is written, a line each, and flushed. An empty line
+/// does nothing. False where the stream failed: then it took a beginning of the answer.
 ///
 /// The lines are `status`, `thin ID` for the status line of a volume, and any other is a message to the pool, such as `create_thin 1`. `ok`, `refused N`
 /// and the status line are the answers.
-pub fn answer_line<D: Desk, W: Write>(
+pub fn answer_line<D: Desk, S: Stream>(
     desk: &mut D,
     line: &[u8],
     out: &mut Answers,
-    output: &mut W,
+    stream: &mut S,
 ) -> bool
     requires empty { out.old.list ≡ [] }
     requires fits { HasRoom out.old }
-    ensures answered { AnswersLine D.asks line.now desk.old desk.new (W.contents output.old) (W.contents output.new) result }
+    ensures answered { Leads D.asks (λ asks did. AnswersLine line.now asks did result) desk.old desk.new (S.calls stream.old) (S.calls stream.new) }
     ensures empty { out.new.list ≡ [] }
     ensures fits { HasRoom out.new }
 {
     if line.is_empty() {
         return true;
     }
-    ask_line(desk, line, out, output)
+    ask_line(desk, line, out, stream)
+}
+
+/// Answers the line that ends here, and begins the next one.
+fn end_line<D: Desk, S: Stream>(
+    desk: &mut D,
+    line: &mut HeldLine,
+    out: &mut Answers,
+    stream: &mut S,
+) -> Result<(), Lost>
+    requires empty { out.old.list ≡ [] }
+    requires fits { HasRoom out.old }
+    ensures answered { Leads D.asks (λ asks did. AnswersOrEnds line.old asks did result) desk.old desk.new (S.calls stream.old) (S.calls stream.new) }
+    ensures next { OnOk result (line.new ≡ []) }
+    ensures empty { out.new.list ≡ [] }
+    ensures fits { HasRoom out.new }
+{
+    if !answer_line(desk, line.text(), out, stream) {
+        return Err(Lost::Output);
+    }
+    line.clear();
+    Ok(())
 }
 
 /// Takes one byte of the lines.
-fn answer_byte<D: Desk, W: Write>(
+fn answer_byte<D: Desk, S: Stream>(
     desk: &mut D,
     byte: u8,
     line: &mut HeldLine,
     out: &mut Answers,
-    output: &mut W,
-) -> bool
+    stream: &mut S,
+) -> Result<(), Lost>
     requires empty { out.old.list ≡ [] }
     requires fits { HasRoom out.old }
-    ensures answered { AnswersBytes D.asks line.old (byte ∷ []) desk.old desk.new (W.contents output.old) (W.contents output.new) line.new result }
+    ensures answered { Leads D.asks (λ asks did. (count : ℕ) → (after : ℕ) × AreDone AnswersOrEnds (lines_from line.old (byte ∷ [])) count asks did after result) desk.old desk.new (S.calls stream.old) (S.calls stream.new) }
+    ensures left { OnOk result (line.new ≡ left_from line.old (byte ∷ [])) }
     ensures empty { out.new.list ≡ [] }
     ensures fits { HasRoom out.new }
 {
     if byte == b'\n' {
-        let is_told = answer_line(desk, line.text(), out, output);
-        line.clear();
-        return is_told;
+        return end_line(desk, line, out, stream);
     }
     line.add(byte);
-    true
+    Ok(())
 }
 
 /// Answers the lines that end in a piece, and holds the one behind them.
-fn answer_bytes<D: Desk, W: Write>(
+fn answer_bytes<D: Desk, S: Stream>(
     desk: &mut D,
     piece: &[u8],
     line: &mut HeldLine,
     out: &mut Answers,
-    output: &mut W,
-) -> bool
+    stream: &mut S,
+) -> Result<(), Lost>
     requires empty { out.old.list ≡ [] }
     requires fits { HasRoom out.old }
-    ensures answered { AnswersBytes D.asks line.old piece.now desk.old desk.new (W.contents output.old) (W.contents output.new) line.new result }
+    ensures answered { Leads D.asks (λ asks did. (count : ℕ) → (after : ℕ) × AreDone AnswersOrEnds (lines_from line.old piece.now) count asks did after result) desk.old desk.new (S.calls stream.old) (S.calls stream.new) }
+    ensures left { OnOk result (line.new ≡ left_from line.old piece.now) }
     ensures empty { out.new.list ≡ [] }
     ensures fits { HasRoom out.new }
 {
     for byte in piece {
-        if !answer_byte(desk, *byte, line, out, output) {
-            return false;
+        match answer_byte(desk, *byte, line, out, stream) {
+            Ok(()) => {}
+            Err(why) => return Err(why),
         }
     }
-    true
+    Ok(())
 }
 
 /// Reads once, and answers the lines that end in what was read. None where it goes on.
-fn answer_read<D: Desk, R: Read, W: Write>(
+fn answer_read<D: Desk, S: Stream>(
     desk: &mut D,
-    input: &mut R,
-    piece: &mut [u8],
+    piece: &mut Vec<u8>,
     line: &mut HeldLine,
     out: &mut Answers,
-    output: &mut W,
-) -> Option<LinesEnd>
-    requires some { 0 < length piece.old }
+    stream: &mut S,
+) -> Option<Result<(), Lost>>
+    requires some { 0 < length piece.old.items }
     requires empty { out.old.list ≡ [] }
     requires fits { HasRoom out.old }
-    ensures read { AnswersRead D.asks line.old (R.remaining input.old) (R.remaining input.new) desk.old desk.new (W.contents output.old) (W.contents output.new) line.new result }
-    ensures some { length piece.new ≡ length piece.old }
+    ensures read { Leads D.asks (λ asks did. (count : ℕ) → (after : ℕ) × IsReadOnce AnswersOrEnds Lost.Input drops_last line.old count asks did line.new after result) desk.old desk.new (S.calls stream.old) (S.calls stream.new) }
+    ensures some { length piece.new.items ≡ length piece.old.items }
     ensures empty { out.new.list ≡ [] }
     ensures fits { HasRoom out.new }
 {
-    match take_some(input, piece) {
-        Taken::Bytes(count) => {
-            if answer_bytes(desk, &piece[..count], line, out, output) {
-                None
-            } else {
-                Some(LinesEnd::OutputFailed)
-            }
-        }
-        Taken::End => Some(LinesEnd::EndOfInput),
-        Taken::Failed => Some(LinesEnd::InputFailed),
+    match stream.receive(piece) {
+        Received::Got(count) => match answer_bytes(desk, &piece[..count], line, out, stream) {
+            Ok(()) => None,
+            Err(why) => Some(Err(why)),
+        },
+        Received::NotNow => None,
+        Received::End => Some(Ok(())),
+        Received::Broken => Some(Err(Lost::Input)),
     }
 }
 
 /// Reads and answers lines until there are no more.
-fn answer_all<D: Desk, R: Read, W: Write>(
+fn answer_all<D: Desk, S: Stream>(
     desk: &mut D,
-    input: &mut R,
-    piece: &mut [u8],
+    piece: &mut Vec<u8>,
     line: &mut HeldLine,
     out: &mut Answers,
-    output: &mut W,
-) -> LinesEnd
-    requires some { 0 < length piece.old }
+    stream: &mut S,
+) -> Result<(), Lost>
+    requires some { 0 < length piece.old.items }
     requires empty { out.old.list ≡ [] }
     requires fits { HasRoom out.old }
-    ensures { EndsLines D.asks line.old (R.remaining input.old) (R.remaining input.new) desk.old desk.new (W.contents output.old) (W.contents output.new) result }
+    ensures { Leads D.asks (λ asks did. (count : ℕ) × AreRead AnswersOrEnds Lost.Input drops_last 0 line.old 0 asks did count result) desk.old desk.new (S.calls stream.old) (S.calls stream.new) }
 {
     for turn in 0..u64::MAX {
-        match answer_read(desk, input, piece, line, out, output) {
+        match answer_read(desk, piece, line, out, stream) {
             None => {}
-            Some(ending) => return ending,
+            Some(result) => return result,
         }
     }
-    LinesEnd::InputFailed
+    Err(Lost::Input)
 }
 
 /// What lines are read and answered with.
@@ -211,17 +252,12 @@ fn make_buffers(alloc: Global) -> Result<Buffers, AllocError>
     Ok(Buffers { piece, line, out })
 }
 
-/// Reads control lines, and answers each as [`answer_line`] does before the next one, until the reader ends, or it or the writer fails.
+/// Reads control lines, and answers each as [`answer_line`] does before the next one, until there is nothing more to read, or a read, a write or a flush fails.
 ///
 /// What stands behind the last newline is not asked for, since a connection that breaks off may have cut it. A carriage return before a newline is a byte
 /// of the line. No more memory is taken for a longer line: 16400 bytes of it are kept, which are a message that is too long to be one.
-pub fn attend_lines<D: Desk, R: Read, W: Write>(
-    alloc: Global,
-    desk: &mut D,
-    input: &mut R,
-    output: &mut W,
-) -> LinesEnd
-    ensures { AttendsLines D.asks (R.remaining input.old) (R.remaining input.new) desk.old desk.new (W.contents output.old) (W.contents output.new) result }
+pub fn attend_lines<D: Desk, S: Stream>(alloc: Global, desk: &mut D, stream: &mut S) -> LinesEnd
+    ensures { Leads D.asks (λ asks did. AttendsLines asks did result) desk.old desk.new (S.calls stream.old) (S.calls stream.new) }
 {
     let Ok(made) = make_buffers(alloc) else {
         return LinesEnd::NoMemory;
@@ -231,5 +267,8 @@ pub fn attend_lines<D: Desk, R: Read, W: Write>(
         mut line,
         mut out,
     } = made;
-    answer_all(desk, input, &mut piece, &mut line, &mut out, output)
+    match answer_all(desk, &mut piece, &mut line, &mut out, stream) {
+        Ok(()) => LinesEnd::EndOfInput,
+        Err(why) => ended_by(why),
+    }
 }

@@ -1,7 +1,7 @@
 //! The line of a script that is being read.
 
 ghost use Rattle.std.specs.Prelude.{◌≡◌, [], ◌<◌, IfOk, length, slice_set};
-ghost use Rattle.tp_lines.specs.Plays.{longer};
+ghost use Rattle.tp_lines.specs.ReadLines.{longer};
 
 use std::alloc::{AllocError, Global};
 use std::marker::Model;

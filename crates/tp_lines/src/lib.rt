@@ -5,15 +5,13 @@ mod control;
 mod held;
 mod hex;
 mod line;
+mod pipe;
 mod play;
-mod reading;
 mod text;
-mod writing;
 
 pub use control::{LinesEnd, answer_line, attend_lines};
 pub use hex::unhex;
 pub use line::{ScriptLine, read_line};
+pub use pipe::{Begins, Ends, Piped, send_text};
 pub use play::{Ended, Stopped, play_script};
-pub use reading::{Taken, take_some};
 pub use text::tell;
-pub use writing::{put, send};

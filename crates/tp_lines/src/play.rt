@@ -4,16 +4,15 @@ ghost use Rattle.std.specs.Prelude.{◌≡◌, ◌<◌, ◌≤◌, ◌+◌, ◌�
 ghost use Rattle.tp_hub.specs.Told.{HasRoom};
 ghost use Rattle.tp_hub.specs.Runs.{incoming, session_of};
 ghost use Rattle.tp_lines.specs.Lines.{IsLine};
-ghost use Rattle.tp_lines.specs.Plays.{Asks, Does, EndsLine, EndsScript, GivesAll, IsWhole, PlaysBytes, PlaysLine, PlaysRead, PlaysScript, Takes, one_more};
+ghost use Rattle.tp_lines.specs.Plays.{Asks, Does, GivesAll, IsWhole, PlaysLine, PlaysScript, Takes, ends_last};
+ghost use Rattle.tp_lines.specs.ReadLines.{AreDone, AreRead, IsReadOnce, Leads, left_from, lines_from, one_more};
 
 use crate::held::{HeldLine, zeroes};
 use crate::hex::unhex;
 use crate::line::{ScriptLine, read_line};
-use crate::reading::{Taken, take_some};
 use crate::text::tell;
 use std::alloc::{AllocError, Global};
-use std::io::{Read, Write};
-use tp_hub::{Answers, Desk, Event, Ran};
+use tp_hub::{Answers, Desk, Event, Ran, Received, Stream};
 
 /// Why a script is not played to its end.
 #[derive(Clone, Copy, Debug, PartialEq, Eq)]
@@ -22,7 +21,7 @@ pub enum Stopped {
     BadLine,
     /// There is no memory for a session.
     Memory,
-    /// The writer failed.
+    /// A write or a flush failed, or a write took nothing.
     Output,
     /// A read of the script failed, or 2^64 - 1 of them were made.
     Script,
@@ -41,42 +40,42 @@ struct Asked {
     is_told: bool,
 }
 
-/// Asks once, and writes what is answered.
-fn ask_once<D: Desk, W: Write>(
+/// Asks once, and writes and flushes what is answered.
+fn ask_once<D: Desk, S: Stream>(
     desk: &mut D,
     event: Event<'_>,
     out: &mut Answers,
-    output: &mut W,
+    stream: &mut S,
 ) -> Asked
     requires number { session_of event < 64 }
     requires empty { out.old.list ≡ [] }
     requires fits { HasRoom out.old }
-    ensures asked { Asks D.asks (incoming event.entry) desk.old desk.new (W.contents output.old) (W.contents output.new) result.ran.events result.ran.bytes result.is_told }
+    ensures asked { Asks D.asks (incoming event.entry) desk.old desk.new (S.calls stream.old) (S.calls stream.new) result.ran.events result.ran.bytes result.is_told }
     ensures empty { out.new.list ≡ [] }
     ensures fits { HasRoom out.new }
 {
     let ran = desk.ask(event, out);
-    let is_told = tell(output, out);
+    let is_told = tell(stream, out);
     out.clear();
     Asked { ran, is_told }
 }
 
 /// Has one event taken, and its answers written.
-fn ask_event<D: Desk, W: Write>(
+fn ask_event<D: Desk, S: Stream>(
     desk: &mut D,
     event: Event<'_>,
     out: &mut Answers,
-    output: &mut W,
+    stream: &mut S,
 ) -> Result<(), Stopped>
     requires number { session_of event < 64 }
     requires whole { IsWhole (incoming event) }
     requires empty { out.old.list ≡ [] }
     requires fits { HasRoom out.old }
-    ensures asked { EndsLine D.asks (λ xs all. Takes (incoming event.entry) xs all) desk.old desk.new (W.contents output.old) (W.contents output.new) result }
+    ensures asked { Leads D.asks (λ asks did. Takes (incoming event.entry) asks did result) desk.old desk.new (S.calls stream.old) (S.calls stream.new) }
     ensures empty { out.new.list ≡ [] }
     ensures fits { HasRoom out.new }
 {
-    let asked = ask_once(desk, event, out, output);
+    let asked = ask_once(desk, event, out, stream);
     if !asked.is_told {
         return Err(Stopped::Output);
     }
@@ -87,23 +86,23 @@ fn ask_event<D: Desk, W: Write>(
 }
 
 /// Has a piece taken, as far as a session takes any, and its answers written.
-fn ask_piece<D: Desk, W: Write>(
+fn ask_piece<D: Desk, S: Stream>(
     desk: &mut D,
     number: u8,
     piece: &[u8],
     out: &mut Answers,
-    output: &mut W,
+    stream: &mut S,
 ) -> Result<(), Stopped>
     requires number { number < 64 }
     requires empty { out.old.list ≡ [] }
     requires fits { HasRoom out.old }
-    ensures asked { EndsLine D.asks (λ xs all. GivesAll number piece.now xs all) desk.old desk.new (W.contents output.old) (W.contents output.new) result }
+    ensures asked { Leads D.asks (λ asks did. GivesAll number piece.now asks did result) desk.old desk.new (S.calls stream.old) (S.calls stream.new) }
     ensures empty { out.new.list ≡ [] }
     ensures fits { HasRoom out.new }
 {
     let mut at = 0;
     while at < piece.len() {
-        let asked = ask_once(desk, Event::Bytes(number, &piece[at..]), out, output);
+        let asked = ask_once(desk, Event::Bytes(number, &piece[at..]), out, stream);
         if !asked.is_told {
             return Err(Stopped::Output);
         }
@@ -116,17 +115,17 @@ fn ask_piece<D: Desk, W: Write>(
 }
 
 /// Plays one line.
-fn play_line<D: Desk, W: Write>(
+fn play_line<D: Desk, S: Stream>(
     desk: &mut D,
     text: &[u8],
     bytes: &mut [u8],
     out: &mut Answers,
-    output: &mut W,
+    stream: &mut S,
 ) -> Result<(), Stopped>
     requires room { length bytes.old ≡ 8192 }
     requires empty { out.old.list ≡ [] }
     requires fits { HasRoom out.old }
-    ensures played { PlaysLine D.asks text.now desk.old desk.new (W.contents output.old) (W.contents output.new) result }
+    ensures played { Leads D.asks (λ asks did. PlaysLine text.now asks did result) desk.old desk.new (S.calls stream.old) (S.calls stream.new) }
     ensures room { length bytes.new ≡ 8192 }
     ensures empty { out.new.list ≡ [] }
     ensures fits { HasRoom out.new }
@@ -134,37 +133,37 @@ fn play_line<D: Desk, W: Write>(
     let Some(line) = read_line(text) else {
         return Err(Stopped::BadLine);
     };
-    do_line(desk, line, bytes, out, output)
+    do_line(desk, line, bytes, out, stream)
 }
 
 /// Does what a line asks for.
-fn do_line<D: Desk, W: Write>(
+fn do_line<D: Desk, S: Stream>(
     desk: &mut D,
     line: ScriptLine<'_>,
     bytes: &mut [u8],
     out: &mut Answers,
-    output: &mut W,
+    stream: &mut S,
 ) -> Result<(), Stopped>
     requires line { IsLine line }
     requires room { length bytes.old ≡ 8192 }
     requires empty { out.old.list ≡ [] }
     requires fits { HasRoom out.old }
-    ensures done { EndsLine D.asks (λ xs all. Does line.entry xs all) desk.old desk.new (W.contents output.old) (W.contents output.new) result }
+    ensures done { Leads D.asks (λ asks did. Does line.entry asks did result) desk.old desk.new (S.calls stream.old) (S.calls stream.new) }
     ensures room { length bytes.new ≡ 8192 }
     ensures empty { out.new.list ≡ [] }
     ensures fits { HasRoom out.new }
 {
     match line {
         ScriptLine::Nothing => Ok(()),
-        ScriptLine::Open(number) => ask_event(desk, Event::Open(number), out, output),
+        ScriptLine::Open(number) => ask_event(desk, Event::Open(number), out, stream),
         ScriptLine::Bytes(number, digits) => {
             let len = unhex(digits, bytes);
-            ask_piece(desk, number, &bytes[..len], out, output)
+            ask_piece(desk, number, &bytes[..len], out, stream)
         }
-        ScriptLine::Hangup(number) => ask_event(desk, Event::Hangup(number), out, output),
-        ScriptLine::Message(text) => ask_event(desk, Event::Message(text), out, output),
-        ScriptLine::Status => ask_event(desk, Event::Status, out, output),
-        ScriptLine::Thin(id) => ask_event(desk, Event::ThinStatus(id), out, output),
+        ScriptLine::Hangup(number) => ask_event(desk, Event::Hangup(number), out, stream),
+        ScriptLine::Message(text) => ask_event(desk, Event::Message(text), out, stream),
+        ScriptLine::Status => ask_event(desk, Event::Status, out, stream),
+        ScriptLine::Thin(id) => ask_event(desk, Event::ThinStatus(id), out, stream),
     }
 }
 
@@ -176,72 +175,75 @@ pub struct Place {
 }
 
 /// Plays the line that ends here, and begins the next one.
-fn end_line<D: Desk, W: Write>(
+fn end_line<D: Desk, S: Stream>(
     desk: &mut D,
     place: &mut Place,
     bytes: &mut [u8],
     out: &mut Answers,
-    output: &mut W,
+    stream: &mut S,
 ) -> Result<(), Stopped>
     requires room { length bytes.old ≡ 8192 }
     requires empty { out.old.list ≡ [] }
     requires fits { HasRoom out.old }
-    ensures played { PlaysLine D.asks place.old.line desk.old desk.new (W.contents output.old) (W.contents output.new) result }
-    ensures next { OnOk result ((place.new.line ≡ []) × (place.new.played ≡ one_more place.old.played)) }
+    ensures played { Leads D.asks (λ asks did. PlaysLine place.old.line asks did result) desk.old desk.new (S.calls stream.old) (S.calls stream.new) }
+    ensures next { OnOk result (place.new.line ≡ []) }
+    ensures count { OnOk result (place.new.played ≡ one_more place.old.played) }
     ensures same { OnErr result (place.new.played ≡ place.old.played) }
     ensures room { length bytes.new ≡ 8192 }
     ensures empty { out.new.list ≡ [] }
     ensures fits { HasRoom out.new }
 {
-    play_line(desk, place.line.text(), bytes, out, output)?;
+    play_line(desk, place.line.text(), bytes, out, stream)?;
     place.line.clear();
     place.played = place.played.saturating_add(1);
     Ok(())
 }
 
 /// Takes one byte of a script.
-fn play_byte<D: Desk, W: Write>(
+fn play_byte<D: Desk, S: Stream>(
     desk: &mut D,
     byte: u8,
     place: &mut Place,
     bytes: &mut [u8],
     out: &mut Answers,
-    output: &mut W,
+    stream: &mut S,
 ) -> Result<(), Stopped>
     requires room { length bytes.old ≡ 8192 }
     requires empty { out.old.list ≡ [] }
     requires fits { HasRoom out.old }
-    ensures played { PlaysBytes D.asks place.old.line (byte ∷ []) place.old.played desk.old desk.new (W.contents output.old) (W.contents output.new) place.new.line place.new.played result }
+    ensures played { Leads D.asks (λ asks did. AreDone PlaysLine (lines_from place.old.line (byte ∷ [])) place.old.played asks did place.new.played result) desk.old desk.new (S.calls stream.old) (S.calls stream.new) }
+    ensures left { OnOk result (place.new.line ≡ left_from place.old.line (byte ∷ [])) }
     ensures room { length bytes.new ≡ 8192 }
     ensures empty { out.new.list ≡ [] }
     ensures fits { HasRoom out.new }
 {
     if byte == b'\n' {
-        return end_line(desk, place, bytes, out, output);
+        return end_line(desk, place, bytes, out, stream);
     }
     place.line.add(byte);
     Ok(())
 }
 
 /// Plays the lines that end in a piece, and holds the one behind them.
-fn play_bytes<D: Desk, W: Write>(
+fn play_bytes<D: Desk, S: Stream>(
     desk: &mut D,
     piece: &[u8],
     place: &mut Place,
     bytes: &mut [u8],
     out: &mut Answers,
-    output: &mut W,
+    stream: &mut S,
 ) -> Result<(), Stopped>
     requires room { length bytes.old ≡ 8192 }
     requires empty { out.old.list ≡ [] }
     requires fits { HasRoom out.old }
-    ensures played { PlaysBytes D.asks place.old.line piece.now place.old.played desk.old desk.new (W.contents output.old) (W.contents output.new) place.new.line place.new.played result }
+    ensures played { Leads D.asks (λ asks did. AreDone PlaysLine (lines_from place.old.line piece.now) place.old.played asks did place.new.played result) desk.old desk.new (S.calls stream.old) (S.calls stream.new) }
+    ensures left { OnOk result (place.new.line ≡ left_from place.old.line piece.now) }
     ensures room { length bytes.new ≡ 8192 }
     ensures empty { out.new.list ≡ [] }
     ensures fits { HasRoom out.new }
 {
     for byte in piece {
-        match play_byte(desk, *byte, place, bytes, out, output) {
+        match play_byte(desk, *byte, place, bytes, out, stream) {
             Ok(()) => {}
             Err(why) => return Err(why),
         }
@@ -250,55 +252,52 @@ fn play_bytes<D: Desk, W: Write>(
 }
 
 /// Reads a script once, and plays what was read. None where it goes on.
-fn play_read<D: Desk, R: Read, W: Write>(
+fn play_read<D: Desk, S: Stream>(
     desk: &mut D,
-    script: &mut R,
-    piece: &mut [u8],
+    piece: &mut Vec<u8>,
     place: &mut Place,
     bytes: &mut [u8],
     out: &mut Answers,
-    output: &mut W,
+    stream: &mut S,
 ) -> Option<Result<(), Stopped>>
-    requires some { 0 < length piece.old }
+    requires some { 0 < length piece.old.items }
     requires room { length bytes.old ≡ 8192 }
     requires empty { out.old.list ≡ [] }
     requires fits { HasRoom out.old }
-    ensures read { PlaysRead D.asks place.old.line place.old.played (R.remaining script.old) (R.remaining script.new) desk.old desk.new (W.contents output.old) (W.contents output.new) place.new.line place.new.played result }
-    ensures some { length piece.new ≡ length piece.old }
+    ensures read { Leads D.asks (λ asks did. IsReadOnce PlaysLine Stopped.Script ends_last place.old.line place.old.played asks did place.new.line place.new.played result) desk.old desk.new (S.calls stream.old) (S.calls stream.new) }
+    ensures some { length piece.new.items ≡ length piece.old.items }
     ensures room { length bytes.new ≡ 8192 }
     ensures empty { out.new.list ≡ [] }
     ensures fits { HasRoom out.new }
 {
-    match take_some(script, piece) {
-        Taken::Bytes(count) => {
-            match play_bytes(desk, &piece[..count], place, bytes, out, output) {
-                Ok(()) => None,
-                Err(why) => Some(Err(why)),
-            }
-        }
-        Taken::End => Some(play_byte(desk, b'\n', place, bytes, out, output)),
-        Taken::Failed => Some(Err(Stopped::Script)),
+    match stream.receive(piece) {
+        Received::Got(count) => match play_bytes(desk, &piece[..count], place, bytes, out, stream) {
+            Ok(()) => None,
+            Err(why) => Some(Err(why)),
+        },
+        Received::NotNow => None,
+        Received::End => Some(end_line(desk, place, bytes, out, stream)),
+        Received::Broken => Some(Err(Stopped::Script)),
     }
 }
 
 /// Reads and plays a script to its end, which ends its last line.
-fn play_all<D: Desk, R: Read, W: Write>(
+fn play_all<D: Desk, S: Stream>(
     desk: &mut D,
-    script: &mut R,
-    piece: &mut [u8],
+    piece: &mut Vec<u8>,
     place: &mut Place,
     bytes: &mut [u8],
     out: &mut Answers,
-    output: &mut W,
+    stream: &mut S,
 ) -> Result<(), Stopped>
-    requires some { 0 < length piece.old }
+    requires some { 0 < length piece.old.items }
     requires room { length bytes.old ≡ 8192 }
     requires empty { out.old.list ≡ [] }
     requires fits { HasRoom out.old }
-    ensures { EndsScript D.asks place.old.line place.old.played (R.remaining script.old) (R.remaining script.new) desk.old desk.new (W.contents output.old) (W.contents output.new) place.new.played result }
+    ensures { Leads D.asks (λ asks did. AreRead PlaysLine Stopped.Script ends_last 0 place.old.line place.old.played asks did place.new.played result) desk.old desk.new (S.calls stream.old) (S.calls stream.new) }
 {
     for turn in 0..u64::MAX {
-        match play_read(desk, script, piece, place, bytes, out, output) {
+        match play_read(desk, piece, place, bytes, out, stream) {
             None => {}
             Some(result) => return result,
         }
@@ -338,18 +337,13 @@ pub struct Ended {
     pub played: u64,
 }
 
-/// Plays a script: each line is an event, which the desk is asked, and whose answers are written, a line each, before the next line is played. It stops at the
-/// first line that is none, and where a writer or a read fails. `Memory` where there is none for its buffers, and nothing is read then, or for a session.
+/// Plays a script: each line is an event, which the desk is asked, and whose answers are written, a line each, and flushed, before anything more is asked or read.
+/// It stops at the first line that is none, and where a read, a write or a flush fails. `Memory` where there is none for its buffers, and nothing is read then, or for a session.
 ///
 /// The end of the script ends its last line. No more memory is taken for a longer script or line: of a line 16400 bytes are kept, which no line has but
 /// a message, which is then too long to be one.
-pub fn play_script<D: Desk, R: Read, W: Write>(
-    alloc: Global,
-    desk: &mut D,
-    script: &mut R,
-    output: &mut W,
-) -> Ended
-    ensures { PlaysScript D.asks (R.remaining script.old) (R.remaining script.new) desk.old desk.new (W.contents output.old) (W.contents output.new) result.played result.result }
+pub fn play_script<D: Desk, S: Stream>(alloc: Global, desk: &mut D, stream: &mut S) -> Ended
+    ensures { Leads D.asks (λ asks did. PlaysScript asks did result.played result.result) desk.old desk.new (S.calls stream.old) (S.calls stream.new) }
 {
     let Ok(made) = make_stage(alloc) else {
         return Ended {
@@ -363,9 +357,7 @@ pub fn play_script<D: Desk, R: Read, W: Write>(
         mut place,
         mut out,
     } = made;
-    let result = play_all(
-        desk, script, &mut piece, &mut place, &mut bytes, &mut out, output,
-    );
+    let result = play_all(desk, &mut piece, &mut place, &mut bytes, &mut out, stream);
     let played = place.played;
     Ended { result, played }
 }

@@ -2,15 +2,15 @@
 
 ghost use Rattle.std.specs.Prelude.{◌≡◌, ◌+◌, ◌*◌, ◌≤◌, ◌++◌, drop, length, take};
 ghost use Rattle.std.specs.Fmt.{decimal};
+ghost use Rattle.tp_hub.specs.Carrying.{IsSaid};
+ghost use Rattle.tp_hub.specs.Streams.{Makes};
 ghost use Rattle.tp_hub.specs.Told.{Says, len_of, told, total};
 ghost use Rattle.tp_lines.specs.Lines.{hex_digit};
 ghost use Rattle.tp_lines.specs.Texts.{answer_of, hexed, newline, numbered, text_in, text_of};
 ghost use Rattle.tp_lines.specs.Writing.{Writes};
 
-use crate::writing::put;
 use itoa::Buffer;
-use std::io::Write;
-use tp_hub::{Answers, Mark};
+use tp_hub::{Answers, Mark, Stream, write_out};
 
 /// So many bytes are put into digits at once.
 const PART: usize = 2048;
@@ -48,23 +48,23 @@ fn part(bytes: &[u8], at: usize, len: usize) -> &[u8]
 }
 
 /// Writes a part of the bytes, of 2048 at most, in hexadecimal digits.
-fn put_part<W: Write>(output: &mut W, bytes: &[u8]) -> bool
+fn put_part<S: Stream>(stream: &mut S, bytes: &[u8]) -> bool
     requires { length bytes.now ≤ 2048 }
-    ensures { Writes (W.contents output.old) (W.contents output.new) (hexed bytes.now) result }
+    ensures { Writes (S.calls stream.old) (S.calls stream.new) (hexed bytes.now) result }
 {
     let mut digits = [0; PART_DIGITS];
     let len = hex(bytes, &mut digits);
-    put(output, &digits[..len])
+    write_out(stream, &digits[..len])
 }
 
-/// Writes bytes in hexadecimal digits, or tells that the writer failed.
-fn put_hex<W: Write>(output: &mut W, bytes: &[u8]) -> bool
-    ensures { Writes (W.contents output.old) (W.contents output.new) (hexed bytes.now) result }
+/// Writes bytes in hexadecimal digits, or tells that the stream failed.
+fn put_hex<S: Stream>(stream: &mut S, bytes: &[u8]) -> bool
+    ensures { Writes (S.calls stream.old) (S.calls stream.new) (hexed bytes.now) result }
 {
     let mut at = 0;
     while at < bytes.len() {
         let len = (bytes.len() - at).min(PART);
-        if !put_part(output, part(bytes, at, len)) {
+        if !put_part(stream, part(bytes, at, len)) {
             return false;
         }
         at += len;
@@ -109,51 +109,51 @@ fn number_line(out: &mut [u8], word: &[u8], number: u8) -> usize
 }
 
 /// Writes what is sent to a session.
-fn put_sent<W: Write>(output: &mut W, session: u8, bytes: &[u8]) -> bool
-    ensures { Writes (W.contents output.old) (W.contents output.new) (text_of (Says session bytes.now)) result }
+fn put_sent<S: Stream>(stream: &mut S, session: u8, bytes: &[u8]) -> bool
+    ensures { Writes (S.calls stream.old) (S.calls stream.new) (text_of (Says session bytes.now)) result }
 {
     let mut head = [0; 64];
     let word = put_word(&mut head, b"sent ", session);
     let end = copy(&mut head, word, b" ");
-    if !put(output, &head[..end]) {
+    if !write_out(stream, &head[..end]) {
         return false;
     }
-    if !put_hex(output, bytes) {
+    if !put_hex(stream, bytes) {
         return false;
     }
-    put(output, b"\n")
+    write_out(stream, b"\n")
 }
 
 /// Writes a line of a word and a number.
-fn put_number<W: Write>(output: &mut W, word: &[u8], number: u8) -> bool
+fn put_number<S: Stream>(stream: &mut S, word: &[u8], number: u8) -> bool
     requires { length word.now ≤ 16 }
-    ensures { Writes (W.contents output.old) (W.contents output.new) (numbered word.now number) result }
+    ensures { Writes (S.calls stream.old) (S.calls stream.new) (numbered word.now number) result }
 {
     let mut line = [0; 64];
     let end = number_line(&mut line, word, number);
-    put(output, &line[..end])
+    write_out(stream, &line[..end])
 }
 
 /// Writes a text as a line.
-fn put_line<W: Write>(output: &mut W, text: &[u8]) -> bool
-    ensures { Writes (W.contents output.old) (W.contents output.new) (text.now ++ newline) result }
+fn put_line<S: Stream>(stream: &mut S, text: &[u8]) -> bool
+    ensures { Writes (S.calls stream.old) (S.calls stream.new) (text.now ++ newline) result }
 {
-    if !put(output, text) {
+    if !write_out(stream, text) {
         return false;
     }
-    put(output, b"\n")
+    write_out(stream, b"\n")
 }
 
 /// Writes the line of one answer, with the bytes of its mark.
-fn tell_mark<W: Write>(output: &mut W, mark: &Mark, bytes: &[u8]) -> bool
-    ensures { Writes (W.contents output.old) (W.contents output.new) (text_of (answer_of mark.now bytes.now)) result }
+fn tell_mark<S: Stream>(stream: &mut S, mark: &Mark, bytes: &[u8]) -> bool
+    ensures { Writes (S.calls stream.old) (S.calls stream.new) (text_of (answer_of mark.now bytes.now)) result }
 {
     match *mark {
-        Mark::Sent { session, .. } => put_sent(output, session, bytes),
-        Mark::End { session } => put_number(output, b"end ", session),
-        Mark::Refused { reason } => put_number(output, b"refused ", reason.number()),
-        Mark::Done => put_line(output, b"ok"),
-        Mark::Line { .. } => put_line(output, bytes),
+        Mark::Sent { session, .. } => put_sent(stream, session, bytes),
+        Mark::End { session } => put_number(stream, b"end ", session),
+        Mark::Refused { reason } => put_number(stream, b"refused ", reason.number()),
+        Mark::Done => put_line(stream, b"ok"),
+        Mark::Line { .. } => put_line(stream, bytes),
     }
 }
 
@@ -168,14 +168,14 @@ fn len_of(mark: &Mark) -> usize
 }
 
 /// Writes the lines of marks, whose bytes stand end to end.
-fn tell_marks<W: Write>(output: &mut W, marks: &[Mark], bytes: &[u8]) -> bool
+fn tell_marks<S: Stream>(stream: &mut S, marks: &[Mark], bytes: &[u8]) -> bool
     requires { total marks.now ≤ length bytes.now }
-    ensures { Writes (W.contents output.old) (W.contents output.new) (text_in (told marks.now bytes.now)) result }
+    ensures { Writes (S.calls stream.old) (S.calls stream.new) (text_in (told marks.now bytes.now)) result }
 {
     let mut at = 0;
     for mark in marks {
         let len = len_of(mark);
-        if !tell_mark(output, mark, part(bytes, at, len)) {
+        if !tell_mark(stream, mark, part(bytes, at, len)) {
             return false;
         }
         at += len;
@@ -183,12 +183,20 @@ fn tell_marks<W: Write>(output: &mut W, marks: &[Mark], bytes: &[u8]) -> bool
     true
 }
 
-/// Writes answers as text, a line each, or tells that the writer failed: then it took a beginning of them. Nothing is flushed.
+/// Writes answers as text, a line each, and flushes them, or tells that the stream failed: then it took a beginning of them. Where there are none
+/// nothing is done.
 ///
 /// `sent SID HEX` is what a session is sent, in hexadecimal digits, `end SID` its end, `refused N` the number of a refusal, `ok` a message that is
 /// done, and a status line stands alone.
-pub fn tell<W: Write>(output: &mut W, answers: &Answers) -> bool
-    ensures { Writes (W.contents output.old) (W.contents output.new) (text_in answers.now.list) result }
+pub fn tell<S: Stream>(stream: &mut S, answers: &Answers) -> bool
+    ensures { Makes (S.calls stream.old) (S.calls stream.new) (λ did. IsSaid (text_in answers.now.list) did result) }
 {
-    tell_marks(output, answers.marks(), answers.bytes())
+    let marks = answers.marks();
+    if marks.is_empty() {
+        return true;
+    }
+    if !tell_marks(stream, marks, answers.bytes()) {
+        return false;
+    }
+    stream.flush()
 }

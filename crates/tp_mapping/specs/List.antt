@@ -1,4 +1,4 @@
--- Internal: a list of devices as volumes (own).
+-- Trusted reading: a list of devices as volumes (own).
 use Rattle.std.specs.Prelude.{◌≡◌, length, None, ℕ, zero, suc, ◌+◌, ◌≤◌, Bool, false, ◌==◌, ◌||◌, List, [], ◌∷◌, map, nat_lt, set, slice_index_or, vec_capacity, if◌then◌else◌}
 use Rattle.std.specs.List.{All}
 use Rattle.tp_sharing.specs.Volumes.{BlockSlot, DeviceSlots, Volumes, place_in}

@@ -1,4 +1,4 @@
--- Internal: what a mapping tells of its volumes, and what its calls leave (own).
+-- Trusted reading: what a mapping tells of its volumes, and what its calls leave (own).
 use Rattle.std.specs.Prelude.{◌≡◌, ℕ, ◌+◌, ◌*◌, ◌^◌, ◌<◌, ◌≤◌, ◌==◌, ◌↔◌, Bool, IsTrue, IsSome, List, [], ◌∷◌, ◌++◌, length, nat_le, not, slice_index_or, take, ◌||◌, Option, None, Some, Err, IfOk, Result, if◌then◌else◌}
 use Rattle.std.specs.List.{count_by, range_with_len}
 use Rattle.std.specs.Option.{option_map_or}

@@ -1,4 +1,4 @@
--- Internal: slots in a row, by place (own).
+-- Trusted reading: slots in a row, by place (own).
 use Rattle.std.specs.Prelude.{ℕ, suc, Bool, false, not, ◌==◌, ◌&&◌, ◌||◌, List, Option, None, Some, [], ◌∷◌, nat_lt, if◌then◌else◌}
 use Rattle.tp_sharing.specs.Volumes.{BlockSlot, Volumes}
 

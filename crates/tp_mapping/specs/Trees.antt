@@ -1,4 +1,4 @@
--- Internal: when trees on a disk stand for volumes (own).
+-- Trusted reading: when trees on a disk stand for volumes (own).
 use Rattle.std.specs.Prelude.{◌≡◌, ℕ, ◌<◌, ◌↔◌, [], Result, slice_index}
 use Rattle.tp_model.specs.Disk.{DiskState}
 use Rattle.tp_refs.specs.Store.{Store}

@@ -15,7 +15,7 @@ use Rattle.tp_layout.specs.declared.superblock.Superblock.{Superblock}
 use Rattle.tp_image.specs.Areas.{HoldsCounts, blocks_of, counts_in, counts_sector, counts_sectors, counts_start}
 use Rattle.tp_image.specs.Nodes.{block_at}
 use Rattle.tp_image.proofs.AreaLaws.{counts_apart, counts_fixed}
-use Rattle.tp_counts.specs.Counts.{IsUnmarked, SameUnmarked, SpellUnmarked}
+use Rattle.tp_counts.specs.Counts.{DifferMarked, IsUnmarked, SameUnmarked, SpellUnmarked}
 use Rattle.tp_super.specs.Store.{super_sector}
 use Rattle.tp_refs.specs.Store.{Store}
 use Rattle.tp_stored.specs.Commit.{IsCommit}
@@ -64,6 +64,11 @@ pub changed_parts : (t : Tm) (marks : AreaMarks) → SameUnmarked t.metadata_now
 changed_parts t marks metadata others Metadata = metadata
 changed_parts t marks metadata others Data = others
 
+pub differing_parts : (t : Tm) (marks : AreaMarks) → DifferMarked t.metadata_now t.metadata_kept marks.metadata → DifferMarked t.data_now t.data_kept marks.data
+    → (part : Part) → DifferMarked (now_of t part) (kept_of t part) (marks_in marks part)
+differing_parts t marks metadata others Metadata = metadata
+differing_parts t marks metadata others Data = others
+
 abbrev pub Joined : List Bool → List Bool → List Bool → Type 0
 Joined marks first second = (j : ℕ) → IsUnmarked marks j → IsUnmarked first j × IsUnmarked second j
 
@@ -72,19 +77,32 @@ pub joined_parts : (marks first second : AreaMarks) → Joined marks.metadata fi
 joined_parts marks first second metadata others Metadata = metadata
 joined_parts marks first second metadata others Data = others
 
+-- nothing else is marked
+abbrev pub JoinedOnly : List Bool → List Bool → List Bool → Type 0
+JoinedOnly marks first second = (j : ℕ) → IsUnmarked first j → IsUnmarked second j → IsUnmarked marks j
+
+pub joined_only_parts : (marks first second : AreaMarks) → JoinedOnly marks.metadata first.metadata second.metadata → JoinedOnly marks.data first.data second.data
+    → (part : Part) → JoinedOnly (marks_in marks part) (marks_in first part) (marks_in second part)
+joined_only_parts marks first second metadata others Metadata = metadata
+joined_only_parts marks first second metadata others Data = others
+
 -- of the marks of either list the first j are made
 pub record HaveJoined (first second : List Bool) (j : ℕ) (marks : List Bool) : Type 0 where
   pub long : length marks ≡ 1024
   pub made : (i : ℕ) → i < j → IsUnmarked marks i → IsUnmarked first i × IsUnmarked second i
+  pub only : (i : ℕ) → i < j → IsUnmarked first i → IsUnmarked second i → IsUnmarked marks i
   pub rest : (i : ℕ) → j ≤ i → get_or marks i true ≡ true
 
 pub joins_none : (first second : List Bool) → HaveJoined first second 0 (replicate 1024 true)
-joins_none first second = record { long = length-replicate {A = Bool} 1024 true; made = λ i h. absurd (omega (arith, h)); rest = λ i h. all_marked i }
+joins_none first second = record { long = length-replicate {A = Bool} 1024 true; made = λ i h. absurd (omega (arith, h)); only = λ i h. absurd (omega (arith, h)); rest = λ i h. all_marked i }
 
 neither : (s t : Bool) → (s || t) ≡ false → (s ≡ false) × (t ≡ false)
 neither false false e = (refl, refl)
 neither false true e = absurd (false≢true (sym e))
 neither true t e = absurd (false≢true (sym e))
+
+either_clear : (s t : Bool) → s ≡ false → t ≡ false → (s || t) ≡ false
+either_clear s t e f = ap (λ (x : Bool). x || t) e ∙ f
 
 pub joins_more : (first second : List Bool) (j : ℕ) (marks : List Bool) (v : Bool) → HaveJoined first second j marks → j < 1024 → length first ≡ 1024 → length second ≡ 1024
     → v ≡ (get_or first j false || get_or second j false) → HaveJoined first second (j + 1) (set marks j v)
@@ -95,12 +113,22 @@ joins_more first second j marks v so_far low first_long second_long is = record 
       (λ unmarked.
       let both = neither (get_or first j false) (get_or second j false) (sym is ∙ sym (get_or-set_same marks j v true (omega (arith, so_far.long, low))) ∙ unmarked) in
       (get_or_default first j true false (omega (arith, first_long, low)) ∙ both.0, get_or_default second j true false (omega (arith, second_long, low)) ∙ both.1));
+  only = below_more (λ i. IsUnmarked first i → IsUnmarked second i → IsUnmarked (set marks j v) i) j
+      (λ i h clear others. get_or-set_other marks j i v true (λ e. omega (arith, e, h)) ∙ so_far.only i h clear others)
+      (λ clear others. get_or-set_same marks j v true (omega (arith, so_far.long, low)) ∙ is
+      ∙ either_clear (get_or first j false) (get_or second j false)
+      (get_or_default first j false true (omega (arith, first_long, low)) ∙ clear) (get_or_default second j false true (omega (arith, second_long, low)) ∙ others));
   rest = λ i h. get_or-set_other marks j i v true (λ e. omega (arith, e, h)) ∙ so_far.rest i (omega (arith, h));
 }
 
 pub joins_all : (first second : List Bool) (j : ℕ) (marks : List Bool) → HaveJoined first second j marks → Joined marks first second
 joins_all first second j marks done i unmarked =
     ⊎_elim (λ lt. done.made i lt unmarked) (λ past. absurd (false≢true (sym unmarked ∙ done.rest i past))) (cases_lt i j)
+
+pub joins_only : (first second : List Bool) (j : ℕ) (marks : List Bool) → HaveJoined first second j marks → 1024 ≤ j → length first ≡ 1024 → JoinedOnly marks first second
+joins_only first second j marks done whole first_long i clear others =
+    ⊎_elim (λ lt. done.only i lt clear others)
+    (λ past. absurd (false≢true (sym clear ∙ get_or_past first i true (omega (arith, past, whole, first_long))))) (cases_lt i j)
 
 -- ---- images with the same count blocks
 

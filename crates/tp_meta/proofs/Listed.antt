@@ -1,9 +1,9 @@
 -- Marks that are cleared where they were set.
-use Rattle.std.proofs.Common.{◌≡◌, ℕ, zero, suc, ◌+◌, ◌<◌, ◌≤◌, inl, inr, Bool, true, false, List, [], ◌∷◌, ◌++◌, length, get_or, set, replicate, refl, sym, ap, subst, ◌∙◌, arith}
+use Rattle.std.proofs.Common.{below_more, min, ◌≡◌, ℕ, zero, suc, ◌+◌, ◌<◌, ◌≤◌, inl, inr, Bool, true, false, List, [], ◌∷◌, ◌++◌, length, get_or, set, replicate, refl, sym, ap, subst, ◌∙◌, arith}
 use Rattle.std.proofs.lemmas.Bool.{cases_eq, cases_lt, false≢true}
 use Rattle.std.proofs.lemmas.Bool.Decides.{nat_tests}
-use Rattle.std.proofs.lemmas.List.{length-append, get_or-set_same, get_or-set_other, get_or_past, length-set}
-use Rattle.tp_meta.specs.Marking.{AreAmong, AreFollowed, IsOneOf, cleared, listed_with}
+use Rattle.std.proofs.lemmas.List.{length-append, get_or-set_same, get_or-set_other, get_or_past, length-replicate, length-set}
+use Rattle.tp_meta.specs.Marking.{AreAmong, AreFollowed, AreListed, IsOneOf, cleared, listed_with, marks_set}
 
 here_last : (p : ℕ) (ps : List ℕ) → IsOneOf p (ps ++ p ∷ [])
 here_last p [] = inl refl
@@ -28,19 +28,7 @@ listed_yes p ps h = grind (arith, nat_tests)
 listed_no : (p : ℕ) (ps : List ℕ) → 4096 ≤ length ps → listed_with p ps ≡ ps
 listed_no p ps h = grind (arith, nat_tests)
 
--- one place more is listed, or the list is full
-pub list_fills : (i p : ℕ) (ps : List ℕ) → i < 4096 → i ≤ length ps → i + 1 ≤ length (listed_with p ps)
-list_fills i p ps few h =
-    elim (cases_lt (length ps) 4096) [
-      | inl l ↦ omega (arith, h, ap length (listed_yes p ps l), length-append ps (p ∷ []))
-      | inr g ↦ omega (arith, few, ap length (listed_no p ps g), g)
-    ]
-
--- where the list is full, marks may be set anywhere
-pub full_followed : (marks : List Bool) (ps : List ℕ) → 4096 ≤ length ps → AreFollowed marks ps
-full_followed marks ps full few = absurd (omega (arith, full, few))
-
-pub followed_more : (p : ℕ) (ps : List ℕ) (marks : List Bool) → AreFollowed marks ps → AreFollowed (set marks p true) (listed_with p ps)
+followed_more : (p : ℕ) (ps : List ℕ) (marks : List Bool) → AreFollowed marks ps → AreFollowed (set marks p true) (listed_with p ps)
 followed_more p ps marks follows few =
     elim (cases_lt (length ps) 4096) [
       | inl l ↦ subst (λ l. AreAmong l (set marks p true)) (sym (listed_yes p ps l)) (among_more p ps marks (follows l))
@@ -76,9 +64,56 @@ all_cleared (p ∷ ps) marks all =
     all_cleared ps (set marks p false) (among_less p ps marks all)
     ∙ ap (λ n. replicate {A = Bool} n false) (length-set marks p false)
 
-pub none_followed : (n : ℕ) (marks : List Bool) (ps : List ℕ) → marks ≡ replicate n false → AreFollowed marks ps
+none_followed : (n : ℕ) (marks : List Bool) (ps : List ℕ) → marks ≡ replicate n false → AreFollowed marks ps
 none_followed n marks ps none few k is = absurd (false≢true (sym (ap (λ (l : List Bool). get_or l k false) none ∙ no_mark n k) ∙ is)) where
   no_mark : (n k : ℕ) → get_or (replicate {A = Bool} n false) k false ≡ false
   no_mark zero k = refl
   no_mark (suc n) zero = refl
   no_mark (suc n) (suc k) = no_mark n k
+
+-- ---- how many are set
+
+marked_more : (p : ℕ) (marks : List Bool) → p < length marks → get_or marks p false ≡ false → marks_set (set marks p true) ≡ marks_set marks + 1
+marked_more p [] low clear = absurd (omega (arith, low))
+marked_more zero (true ∷ marks) low clear = absurd (false≢true (sym clear))
+marked_more zero (false ∷ marks) low clear = omega arith
+marked_more (suc p) (true ∷ marks) low clear = omega (arith, marked_more p marks (omega (arith, low)) clear)
+marked_more (suc p) (false ∷ marks) low clear = marked_more p marks (omega (arith, low)) clear
+
+none_marked : (n : ℕ) → marks_set (replicate {A = Bool} n false) ≡ 0
+none_marked zero = refl
+none_marked (suc n) = none_marked n
+
+each_marked : (n : ℕ) → marks_set (replicate {A = Bool} n true) ≡ n
+each_marked zero = refl
+each_marked (suc n) = omega (arith, each_marked n)
+
+pub none_listed : (n : ℕ) (marks : List Bool) → marks ≡ replicate n false → AreListed marks []
+none_listed n marks none = record { follow = none_followed n marks [] none; count = omega (arith, ap marks_set none ∙ none_marked n) }
+
+pub listed_more : (p : ℕ) (ps : List ℕ) (marks : List Bool) → p < length marks → get_or marks p false ≡ false → AreListed marks ps → AreListed (set marks p true) (listed_with p ps)
+listed_more p ps marks low clear listed = record {
+  follow = followed_more p ps marks listed.follow;
+  count = elim (cases_lt (length ps) 4096) [
+    | inl few ↦ omega (arith, ap length (listed_yes p ps few), length-append ps (p ∷ []), listed.count, few, marked_more p marks low clear)
+    | inr full ↦ omega (arith, ap length (listed_no p ps full), listed.count, full, marked_more p marks low clear)
+  ];
+}
+
+pub each_listed : (n k : ℕ) (marks : List Bool) (ps : List ℕ) → marks ≡ replicate n true → k ≡ min n 4096 → length ps ≡ k → ((i : ℕ) → i < k → IsOneOf i ps) → AreListed marks ps
+each_listed n k marks ps set_all is long each = record {
+  follow = λ few i marked. elim (cases_lt i (length marks)) [
+    | inl low ↦ each i (omega (arith, low, few, is, long, ap length set_all, length-replicate {A = Bool} n true))
+    | inr past ↦ absurd (false≢true (sym (get_or_past marks i false past) ∙ marked))
+  ];
+  count = omega (arith, is, long, ap marks_set set_all ∙ each_marked n);
+}
+
+-- places from the first on are listed
+pub one_more : (i : ℕ) (ps : List ℕ) → length ps ≡ i → i < 4096 → ((k : ℕ) → k < i → IsOneOf k ps) → (k : ℕ) → k < i + 1 → IsOneOf k (listed_with i ps)
+one_more i ps long few each =
+    below_more (λ k. IsOneOf k (listed_with i ps)) i (λ k low. subst (λ (l : List ℕ). IsOneOf k l) (sym (listed_yes i ps (omega (arith, long, few)))) (there_still k i ps (each k low)))
+    (subst (λ (l : List ℕ). IsOneOf i l) (sym (listed_yes i ps (omega (arith, long, few)))) (here_last i ps))
+
+pub one_longer : (i : ℕ) (ps : List ℕ) → length ps ≡ i → i < 4096 → length (listed_with i ps) ≡ i + 1
+one_longer i ps long few = omega (arith, ap length (listed_yes i ps (omega (arith, long, few))), length-append ps (i ∷ []), long)

@@ -1,4 +1,4 @@
--- Internal: what a commit needs, and what a stop leaves while it runs (own).
+-- Trusted reading: what a commit needs, and what a stop leaves while it runs (own).
 use Rattle.std.specs.Prelude.{◌≡◌, ◌+◌, ◌≤◌, List, [], take}
 use Rattle.tp_model.specs.Sectors.{Sector}
 use Rattle.tp_model.specs.Disk.{Cell, DiskState, seen}

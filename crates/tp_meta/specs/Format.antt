@@ -1,4 +1,4 @@
--- Internal: what formatting leaves, and what a stop leaves while a disk is formatted (own).
+-- Trusted reading: what formatting leaves, and what a stop leaves while a disk is formatted (own).
 use Rattle.std.specs.Prelude.{◌≡◌, ◌⊎◌, ℕ, ◌-◌, ◌%◌, List, ◌∷◌, [], replicate, set, Ok, Err}
 use Rattle.tp_model.specs.declared.refusal.Refusal.TheVariants.{NotAPool}
 use Rattle.tp_model.specs.Geometry.{Geometry, fixed_part, metadata_sector}

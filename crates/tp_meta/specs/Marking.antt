@@ -1,5 +1,5 @@
 -- Internal: marks, where they were set, and the slots of a device, piece by piece (own).
-use Rattle.std.specs.Prelude.{◌≡◌, ◌⊎◌, ℕ, zero, suc, ◌<◌, ◌^◌, ◌++◌, ◌∷◌, [], Bool, false, true, List, Option, None, Some, if◌then◌else◌, length, nat_lt, set, slice_index_or, take}
+use Rattle.std.specs.Prelude.{◌≡◌, ◌⊎◌, ℕ, zero, suc, ◌<◌, ◌^◌, ◌++◌, ◌∷◌, [], Bool, false, true, List, Option, None, Some, if◌then◌else◌, length, min, nat_lt, set, slice_index_or, take}
 use Rattle.std.specs.Option.{option_map}
 use Rattle.tp_sharing.specs.Volumes.{BlockSlot, SlotsAscend, place_in}
 use Rattle.tp_mapping.specs.Mapping.{from_block}
@@ -36,6 +36,17 @@ AreAmong places marks = (n : ℕ) → slice_index_or marks n false ≡ true → 
 -- Where fewer than 4096 places are listed, marks are set there alone.
 abbrev pub AreFollowed : List Bool → List ℕ → Type 0
 AreFollowed marks places = length places < 4096 → AreAmong places marks
+
+-- how many marks are set
+abbrev pub marks_set : List Bool → ℕ
+marks_set [] = 0
+marks_set (true ∷ marks) = suc (marks_set marks)
+marks_set (false ∷ marks) = marks_set marks
+
+-- Marks are set at the places listed alone, where these are fewer than 4096; and as many are listed as are set, or 4096 where more are. So none is listed twice.
+pub record AreListed (marks : List Bool) (places : List ℕ) : Type 0 where
+  pub follow : AreFollowed marks places
+  pub count : length places ≡ min 4096 (marks_set marks)
 
 -- the places when a mark was set, at most 4096
 abbrev pub listed_with : ℕ → List ℕ → List ℕ

@@ -1,4 +1,4 @@
--- Internal: what the metadata of a pool tell, and what their calls leave (own).
+-- Trusted reading: what the metadata of a pool tell, and what their calls leave (own).
 use Rattle.std.specs.Prelude.{◌≡◌, ◌⊎◌, ℕ, zero, suc, ◌+◌, ◌^◌, ◌<◌, ◌≤◌, ◌↔◌, Bool, IsTrue, true, false, if◌then◌else◌, List, [], ◌∷◌, ◌++◌, replicate, set, Option, None, Some, Err, IfOk, OnOk, Result, is_err, slice_index_or}
 use Rattle.tp_model.specs.Geometry.{Geometry, IsWithinLimits}
 use Rattle.tp_model.specs.Sectors.{Sector}

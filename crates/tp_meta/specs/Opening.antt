@@ -1,4 +1,4 @@
--- Internal: what an image tells the one who opens it (own).
+-- Trusted reading: what an image tells the one who opens it (own).
 use Rattle.std.specs.Prelude.{◌≡◌, ◌⊎◌, ℕ, ◌+◌, ◌%◌, ◌<◌, ◌≤◌, List, length, Result, Ok, Err}
 use Rattle.tp_model.specs.declared.refusal.Refusal.{Refusal}
 use Rattle.tp_model.specs.declared.refusal.Refusal.TheVariants.{Damaged}

@@ -1,4 +1,4 @@
--- Internal: what the two areas of counts hold while a pool is served (own).
+-- Trusted reading: what the two areas of counts hold while a pool is served (own).
 use Rattle.std.specs.Prelude.{◌≡◌, ℕ, ◌+◌, ◌<◌, Bool, List, slice_index}
 use Rattle.tp_model.specs.Geometry.{Geometry, count_blocks, fixed_part}
 use Rattle.tp_model.specs.Sectors.{Sector}

@@ -1,4 +1,4 @@
--- Internal: when trees and what is in memory beside them stand for contents (own).
+-- Trusted reading: when trees and what is in memory beside them stand for contents (own).
 use Rattle.std.specs.Prelude.{◌≡◌, ℕ, ◌+◌, ◌++◌, Bool, List, [], IfSome, IsTrue, false, length, replicate, take}
 use Rattle.tp_model.specs.Geometry.{Geometry, fixed_part}
 use Rattle.tp_model.specs.Disk.{DiskState, seen}

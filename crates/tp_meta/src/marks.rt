@@ -1,7 +1,7 @@
 //! Which data blocks slots lost since the last commit.
 
-ghost use Rattle.std.specs.Prelude.{◌≡◌, ◌≤◌, List, Bool, IfOk, false, true, length, replicate, set, slice_index_or, vec_capacity};
-ghost use Rattle.tp_meta.specs.Marking.{AreFollowed, cleared, listed_with};
+ghost use Rattle.std.specs.Prelude.{◌≡◌, ◌≤◌, ◌<◌, ℕ, List, Bool, IfOk, false, true, length, replicate, set, slice_index_or, vec_capacity};
+ghost use Rattle.tp_meta.specs.Marking.{AreFollowed, IsOneOf, cleared, listed_with};
 
 use std::alloc::{AllocError, Global};
 use std::marker::Model;
@@ -16,19 +16,19 @@ const MOST_LISTED: usize = 4096;
 #[derive(Drop)]
 pub(crate) struct Marks {
     marks: Vec<bool>,
-    // The places where marks were set since they were all cleared, the first 4096. It is full too where all marks were set at once.
+    // The places where marks are set, each once, and 4096 of them where more are.
     places: Vec<u32>,
 }
 
 impl Model for Marks {
     ghost use Rattle.std.specs.Prelude.{◌≤◌, vec_capacity, List, Bool};
-    ghost use Rattle.tp_meta.specs.Marking.{AreFollowed};
+    ghost use Rattle.tp_meta.specs.Marking.{AreListed};
 
     ghost Value = { List Bool };
 
     ghost view = { λ m. m.marks.items };
 
-    ghost invariant = { λ m. (4096 ≤ vec_capacity m.places) × AreFollowed m.marks.items m.places.items };
+    ghost invariant = { λ m. (4096 ≤ vec_capacity m.places) × AreListed m.marks.items m.places.items };
 }
 
 /// Sets or clears the mark at a place, if there is one.
@@ -57,14 +57,17 @@ fn list(places: &mut Vec<u32>, place: u32)
     }
 }
 
-/// Lists places until the list is full.
-fn fill(places: &mut Vec<u32>)
-    requires { 4096 ≤ vec_capacity places.old }
-    ensures full { 4096 ≤ length places.new.items }
+/// Lists the first so many places, and no others.
+fn fill(places: &mut Vec<u32>, count: usize)
+    requires room { 4096 ≤ vec_capacity places.old }
+    requires few { count ≤ 4096 }
+    ensures long { length places.new.items ≡ count }
+    ensures each { (n : ℕ) → n < count → IsOneOf n places.new.items }
     ensures capacity { 4096 ≤ vec_capacity places.new }
 {
-    for i in 0..MOST_LISTED {
-        list(places, 0);
+    places.clear();
+    for i in 0..count {
+        list(places, i as u32);
     }
 }
 
@@ -133,16 +136,19 @@ impl Marks {
             return;
         }
         let place = place.number();
+        if place as usize >= self.marks.len() {
+            return;
+        }
         list(&mut self.places, place);
         put_at(&mut self.marks, place, true);
     }
 
-    /// Marks each data block. The list of places is full then, so that all marks are cleared at once.
+    /// Marks each data block. The list of places has all of them, or is full, so that all marks are cleared at once.
     pub(crate) fn put_all(&mut self)
         ensures { self.new ≡ replicate (length self.old) true }
     {
         set_all(&mut self.marks);
-        fill(&mut self.places);
+        fill(&mut self.places, self.marks.len().min(MOST_LISTED));
     }
 
     /// No data block is marked any more.

@@ -2,7 +2,7 @@
 //!
 //! An area holds the counts of the commit before the last one, but for the blocks whose counts the last one changed.
 ghost use Rattle.std.specs.Prelude.{◌≡◌, ◌≢◌, ℕ, false, replicate, true};
-ghost use Rattle.tp_counts.specs.Counts.{IsUnmarked, SameUnmarked};
+ghost use Rattle.tp_counts.specs.Counts.{DifferMarked, IsUnmarked, SameUnmarked};
 ghost use Rattle.tp_layout.specs.declared.counts.Part.{Part};
 ghost use Rattle.tp_layout.specs.declared.superblock.SlotId.{SlotId};
 ghost use Rattle.tp_tm.specs.Tm.{kept_of, now_of};
@@ -54,7 +54,8 @@ impl AreaMarks {
 
     /// The blocks that have another count now than in the last commit.
     pub(crate) fn changed_in(tm: &Tm) -> AreaMarks
-        ensures { (part : Part) → SameUnmarked (now_of tm.now part) (kept_of tm.now part) (marks_in result part) }
+        ensures same { (part : Part) → SameUnmarked (now_of tm.now part) (kept_of tm.now part) (marks_in result part) }
+        ensures differ { (part : Part) → DifferMarked (now_of tm.now part) (kept_of tm.now part) (marks_in result part) }
     {
         AreaMarks {
             metadata: tm.changed_blocks(Part::Metadata),
@@ -64,7 +65,8 @@ impl AreaMarks {
 
     /// The blocks that either of the two marks.
     pub(crate) fn joined(&self, other: &AreaMarks) -> AreaMarks
-        ensures { (part : Part) (j : ℕ) → IsUnmarked (marks_in result part) j → IsUnmarked (marks_in self.now part) j × IsUnmarked (marks_in other.now part) j }
+        ensures both { (part : Part) (j : ℕ) → IsUnmarked (marks_in result part) j → IsUnmarked (marks_in self.now part) j × IsUnmarked (marks_in other.now part) j }
+        ensures only { (part : Part) (j : ℕ) → IsUnmarked (marks_in self.now part) j → IsUnmarked (marks_in other.now part) j → IsUnmarked (marks_in result part) j }
     {
         AreaMarks {
             metadata: either(&self.metadata, &other.metadata),
@@ -98,6 +100,8 @@ impl StaleBlocks {
     pub(crate) fn kept_in(&mut self, area: SlotId, changed: &AreaMarks)
         ensures others { (other : SlotId) (part : Part) (j : ℕ) → other ≢ area → IsUnmarked (marks_in (in_area self.new other) part) j
             → IsUnmarked (marks_in (in_area self.old other) part) j × IsUnmarked (marks_in changed.now part) j }
+        ensures only { (other : SlotId) (part : Part) (j : ℕ) → other ≢ area → IsUnmarked (marks_in (in_area self.old other) part) j → IsUnmarked (marks_in changed.now part) j
+            → IsUnmarked (marks_in (in_area self.new other) part) j }
         ensures here { (part : Part) → marks_in (in_area self.new area) part ≡ replicate 1024 false }
     {
         match area {
@@ -111,6 +115,7 @@ impl StaleBlocks {
 fn pass_on(here: &mut AreaMarks, other: &mut AreaMarks, changed: &AreaMarks)
     ensures here { (part : Part) → marks_in here.new part ≡ replicate 1024 false }
     ensures other { (part : Part) (j : ℕ) → IsUnmarked (marks_in other.new part) j → IsUnmarked (marks_in other.old part) j × IsUnmarked (marks_in changed.now part) j }
+    ensures only { (part : Part) (j : ℕ) → IsUnmarked (marks_in other.old part) j → IsUnmarked (marks_in changed.now part) j → IsUnmarked (marks_in other.new part) j }
 {
     *here = AreaMarks::none();
     *other = other.joined(changed);
@@ -118,7 +123,8 @@ fn pass_on(here: &mut AreaMarks, other: &mut AreaMarks, changed: &AreaMarks)
 
 /// The marks of either list.
 fn either(first: &BlockMarks, second: &BlockMarks) -> BlockMarks
-    ensures { (j : ℕ) → IsUnmarked result j → IsUnmarked first.now j × IsUnmarked second.now j }
+    ensures both { (j : ℕ) → IsUnmarked result j → IsUnmarked first.now j × IsUnmarked second.now j }
+    ensures only { (j : ℕ) → IsUnmarked first.now j → IsUnmarked second.now j → IsUnmarked result j }
 {
     let mut marks = [true; BLOCKS];
     for j in 0..BLOCKS {

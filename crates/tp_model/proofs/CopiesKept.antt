@@ -11,7 +11,7 @@ use Rattle.tp_model.specs.Calls.{Call, Read, Write, Trim, WriteZeroes, Flush, Cr
 use Rattle.tp_model.specs.PoolStops.{Event, Given, GivenIn, MayReopen}
 use Rattle.std.specs.FinMap.{contains_key}
 
-second_passes : (p : PlainPool) (id count least : ℕ) (has_room : Bool) → refusal_of_request p id count least has_room ≡ None → exists p id ≡ true
+pub second_passes : (p : PlainPool) (id count least : ℕ) (has_room : Bool) → refusal_of_request p id count least has_room ≡ None → exists p id ≡ true
 second_passes p id count least has_room none =
     passed (is_failed p.mode) (exists p id)
     ((is_read_only p.mode, ReadOnly) ∷ (nat_lt 0 count && not (has_metadata_room p least), NoMetadataSpace) ∷ (not has_room, NoDataSpace) ∷ []) none

@@ -107,9 +107,9 @@ pub Makes-keeps_sizes : (p : PlainPool) (call : Call) (q : PlainPool) → refusa
 Makes-keeps_sizes p (Write id at xs fua) q none h found = edited p (Write id at xs fua) id q h found
 Makes-keeps_sizes p (Trim id at n fua) q none h found = edited p (Trim id at n fua) id q h found
 Makes-keeps_sizes p (WriteZeroes id at n no_hole fua) q none h found = edited p (WriteZeroes id at n no_hole fua) id q h found
-Makes-keeps_sizes p (CreateThin id) q none h found = inserted p q id (new_volume p.geometry) (ap (λ r. r.volumes) h) (not_there p id found (new_thin p id none))
-Makes-keeps_sizes p (CreateSnap id origin) q none h found = inserted p q id (volume_of p origin) (ap (λ r. r.volumes) h) (not_there p id found (new_snap p id origin none))
-Makes-keeps_sizes p (Delete id) q none h found = removed p q id (ap (λ r. r.volumes) h) (none_holds p id (not_held p id none))
+Makes-keeps_sizes p (CreateThin id) q none h found = inserted p q id (new_volume p.geometry) (ap (λ r. r.volumes) h.is) (not_there p id found (new_thin p id none))
+Makes-keeps_sizes p (CreateSnap id origin) q none h found = inserted p q id (volume_of p origin) (ap (λ r. r.volumes) h.is) (not_there p id found (new_snap p id origin none))
+Makes-keeps_sizes p (Delete id) q none h found = removed p q id (ap (λ r. r.volumes) h.is) (none_holds p id (not_held p id none))
 Makes-keeps_sizes p (SetTransactionId current next) q none h found = same_volumes p q (ap (λ r. r.volumes) h)
 Makes-keeps_sizes p (Grow id blocks) q none h found =
     inserted p q id (grown p.geometry blocks (volume_of p id)) (ap (λ r. r.volumes) h.is) (none_holds p id (not_busy p id blocks none))
@@ -124,7 +124,7 @@ Makes-keeps_sizes p (VolumeBlocks id) q none h found = same_volumes p q (ap (λ 
 Makes-keeps_sizes p Close q none h found = same_volumes p q (ap (λ r. r.volumes) h)
 Makes-keeps_sizes p (HeldRead id at n) q none h found = same_volumes p q (ap (λ r. r.volumes) h)
 Makes-keeps_sizes p ReserveMetadataSnap q none h found = reserved p q h found
-Makes-keeps_sizes p ReleaseMetadataSnap q none h found = let_go_copies p q (ap (λ r. r.volumes) h) found
+Makes-keeps_sizes p ReleaseMetadataSnap q none h found = let_go_copies p q (ap (λ r. r.volumes) h.is) found
 
 -- ---- and one that is refused, or in which the disk fails
 

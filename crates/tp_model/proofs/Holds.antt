@@ -131,9 +131,9 @@ pub Makes-FindsHeld : (p : PlainPool) (call : Call) (q : PlainPool) → refusal_
 Makes-FindsHeld p (Write id at xs fua) q none h = edited p (Write id at xs fua) id q h
 Makes-FindsHeld p (Trim id at n fua) q none h = edited p (Trim id at n fua) id q h
 Makes-FindsHeld p (WriteZeroes id at n no_hole fua) q none h = edited p (WriteZeroes id at n no_hole fua) id q h
-Makes-FindsHeld p (CreateThin id) q none h = added p q id (new_volume p.geometry) (ap (λ r. r.volumes) h) (ap (λ r. r.holds) h)
-Makes-FindsHeld p (CreateSnap id origin) q none h = added p q id (volume_of p origin) (ap (λ r. r.volumes) h) (ap (λ r. r.holds) h)
-Makes-FindsHeld p (Delete id) q none h = deleted p q id (not_held p id none) (ap (λ r. r.volumes) h) (ap (λ r. r.holds) h)
+Makes-FindsHeld p (CreateThin id) q none h = added p q id (new_volume p.geometry) (ap (λ r. r.volumes) h.is) (ap (λ r. r.holds) h.is)
+Makes-FindsHeld p (CreateSnap id origin) q none h = added p q id (volume_of p origin) (ap (λ r. r.volumes) h.is) (ap (λ r. r.holds) h.is)
+Makes-FindsHeld p (Delete id) q none h = deleted p q id (not_held p id none) (ap (λ r. r.volumes) h.is) (ap (λ r. r.holds) h.is)
 Makes-FindsHeld p (SetTransactionId current next) q none h = same_volumes p q (ap (λ r. r.volumes) h) (ap (λ r. r.holds) h)
 Makes-FindsHeld p (Grow id blocks) q none h = added p q id (grown p.geometry blocks (volume_of p id)) (ap (λ r. r.volumes) h.is) (ap (λ r. r.holds) h.is)
 Makes-FindsHeld p (Hold id) q none h =
@@ -148,7 +148,7 @@ Makes-FindsHeld p (VolumeBlocks id) q none h = same_volumes p q (ap (λ r. r.vol
 Makes-FindsHeld p Close q none h = same_volumes p q (ap (λ r. r.volumes) h) (ap (λ r. r.holds) h)
 Makes-FindsHeld p (HeldRead id at n) q none h = same_volumes p q (ap (λ r. r.volumes) h) (ap (λ r. r.holds) h)
 Makes-FindsHeld p ReserveMetadataSnap q none h = reserved p q h
-Makes-FindsHeld p ReleaseMetadataSnap q none h = let_go_copies p q (ap (λ r. r.volumes) h) (ap (λ r. r.holds) h)
+Makes-FindsHeld p ReleaseMetadataSnap q none h = let_go_copies p q (ap (λ r. r.volumes) h.is) (ap (λ r. r.holds) h.is)
 
 -- ---- whatever is answered
 

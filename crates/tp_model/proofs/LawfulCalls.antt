@@ -246,13 +246,13 @@ Makes-IsLawful p (Write id at xs fua) q some shaped none law h = Edits-IsLawful 
 Makes-IsLawful p (Trim id at n fua) q some shaped none law h = Edits-IsLawful p (Trim id at n fua) id q h law some
 Makes-IsLawful p (WriteZeroes id at n no_hole fua) q some shaped none law h = Edits-IsLawful p (WriteZeroes id at n no_hole fua) id q h law some
 Makes-IsLawful p (CreateThin id) q some shaped none law h =
-    lawful_by_places p q (ap (λ r. r.geometry) h) law
-    (λ i b. put_in p q id (new_volume p.geometry) (ap (λ r. r.volumes) h) p.geometry.block_sectors i b (λ b e. fresh_place p q p.geometry id _ b e))
+    lawful_by_places p q (ap (λ r. r.geometry) h.is) law
+    (λ i b. put_in p q id (new_volume p.geometry) (ap (λ r. r.volumes) h.is) p.geometry.block_sectors i b (λ b e. fresh_place p q p.geometry id _ b e))
 Makes-IsLawful p (CreateSnap id origin) q some shaped none law h =
-    lawful_by_places p q (ap (λ r. r.geometry) h) law
-    (λ i b. put_in p q id (volume_of p origin) (ap (λ r. r.volumes) h) p.geometry.block_sectors i b (λ b e. copied_place p q origin id _ b e))
+    lawful_by_places p q (ap (λ r. r.geometry) h.is) law
+    (λ i b. put_in p q id (volume_of p origin) (ap (λ r. r.volumes) h.is) p.geometry.block_sectors i b (λ b e. copied_place p q origin id _ b e))
 Makes-IsLawful p (Delete id) q some shaped none law h =
-    lawful_by_places p q (ap (λ r. r.geometry) h) law (λ i b. deleted_place p q id (ap (λ r. r.volumes) h) p.geometry.block_sectors i b (i == id) refl)
+    lawful_by_places p q (ap (λ r. r.geometry) h.is) law (λ i b. deleted_place p q id (ap (λ r. r.volumes) h.is) p.geometry.block_sectors i b (i == id) refl)
 Makes-IsLawful p (SetTransactionId current next) q some shaped none law h = volumes_lawful p q (ap (λ r. r.geometry) h) (ap (λ r. r.volumes) h) law
 Makes-IsLawful p (Grow id blocks) q some shaped none law h =
     lawful_by_places p q (ap (λ r. r.geometry) h.is) law
@@ -270,7 +270,7 @@ Makes-IsLawful p Close q some shaped none law h = same_lawful p q h law
 Makes-IsLawful p (HeldRead id at n) q some shaped none law h = same_lawful p q h law
 Makes-IsLawful p ReserveMetadataSnap q some shaped none law h = lawful_by_places p q (ap (λ r. r.geometry) h.rest) law (λ i b. reserved_place p q h p.geometry.block_sectors i b)
 Makes-IsLawful p ReleaseMetadataSnap q some shaped none law h =
-    lawful_by_places p q (ap (λ r. r.geometry) h) law (λ i b. released_place p q (ap (λ r. r.volumes) h) p.geometry.block_sectors i b (is_now i) refl)
+    lawful_by_places p q (ap (λ r. r.geometry) h.is) law (λ i b. released_place p q (ap (λ r. r.volumes) h.is) p.geometry.block_sectors i b (is_now i) refl)
 
 pub refusal_volumes : (r : Refusal) (p : PlainPool) → ((after_refusal r p).volumes ≡ p.volumes) × ((after_refusal r p).geometry ≡ p.geometry)
 refusal_volumes NoMetadataSpace p = (refl, refl)

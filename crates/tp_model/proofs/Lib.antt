@@ -11,6 +11,7 @@ pub mod Shape
 pub mod Found
 pub mod Renaming
 pub mod CopiesKept
+pub mod CopiesStay
 pub mod Counting
 pub mod Removing
 pub mod Slices

@@ -238,12 +238,14 @@ pub Makes-possible : (p : PlainPool) (call : Call) → 0 < p.geometry.block_sect
 Makes-possible p (Write id at xs fua) some = Edits-possible p (Write id at xs fua) id some
 Makes-possible p (Trim id at n fua) some = Edits-possible p (Trim id at n fua) id some
 Makes-possible p (WriteZeroes id at n no_hole fua) some = Edits-possible p (WriteZeroes id at n no_hole fua) id some
-Makes-possible p (CreateThin id) some = (record p { volumes = insert p.volumes id (new_volume p.geometry) }, refl)
-Makes-possible p (CreateSnap id origin) some = (record p { volumes = insert p.volumes id (volume_of p origin) }, refl)
-Makes-possible p (Delete id) some = (record p { volumes = remove p.volumes id }, refl)
+Makes-possible p (CreateThin id) some =
+    (record p { volumes = insert p.volumes id (new_volume p.geometry) }, record { is = refl; taken = omega arith })
+Makes-possible p (CreateSnap id origin) some =
+    (record p { volumes = insert p.volumes id (volume_of p origin) }, record { is = refl; taken = λ _. omega arith })
+Makes-possible p (Delete id) some = (record p { volumes = remove p.volumes id }, record { is = refl; taken = λ _. omega arith })
 Makes-possible p (SetTransactionId current next) some = (record p { transaction_id = next }, refl)
 Makes-possible p (Grow id blocks) some =
-    (record p { volumes = insert p.volumes id (grown p.geometry blocks (volume_of p id)) }, record { is = refl; untouched = λ _. refl })
+    (record p { volumes = insert p.volumes id (grown p.geometry blocks (volume_of p id)) }, record { is = refl; taken = λ _. omega arith; untouched = λ _. refl })
 Makes-possible p (Hold id) some = (record p { holds = holds_after p.holds (Hold id) Done }, refl)
 Makes-possible p (LetGo id) some = (record p { holds = holds_after p.holds (LetGo id) Done }, refl)
 Makes-possible p (Read id at n) some = (p, refl)
@@ -255,7 +257,8 @@ Makes-possible p (VolumeBlocks id) some = (p, refl)
 Makes-possible p Close some = (p, refl)
 Makes-possible p (HeldRead id at n) some = (p, refl)
 Makes-possible p ReserveMetadataSnap some = (reserved_pool p, record { rest = refl; held = omega arith; volumes = λ id. get_copies p.volumes id })
-Makes-possible p ReleaseMetadataSnap some = (record p { volumes = retain_keys p.volumes is_now; held_root = 0 }, refl)
+Makes-possible p ReleaseMetadataSnap some =
+    (record p { volumes = retain_keys p.volumes is_now; held_root = 0 }, record { is = refl; taken = omega arith })
 
 step_by : (p : PlainPool) (call : Call) → 0 < p.geometry.block_sectors → (o : Option Refusal) → refusal_of p call ≡ o → (answer : Answer) × (q : PlainPool) × Step p call answer q
 step_by p call some None is = let m = Makes-possible p call some in (reply p call, m.0, step_accepted p call m.0 is m.1)

@@ -111,9 +111,9 @@ pub Makes-IsRenamed : (p : PlainPool) (call : Call) (q r : PlainPool) → Makes 
 Makes-IsRenamed p (Write id sector xs fua) q r e f m h = Edits-IsRenamed p (Write id sector xs fua) id q r e f m
 Makes-IsRenamed p (Trim id sector count fua) q r e f m h = Edits-IsRenamed p (Trim id sector count fua) id q r e f m
 Makes-IsRenamed p (WriteZeroes id sector count no_hole fua) q r e f m h = Edits-IsRenamed p (WriteZeroes id sector count no_hole fua) id q r e f m
-Makes-IsRenamed p (CreateThin id) q r e f m h = same q r (e ∙ ap (λ (n : ℕ). record p { volumes = insert p.volumes id (new_volume p.geometry); meta_used = n }) m ∙ sym f)
-Makes-IsRenamed p (CreateSnap id origin) q r e f m h = same q r (e ∙ ap (λ (n : ℕ). record p { volumes = insert p.volumes id (volume_of p origin); meta_used = n }) m ∙ sym f)
-Makes-IsRenamed p (Delete id) q r e f m h = same q r (e ∙ ap (λ (n : ℕ). record p { volumes = remove p.volumes id; meta_used = n }) m ∙ sym f)
+Makes-IsRenamed p (CreateThin id) q r e f m h = same q r (e.is ∙ ap (λ (n : ℕ). record p { volumes = insert p.volumes id (new_volume p.geometry); meta_used = n }) m ∙ sym f.is)
+Makes-IsRenamed p (CreateSnap id origin) q r e f m h = same q r (e.is ∙ ap (λ (n : ℕ). record p { volumes = insert p.volumes id (volume_of p origin); meta_used = n }) m ∙ sym f.is)
+Makes-IsRenamed p (Delete id) q r e f m h = same q r (e.is ∙ ap (λ (n : ℕ). record p { volumes = remove p.volumes id; meta_used = n }) m ∙ sym f.is)
 Makes-IsRenamed p (SetTransactionId current next) q r e f m h = same q r (e ∙ sym f)
 Makes-IsRenamed p (Grow id blocks) q r e f m h =
     same q r (e.is ∙ ap (λ (n : ℕ). record p { volumes = insert p.volumes id (grown p.geometry blocks (volume_of p id)); meta_used = n }) m ∙ sym f.is)
@@ -128,4 +128,4 @@ Makes-IsRenamed p (VolumeBlocks id) q r e f m h = same q r (e ∙ sym f)
 Makes-IsRenamed p Close q r e f m h = same q r (e ∙ sym f)
 Makes-IsRenamed p (HeldRead id sector count) q r e f m h = same q r (e ∙ sym f)
 Makes-IsRenamed p ReserveMetadataSnap q r e f m h = same q r (reserves_one p q r e f h)
-Makes-IsRenamed p ReleaseMetadataSnap q r e f m h = same q r (e ∙ ap (λ (n : ℕ). record p { volumes = retain_keys p.volumes is_now; held_root = 0; meta_used = n }) m ∙ sym f)
+Makes-IsRenamed p ReleaseMetadataSnap q r e f m h = same q r (e.is ∙ ap (λ (n : ℕ). record p { volumes = retain_keys p.volumes is_now; held_root = 0; meta_used = n }) m ∙ sym f.is)

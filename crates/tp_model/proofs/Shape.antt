@@ -226,9 +226,9 @@ pub Makes-IsShaped : (p : PlainPool) (call : Call) (q : PlainPool) → refusal_o
 Makes-IsShaped p (Write id at xs fua) q none a shaped h = Edits-IsShaped p (Write id at xs fua) id q h shaped a (fits_in p id at (length xs) 512 _ none a.0)
 Makes-IsShaped p (Trim id at n fua) q none a shaped h = Edits-IsShaped p (Trim id at n fua) id q h shaped a (fits_in p id at n 256 true none a)
 Makes-IsShaped p (WriteZeroes id at n no_hole fua) q none a shaped h = Edits-IsShaped p (WriteZeroes id at n no_hole fua) id q h shaped a (fits_in p id at n 512 _ none a)
-Makes-IsShaped p (CreateThin id) q none a shaped h = inserted_shaped p q id (new_volume p.geometry) (ap (λ r. r.geometry) h) (ap (λ r. r.volumes) h) shaped (new_shaped p.geometry)
-Makes-IsShaped p (CreateSnap id origin) q none a shaped h = inserted_shaped p q id (volume_of p origin) (ap (λ r. r.geometry) h) (ap (λ r. r.volumes) h) shaped (shaped_at p shaped origin)
-Makes-IsShaped p (Delete id) q none a shaped h = removed_shaped p q id (ap (λ r. r.geometry) h) (ap (λ r. r.volumes) h) shaped
+Makes-IsShaped p (CreateThin id) q none a shaped h = inserted_shaped p q id (new_volume p.geometry) (ap (λ r. r.geometry) h.is) (ap (λ r. r.volumes) h.is) shaped (new_shaped p.geometry)
+Makes-IsShaped p (CreateSnap id origin) q none a shaped h = inserted_shaped p q id (volume_of p origin) (ap (λ r. r.geometry) h.is) (ap (λ r. r.volumes) h.is) shaped (shaped_at p shaped origin)
+Makes-IsShaped p (Delete id) q none a shaped h = removed_shaped p q id (ap (λ r. r.geometry) h.is) (ap (λ r. r.volumes) h.is) shaped
 Makes-IsShaped p (SetTransactionId current next) q none a shaped h = same_shaped p q (ap (λ r. r.geometry) h) (ap (λ r. r.volumes) h) shaped
 Makes-IsShaped p (Grow id blocks) q none a shaped h =
     inserted_shaped p q id (grown p.geometry blocks (volume_of p id)) (ap (λ r. r.geometry) h.is) (ap (λ r. r.volumes) h.is) shaped (grown_shaped p id blocks shaped (no_less p id blocks none) length-zero_sector)
@@ -243,7 +243,7 @@ Makes-IsShaped p (VolumeBlocks id) q none a shaped h = same_shaped p q (ap (λ r
 Makes-IsShaped p Close q none a shaped h = same_shaped p q (ap (λ r. r.geometry) h) (ap (λ r. r.volumes) h) shaped
 Makes-IsShaped p (HeldRead id at n) q none a shaped h = same_shaped p q (ap (λ r. r.geometry) h) (ap (λ r. r.volumes) h) shaped
 Makes-IsShaped p ReserveMetadataSnap q none a shaped h = reserved_shaped p q h shaped
-Makes-IsShaped p ReleaseMetadataSnap q none a shaped h = released_shaped p q (ap (λ r. r.geometry) h) (ap (λ r. r.volumes) h) shaped
+Makes-IsShaped p ReleaseMetadataSnap q none a shaped h = released_shaped p q (ap (λ r. r.geometry) h.is) (ap (λ r. r.volumes) h.is) shaped
 
 step_by : (p : PlainPool) (call : Call) (answer : Answer) (q : PlainPool) → IsAllowed p call → IsShaped p → (o : Option Refusal) → refusal_of p call ≡ o → Step p call answer q → IsShaped q
 step_by p call answer q a shaped None is h = Makes-IsShaped p call q is a shaped (MatchOption-at_none _ _ is h).1
@@ -262,9 +262,9 @@ step_geometry : (p : PlainPool) (call : Call) (q : PlainPool) → Makes p call q
 step_geometry p (Write id at xs fua) q h = ap (λ r. r.geometry) h.rest
 step_geometry p (Trim id at n fua) q h = ap (λ r. r.geometry) h.rest
 step_geometry p (WriteZeroes id at n no_hole fua) q h = ap (λ r. r.geometry) h.rest
-step_geometry p (CreateThin id) q h = ap (λ r. r.geometry) h
-step_geometry p (CreateSnap id origin) q h = ap (λ r. r.geometry) h
-step_geometry p (Delete id) q h = ap (λ r. r.geometry) h
+step_geometry p (CreateThin id) q h = ap (λ r. r.geometry) h.is
+step_geometry p (CreateSnap id origin) q h = ap (λ r. r.geometry) h.is
+step_geometry p (Delete id) q h = ap (λ r. r.geometry) h.is
 step_geometry p (SetTransactionId current next) q h = ap (λ r. r.geometry) h
 step_geometry p (Grow id blocks) q h = ap (λ r. r.geometry) h.is
 step_geometry p (Hold id) q h = ap (λ r. r.geometry) h
@@ -278,7 +278,7 @@ step_geometry p (VolumeBlocks id) q h = ap (λ r. r.geometry) h
 step_geometry p Close q h = ap (λ r. r.geometry) h
 step_geometry p (HeldRead id at n) q h = ap (λ r. r.geometry) h
 step_geometry p ReserveMetadataSnap q h = ap (λ r. r.geometry) h.rest
-step_geometry p ReleaseMetadataSnap q h = ap (λ r. r.geometry) h
+step_geometry p ReleaseMetadataSnap q h = ap (λ r. r.geometry) h.is
 
 geometry_by : (p : PlainPool) (call : Call) (answer : Answer) (q : PlainPool) → (o : Option Refusal) → refusal_of p call ≡ o → Step p call answer q → q.geometry ≡ p.geometry
 geometry_by p call answer q None is h = step_geometry p call q (MatchOption-at_none _ _ is h).1

@@ -266,9 +266,25 @@ new_volume g = record { sectors = replicate (g.virtual_blocks * g.block_sectors)
 abbrev pub grown : Geometry → ℕ → Volume → Volume
 grown g blocks v = record { sectors = v.sectors ++ replicate (blocks * g.block_sectors - length v.sectors) zero_sector; slots = v.slots }
 
--- A volume grows. With as many blocks as it has nothing changes, no node either.
+-- A volume comes to be. It takes eight metadata blocks at most.
+pub record Creates (p : PlainPool) (id : ℕ) (q : PlainPool) : Type 0 where
+  pub is : q ≡ record p { volumes = insert p.volumes id (new_volume p.geometry); meta_used = q.meta_used }
+  pub taken : q.meta_used ≤ p.meta_used + 8
+
+-- A volume comes to be as a snapshot. It shares the nodes of its origin: where no mapping is held it takes three metadata blocks at most.
+pub record Snaps (p : PlainPool) (id origin : ℕ) (q : PlainPool) : Type 0 where
+  pub is : q ≡ record p { volumes = insert p.volumes id (volume_of p origin); meta_used = q.meta_used }
+  pub taken : p.held_root ≡ 0 → q.meta_used ≤ p.meta_used + 3
+
+-- A volume is gone. Where no mapping is held that takes no metadata block.
+pub record Removes (p : PlainPool) (id : ℕ) (q : PlainPool) : Type 0 where
+  pub is : q ≡ record p { volumes = remove p.volumes id; meta_used = q.meta_used }
+  pub taken : p.held_root ≡ 0 → q.meta_used ≤ p.meta_used
+
+-- A volume grows. Where no mapping is held it takes one metadata block at most. With as many blocks as it has nothing changes, no node either.
 pub record Grows (p : PlainPool) (id blocks : ℕ) (q : PlainPool) : Type 0 where
   pub is : q ≡ record p { volumes = insert p.volumes id (grown p.geometry blocks (volume_of p id)); meta_used = q.meta_used }
+  pub taken : p.held_root ≡ 0 → q.meta_used ≤ p.meta_used + 1
   pub untouched : blocks ≡ volume_blocks p id → q.meta_used ≡ p.meta_used
 
 -- A request changes the sectors and the slots of one volume. Any free data blocks may be taken.
@@ -290,6 +306,11 @@ pub record Reserves (p q : PlainPool) : Type 0 where
   pub held : 0 < q.held_root
   pub volumes : (id : ℕ) → get q.volumes id ≡ get p.volumes (held_of id)
 
+-- The mapping that was held is given up. That takes no metadata block.
+pub record Releases (p q : PlainPool) : Type 0 where
+  pub is : q ≡ record p { volumes = retain_keys p.volumes is_now; held_root = 0; meta_used = q.meta_used }
+  pub taken : q.meta_used ≤ p.meta_used
+
 abbrev pub released : FinMap nat_cmp ℕ → ℕ → FinMap nat_cmp ℕ
 released holds id = let n = hold_count holds id in if nat_le n 1 then remove holds id else insert holds id (n - 1)
 
@@ -299,19 +320,19 @@ holds_after holds (Hold id) Done = insert holds id (hold_count holds id + 1)
 holds_after holds (LetGo id) Done = released holds id
 holds_after holds call answer = holds
 
--- An accepted call makes q of p. Which metadata blocks it takes is the pool's choice.
+-- An accepted call makes q of p. Which metadata blocks it takes is the pool's choice, and how many within these bounds.
 abbrev pub Makes : PlainPool → Call → PlainPool → Type 0
 Makes p (Write id sector sectors fua) q = Edits p (Write id sector sectors fua) id q
 Makes p (Trim id sector count fua) q = Edits p (Trim id sector count fua) id q
 Makes p (WriteZeroes id sector count no_hole fua) q = Edits p (WriteZeroes id sector count no_hole fua) id q
-Makes p (CreateThin id) q = q ≡ record p { volumes = insert p.volumes id (new_volume p.geometry); meta_used = q.meta_used }
-Makes p (CreateSnap id origin) q = q ≡ record p { volumes = insert p.volumes id (volume_of p origin); meta_used = q.meta_used }
-Makes p (Delete id) q = q ≡ record p { volumes = remove p.volumes id; meta_used = q.meta_used }
+Makes p (CreateThin id) q = Creates p id q
+Makes p (CreateSnap id origin) q = Snaps p id origin q
+Makes p (Delete id) q = Removes p id q
 Makes p (SetTransactionId current next) q = q ≡ record p { transaction_id = next }
 Makes p (Grow id blocks) q = Grows p id blocks q
 Makes p (Hold id) q = q ≡ record p { holds = holds_after p.holds (Hold id) Done }
 Makes p ReserveMetadataSnap q = Reserves p q
-Makes p ReleaseMetadataSnap q = q ≡ record p { volumes = retain_keys p.volumes is_now; held_root = 0; meta_used = q.meta_used }
+Makes p ReleaseMetadataSnap q = Releases p q
 Makes p (LetGo id) q = q ≡ record p { holds = holds_after p.holds (LetGo id) Done }
 Makes p call q = q ≡ p
 

@@ -2,7 +2,7 @@
 -- pool, on which answers, faults and stops stand together (own).
 use Rattle.std.specs.Prelude.{◌≡◌, ℕ, ◌+◌, ◌*◌, ◌^◌, ◌<◌, ◌≤◌, false, Some, List, [], ◌∷◌, ◌++◌, map, ◌⊎◌, Bool, IsSome, IsTrue, if◌then◌else◌}
 use Rattle.tp_model.specs.Pool.{IsConsistent, PlainPool, Outline, hold_count, outline_of, volume_size}
-use Rattle.tp_model.specs.Calls.{Call, Answer, VolumeBlocks, Sized, Takes, HasCause, holds_after, is_failed, MayAnswer, Done, changes_nothing, commits, has_committed, is_flush, is_silent, mode_after, most_flushes, refusal_of}
+use Rattle.tp_model.specs.Calls.{Call, Answer, VolumeBlocks, Sized, Takes, HasCause, holds_after, is_failed, MayAnswer, Done, changes_nothing, commits, has_committed, is_flush, is_silent, is_writing, mode_after, most_flushes, refusal_of}
 use Rattle.tp_model.specs.declared.mode.Mode.TheVariants.{Writable}
 use Rattle.tp_model.specs.Geometry.{sectors_of_volume}
 use Rattle.tp_model.specs.PoolStops.{Event, Nothing, MayBeLeft, MayBeLeftSince, MayReopen, StopsWithin, reopened}
@@ -132,10 +132,12 @@ module _ {D : Type 0} (v : View D) where
     pub moment : v.moment new ≡ v.moment old
 
   -- What is known of a call of any pool, also one that shows nothing: whether it may be accepted or so refused in the mode that the pool
-  -- has, the mode after it, and that some calls make none of the disk.
+  -- has, the mode after it, that a call which is no writing one writes nothing, and that some calls make none of the disk.
   pub record IsAnswered (old new : D) (call : Call) (answer : Answer) : Type 0 where
     pub may : MayAnswer (v.outline old).mode call answer
     pub mode : (v.outline new).mode ≡ mode_after (v.outline old).mode call answer
+    -- no write reached the disk
+    pub reads : is_writing call ≡ false → v.moment new ≡ v.moment old
     pub silent : IsTrue (is_silent (v.outline old).mode call) → IsQuiet old new
 
   -- How often a call flushes the disk. Of any pool: never more than for a commit that frees blocks before it and one that it ends in, each of

@@ -1,10 +1,11 @@
 //! Laws of the definitions, each the contract of a function that does nothing.
-ghost use Rattle.std.specs.Prelude.{◌≡◌, ◌⊎◌, ◌<◌, ◌≤◌, ◌++◌, ◌∷◌, [], ℕ, Bool, true, List, IsSome, Some, length, IsTrue, MatchOption};
+ghost use Rattle.std.specs.Prelude.{◌≡◌, ◌≢◌, ◌⊎◌, ◌<◌, ◌≤◌, ◌++◌, ◌∷◌, [], ℕ, Bool, true, List, IsSome, Some, length, IsTrue, MatchOption};
+ghost use Rattle.std.specs.FinMap.{get};
 ghost use Rattle.tp_model.specs.Sectors.{Sector};
 ghost use Rattle.tp_model.specs.Disk.{DiskState, Writes, after_read, after_flush};
 ghost use Rattle.tp_model.specs.DiskStops.{Leaves, LeavesOnly, PartlyOverlaid, StoppedSince, moment as moment_of};
 ghost use Rattle.tp_model.specs.Pool.{FindsHeld, IsExclusive, IsRenamed, IsShared, IsSound, PlainPool, copy_id, hold_count, slot_at, volume_sector, volume_size};
-ghost use Rattle.tp_model.specs.Calls.{Answer, Call, IsAllowed, Makes, Refused, Step, Takes, volume_asked, IsOneOf, may_accept, refusal_of, refusals};
+ghost use Rattle.tp_model.specs.Calls.{Answer, Call, IsAllowed, Makes, Refused, ReleaseMetadataSnap, ReserveMetadataSnap, Step, Takes, volume_asked, IsOneOf, may_accept, refusal_of, refusals};
 ghost use Rattle.tp_model.specs.PoolStops.{Event, GivenBy, GivenIn, MayBeLeftSince, MayReopen, Nothing, keeps, reopened};
 ghost use Rattle.tp_model.specs.Clauses.{AreCalls, AreTraced, Asked, Called, Continues, HasTrace, OpensSince, Traced, found_now, traced, PoolCall};
 
@@ -65,6 +66,14 @@ pub fn kept_state_is_found()
 pub fn copies_are_as_kept()
     ensures { (kept found : PlainPool) (es : List Event) → MayReopen kept (GivenIn es) found
         → (id k : ℕ) → volume_sector found (copy_id id) k ≡ volume_sector kept (copy_id id) k }
+{}
+
+/// What is held stays as it is until it is given up: each call that is allowed, but those that hold the mapping and give it up, leaves the held
+/// root and each held copy as they were, whatever is answered, also where the disk fails in it.
+pub fn copies_stay()
+    ensures { (old : PlainPool) (call : Call) (answer : Answer) (made new : PlainPool) → IsAllowed old call → Takes old call answer made new
+        → call ≢ ReserveMetadataSnap → call ≢ ReleaseMetadataSnap
+        → (new.held_root ≡ old.held_root) × ((id : ℕ) → get new.volumes (copy_id id) ≡ get old.volumes (copy_id id)) }
 {}
 
 /// A request to a volume that is held is not refused for want of the volume.

@@ -8,16 +8,17 @@ use Rattle.tp_model.specs.declared.refusal.Refusal.TheVariants.{BadSize, Busy, N
 use Rattle.tp_model.specs.declared.refusal.NbdError.TheVariants.{Invalid, NoSpace}
 use Rattle.tp_model.specs.Sectors.{Sector, zero_sector}
 use Rattle.tp_model.specs.Pool.{PlainPool, copy_id, is_now, used, volume_size, volume_sector, slot_at, IsExclusive}
-use Rattle.tp_model.specs.Calls.{Call, Grow, HeldRead, ReserveMetadataSnap, ReleaseMetadataSnap, held_of, Makes, SlotEffect, Read, Trim, Write, CreateThin, CreateSnap, Delete, SetTransactionId, Sized, VolumeBlocks, after_refusal, Done, Gave, Refused, grown, volume_blocks, volume_of, reply, refusal_of, Step, SlotAfter, Keeps, Owns, effect_at, need}
+use Rattle.tp_model.specs.Calls.{Answer, Call, Grow, HeldRead, ReserveMetadataSnap, ReleaseMetadataSnap, held_of, Makes, SlotEffect, Read, Trim, Write, CreateThin, CreateSnap, Delete, SetTransactionId, Sized, VolumeBlocks, after_refusal, Done, Gave, Refused, grown, volume_blocks, volume_of, reply, refusal_of, Step, SlotAfter, Keeps, Owns, Takes, effect_at, may_reclaim, need}
 use Rattle.tp_model.specs.PoolStops.{MayReopen}
 use Rattle.tp_model.specs.Status.{pool_line, volume_line}
+use Rattle.tp_model.proofs.CopiesStay.{copies_stay}
 use Rattle.tp_model.proofs.Found.{shared_stays}
 use Rattle.tp_model.proofs.Maps.{get_retain, map_values, same_nat_map}
 use Rattle.tp_model.proofs.Sharing.{Decides-is_exclusive}
 use Rattle.tp_model.proofs.Steps.{step_accepted, step_refused, not_touched_past, not_covered_past, other_of_insert}
 use Rattle.std.proofs.lemmas.Bool.{cases_eq, eq-eqb, ltb-false, ltb-true, ne_eqb, true≢false}
 use Rattle.std.proofs.lemmas.List.{length-replicate}
-use Rattle.std.proofs.lemmas.Option.{same_Some, MatchOption-at_none}
+use Rattle.std.proofs.lemmas.Option.{none-some, same_Some, MatchOption-at_none}
 use Rattle.std.proofs.lemmas.Bool.Decides.{nat_tests}
 use Rattle.tp_plain.specs.Examples.{with_data, z, a, b, c, formatted, thin, across, wrote_across, two_blocks, full, snapped, overwrite, rewritten, shared_block, origin_written, both_written, trim, trimmed, nearly_full, sevened, kept_own, found_new, overwritten, on_wire, thin_and_snapshot, zeroes, zeroed_with_hole, zeroed_whole, first_block, grown_own, shows_old_data, as_large, held_own, pool, reserved, written_since, written_in_place, released}
 
@@ -34,7 +35,7 @@ unfolding digits
 formatted_line = simp map_values
 
 pub creates : Step formatted (CreateThin 0) Done thin
-creates = step_accepted formatted (CreateThin 0) thin (simp map_values) refl
+creates = step_accepted formatted (CreateThin 0) thin (simp map_values) (record { is = refl; taken = omega arith })
 
 pub exists_already : refusal_of thin (CreateThin 0) ≡ Some Exists
 exists_already = simp map_values
@@ -78,7 +79,10 @@ unfolding digits
 full_line = simp map_values
 
 pub snaps : Step full (CreateSnap 1 0) Done snapped
-snaps = step_accepted full (CreateSnap 1 0) snapped (simp map_values) (simp map_values)
+snaps = step_accepted full (CreateSnap 1 0) snapped (simp map_values) (record { is = simp map_values; taken = λ _. omega arith })
+
+pub takes_three : (n : ℕ) → Makes full (CreateSnap 1 0) (record snapped { meta_used = n }) → n ≤ 13
+takes_three n makes = makes.taken refl
 
 pub snapped_used : used snapped ≡ 2
 snapped_used = simp map_values
@@ -93,7 +97,10 @@ pub removed : remove {R = nat_cmp} (insert (insert empty 0 two_blocks) 1 two_blo
 removed = same_nat_map _ _ (λ i. grind (arith, map_values, nat_tests))
 
 pub deletes : Step snapped (Delete 1) Done full
-deletes = step_accepted snapped (Delete 1) full (simp map_values) (rw removed refl)
+deletes = step_accepted snapped (Delete 1) full (simp map_values) (record { is = rw removed refl; taken = λ _. omega arith })
+
+pub takes_none : (n : ℕ) → Makes snapped (Delete 1) (record full { meta_used = n }) → n ≤ 10
+takes_none n makes = makes.taken refl
 
 pub now_in_place : need full overwrite 0 ≡ 0
 now_in_place = simp map_values
@@ -294,7 +301,7 @@ unfolding digits
 thin_line = simp map_values
 
 pub snaps_thin : Step thin (CreateSnap 1 0) Done thin_and_snapshot
-snaps_thin = step_accepted thin (CreateSnap 1 0) thin_and_snapshot (simp map_values) (simp map_values)
+snaps_thin = step_accepted thin (CreateSnap 1 0) thin_and_snapshot (simp map_values) (record { is = simp map_values; taken = λ _. omega arith })
 
 pub snapped_line : pool_line thin_and_snapshot ≡ codes "0 10/2048 0/4 - rw no_discard_passdown error_if_no_space - 512"
 unfolding digits
@@ -382,6 +389,7 @@ two_blocks_own = simp map_values
 pub grows : Step kept_own (Grow 0 4) Done grown_own
 grows = step_accepted kept_own (Grow 0 4) grown_own (simp map_values) (record {
   is = simp map_values;
+  taken = λ _. omega arith;
   untouched = λ same. absurd (omega (arith, same, two_blocks_own));
 })
 
@@ -500,6 +508,15 @@ not_in_place h =
     let zero_is : copy_id 0 ≡ 0 = (own.alone (copy_id 0) 0 there).0 in
     absurd (omega (arith, zero_is))
 
+-- what is held stays where its volume is removed
+pub copy_is_left : (answer : Answer) (made : PlainPool) → Takes reserved (Delete 0) answer made (record reserved { volumes = empty }) → ⊥
+copy_is_left answer made takes =
+    let kept = copies_stay reserved (Delete 0) answer made (record reserved { volumes = empty }) tt takes
+    (λ e. true≢false (ap may_reclaim e)) (λ e. true≢false (ap may_reclaim e)) in
+    let was : get reserved.volumes (copy_id 0) ≡ Some first_block = simp map_values in
+    let is : get (record reserved { volumes = empty }).volumes (copy_id 0) ≡ None = simp map_values in
+    none-some first_block (sym is ∙ kept.1 0 ∙ was)
+
 released_volumes : (id : ℕ) → get released.volumes id ≡ get (retain_keys written_since.volumes is_now) id
 released_volumes id = at_released id (is_now id) refl ∙ sym (get_retain written_since.volumes is_now id)
   where
@@ -508,7 +525,10 @@ released_volumes id = at_released id (is_now id) refl ∙ sym (get_retain writte
     at_released id false is = simp (map_values, key_of_none id is)
 
 pub releases : Step written_since ReleaseMetadataSnap Done released
-releases = step_accepted written_since ReleaseMetadataSnap released refl (ap (λ m. pool 4 12 m) (same_nat_map released.volumes (retain_keys written_since.volumes is_now) released_volumes))
+releases = step_accepted written_since ReleaseMetadataSnap released refl (record {
+  is = ap (λ m. pool 4 12 m) (same_nat_map released.volumes (retain_keys written_since.volumes is_now) released_volumes);
+  taken = omega arith;
+})
 
 pub used_released : used released ≡ 1
 used_released = simp map_values

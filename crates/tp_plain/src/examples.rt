@@ -1,13 +1,14 @@
 //! Worked examples: what the definitions say of small pools, as closed facts, each the contract of a function that
 //! does nothing. The pools have blocks of two sectors, two blocks a volume and 2048 metadata blocks; their values
 //! are short where a sector would be long. A definition that is changed to another meaning breaks one of them.
-ghost use Rattle.std.specs.Prelude.{◌≡◌, ℕ, Bool, IsTrue, [], ◌∷◌, Some, None, codes, true, false};
+ghost use Rattle.std.specs.Prelude.{◌≡◌, ◌≤◌, ℕ, Bool, IsTrue, [], ◌∷◌, Some, None, codes, true, false};
 ghost use Rattle.tp_model.specs.declared.refusal.NbdError.TheVariants.{Invalid, NoSpace};
 ghost use Rattle.tp_model.specs.declared.refusal.Refusal.TheVariants.{BadSize, Busy, Exists, HeldRootExists, NoDataSpace, NoHeldRoot, NoMetadataSpace, NoSuchDevice, StaleTransactionId};
+ghost use Rattle.std.specs.FinMap.{empty};
 ghost use Rattle.tp_model.specs.Sectors.{Sector};
 ghost use Rattle.tp_model.specs.Pool.{PlainPool, used, volume_sector};
 ghost use Rattle.tp_model.specs.Status.{pool_line, volume_line};
-ghost use Rattle.tp_model.specs.Calls.{CreateSnap, CreateThin, Delete, Done, Gave, Grow, HeldRead, Makes, Read, Refused, ReleaseMetadataSnap, ReserveMetadataSnap, SetTransactionId, Sized, Step, Trim, VolumeBlocks, Write, after_refusal, need, refusal_of, reply};
+ghost use Rattle.tp_model.specs.Calls.{Answer, CreateSnap, CreateThin, Delete, Done, Gave, Grow, HeldRead, Makes, Read, Refused, ReleaseMetadataSnap, ReserveMetadataSnap, SetTransactionId, Sized, Step, Takes, Trim, VolumeBlocks, Write, after_refusal, need, refusal_of, reply};
 ghost use Rattle.tp_model.specs.PoolStops.{MayReopen};
 ghost use Rattle.tp_plain.specs.Examples.{a, b, c, z, formatted, thin, thin_and_snapshot, across, wrote_across, full, snapped, overwrite, rewritten, shared_block, origin_written, both_written, trim, trimmed, zeroes, zeroed_with_hole, zeroed_whole, nearly_full, sevened, kept_own, overwritten, found_new, on_wire, grown_own, shows_old_data, as_large, held_own, reserved, written_since, written_in_place, released};
 
@@ -40,13 +41,16 @@ pub fn write_across_blocks()
     ensures volume_line { volume_line wrote_across 0 ≡ codes "4 3" }
 {}
 
-/// A snapshot's origin in a full pool has no room for a copy, until the snapshot is gone.
+/// A snapshot's origin in a full pool has no room for a copy, until the snapshot is gone. The snapshot takes three metadata blocks at most, and its
+/// removal none.
 pub fn full_pool_and_snapshot()
     ensures line { pool_line full ≡ codes "0 10/2048 2/2 - out_of_data_space no_discard_passdown error_if_no_space - 512" }
     ensures snapped { Step full (CreateSnap 1 0) Done snapped }
+    ensures takes_three { (n : ℕ) → Makes full (CreateSnap 1 0) (record snapped { meta_used = n }) → n ≤ 13 }
     ensures used { used snapped ≡ 2 }
     ensures refused { Step snapped overwrite (Refused NoDataSpace) snapped }
     ensures deleted { Step snapped (Delete 1) Done full }
+    ensures takes_none { (n : ℕ) → Makes snapped (Delete 1) (record full { meta_used = n }) → n ≤ 10 }
     ensures need { need full overwrite 0 ≡ 0 }
     ensures written { Step full overwrite Done rewritten }
     ensures same_line { pool_line rewritten ≡ codes "0 10/2048 2/2 - out_of_data_space no_discard_passdown error_if_no_space - 512" }
@@ -136,6 +140,8 @@ pub fn held_metadata_snapshot()
     ensures held { reply written_since (HeldRead 0 0 4) ≡ Gave (a ∷ a ∷ z ∷ z ∷ []) }
     ensures both_used { used written_since ≡ 2 }
     ensures not_in_place { Makes reserved overwrite written_in_place → ⊥ }
+    // What is held of a volume is not gone with it, whatever the removal is answered.
+    ensures left { (answer : Answer) (made : PlainPool) → Takes reserved (Delete 0) answer made (record reserved { volumes = empty }) → ⊥ }
     ensures releases { Step written_since ReleaseMetadataSnap Done released }
     ensures one_used { used released ≡ 1 }
 {}

@@ -1,4 +1,4 @@
--- What is known of a call whatever the disk does: its answers, the mode behind it, and that some make no call of the disk.
+-- What is known of a call whatever the disk does: its answers, the mode behind it, that some write nothing, and that some make no call of the disk.
 use Rattle.std.proofs.Common.{◌≡◌, ◌⊎◌, inl, inr, ℕ, Bool, true, false, Option, None, Some, Result, Ok, Err, List, [], ◌∷◌, refl, sym, ◌∙◌, ap, subst}
 use Rattle.std.specs.Prelude.{IfErr, IsTrue, MatchResult, OnOk, ◌&&◌, if◌then◌else◌}
 use Rattle.std.proofs.lemmas.Bool.{false≢true, true≢false}
@@ -263,6 +263,7 @@ module _ {M : Type 0} (geometry : M → Geometry) (stands : M → DiskState → 
   failed_answers h call failed told = record {
     may = may h.mode failed;
     mode = refl;
+    reads = λ no. refl;
     silent = λ yes. quiet h h refl;
   }
     where
@@ -273,7 +274,8 @@ module _ {M : Type 0} (geometry : M → Geometry) (stands : M → DiskState → 
 
   -- ---- look-ups
 
-  module _ (call : Call) (is : IsLookUp call) (old new : Held M) (works : is_failed old.mode ≡ false) (same : new.mode ≡ old.mode) where
+  module _ (call : Call) (is : IsLookUp call) (old new : Held M) (works : is_failed old.mode ≡ false) (same : new.mode ≡ old.mode)
+      (calm : moment new.disk ≡ moment old.disk) where
     looks : (m : Mode) → is_failed m ≡ false → is_silent m call ≡ false
     looks mode.Writable e = is.asks
     looks mode.ReadOnly e = is.looks
@@ -296,30 +298,31 @@ module _ {M : Type 0} (geometry : M → Geometry) (stands : M → DiskState → 
     missed reason one = record {
       may = may_refuse old.mode works reason one;
       mode = same ∙ sym (keeps_mode call reason old.mode is.writes_not (missed_commits reason one));
+      reads = λ no. calm;
       silent = never_silent;
     }
 
     pub looked_up : (result : Result (Unit {0}) Refusal) → IfErr result Missed → AnswersSo geometry stands old new call result
-    looked_up (Ok x) only = record { may = may_do old.mode works; mode = same; silent = never_silent }
+    looked_up (Ok x) only = record { may = may_do old.mode works; mode = same; reads = λ no. calm; silent = never_silent }
     looked_up (Err reason) only = missed reason only
 
-  pub read_answers : (id sector count : ℕ) (xs : List Sector) (old new : Held M) → is_failed old.mode ≡ false → new.mode ≡ old.mode
+  pub read_answers : (id sector count : ℕ) (xs : List Sector) (old new : Held M) → is_failed old.mode ≡ false → new.mode ≡ old.mode → moment new.disk ≡ moment old.disk
       → (result : Result (Unit {0}) Refusal) → IfErr result (λ reason. (reason ≡ Fault) ⊎ (reason ≡ Damaged))
       → MatchResult result (λ x. Answered old new (Read id sector count) (Gave xs)) (λ reason. Answered old new (Read id sector count) (Refused reason))
-  read_answers id sector count xs old new works same (Ok x) only =
+  read_answers id sector count xs old new works same calm (Ok x) only =
       let is = read_looks_up id sector count in
-      record { may = may_do (Read id sector count) is old new works same old.mode works; mode = same; silent = never_silent (Read id sector count) is old new works same }
-  read_answers id sector count xs old new works same (Err reason) only = missed (Read id sector count) (read_looks_up id sector count) old new works same reason (missed_by reason only)
+      record { may = may_do (Read id sector count) is old new works same calm old.mode works; mode = same; reads = λ no. calm; silent = never_silent (Read id sector count) is old new works same calm }
+  read_answers id sector count xs old new works same calm (Err reason) only = missed (Read id sector count) (read_looks_up id sector count) old new works same calm reason (missed_by reason only)
 
-  pub size_answers : (id blocks : ℕ) (old new : Held M) → is_failed old.mode ≡ false → new.mode ≡ old.mode → Answered old new (VolumeBlocks id) (Sized blocks)
-  size_answers id blocks old new works same =
+  pub size_answers : (id blocks : ℕ) (old new : Held M) → is_failed old.mode ≡ false → new.mode ≡ old.mode → moment new.disk ≡ moment old.disk → Answered old new (VolumeBlocks id) (Sized blocks)
+  size_answers id blocks old new works same calm =
       let is = size_looks_up id in
-      record { may = may_do (VolumeBlocks id) is old new works same old.mode works; mode = same; silent = never_silent (VolumeBlocks id) is old new works same }
+      record { may = may_do (VolumeBlocks id) is old new works same calm old.mode works; mode = same; reads = λ no. calm; silent = never_silent (VolumeBlocks id) is old new works same calm }
 
   -- ---- letting go
 
   pub let_go_answers : (id : ℕ) (old new : Held M) → new.mode ≡ old.mode → new.disk ≡ old.disk → Answered old new (LetGo id) Done
-  let_go_answers id old new same disk = record { may = may old.mode; mode = same; silent = λ yes. quiet old new disk }
+  let_go_answers id old new same disk = record { may = may old.mode; mode = same; reads = λ no. ap moment disk; silent = λ yes. quiet old new disk }
     where
       may : (m : Mode) → IsTrue (may_accept m (LetGo id))
       may mode.Writable = refl
@@ -335,6 +338,7 @@ module _ {M : Type 0} (geometry : M → Geometry) (stands : M → DiskState → 
       (record {
         may = tried.may;
         mode = ap (λ (h : Held M). h.mode) done ∙ tried.mode_is;
+        reads = λ no. absurd (true≢false (sym writes ∙ no));
         silent = λ yes. quiet old new (ap (λ (h : Held M). h.disk) done ∙ tried.silent yes);
       })
   settled_answers call old mid new (Err reason) result writes same done failed tried =
@@ -345,6 +349,7 @@ module _ {M : Type 0} (geometry : M → Geometry) (stands : M → DiskState → 
             ap (λ (h : Held M). h.mode) failed
             ∙ ap (λ (m : Mode). if is_failure reason then mode.Failed else m) tried.mode_is
             ∙ (λ i. if by (is_failure reason) (is_writing call) (sym writes) i then mode.Failed else (if refused_commits reason then mode.ReadOnly else old.mode));
+        reads = λ no. absurd (true≢false (sym writes ∙ no));
         silent = λ yes. quiet old new (ap (λ (h : Held M). h.disk) failed ∙ tried.silent yes);
       })
     where
@@ -365,6 +370,7 @@ module _ {M : Type 0} (geometry : M → Geometry) (stands : M → DiskState → 
   flush_read_only call is h reads = record {
     may = subst (λ (m : Mode). IsTrue (may_accept m call)) (sym reads) (may call is);
     mode = refl;
+    reads = λ no. refl;
     silent = λ yes. quiet h h refl;
   }
     where

@@ -18,64 +18,13 @@ use Rattle.tp_model.proofs.Steps.{step_accepted}
 use Rattle.tp_mapping.specs.Mapping.{IsWithin}
 use Rattle.tp_stored.specs.Contents.{Contents, HasContents}
 use Rattle.tp_meta.specs.Metadata.{IsLater}
-use Rattle.tp_pool.specs.Held.{EndsShort, Held, HasPool, PoolRefused, PoolTried, UsesAtMost, UsesUnheld, UsesWhere, failed_by}
+use Rattle.tp_pool.specs.Held.{Held, HasPool, PoolRefused, PoolTried, failed_by}
 use Rattle.tp_pool.specs.Writing.{IsKept, IsReclaiming}
 use Rattle.tp_pool.proofs.Calling.{Laws, called_working, met_done, met_fault}
 use Rattle.tp_pool.proofs.Keeping.{shows_kept}
 use Rattle.tp_pool.proofs.Phases.{EndStop, WriteStop, found_at_end}
 use Rattle.tp_pool.proofs.Stops.{Given, IsLeft, nothing_given, reopens_made}
 use Rattle.tp_pool.proofs.Times.{then_later as after_later}
-
-module _ {M : Type 0} (stands : M → DiskState → Contents → Contents → Type 0) where
-  -- however what stands is told, it names as many metadata blocks
-  abbrev pub CountedLaw : Type 0
-  CountedLaw = (metadata : M) (disk : DiskState) (now kept next last : Contents) → stands metadata disk now kept → stands metadata disk next last → next.meta_used ≡ now.meta_used
-
--- what holds behind a part of a call holds behind its settling
-settled_so : {M : Type 0} (P : Held M → Type 0) (mid new : Held M) (answer result : Result (Unit {0}) Refusal) → result ≡ answer → OnOk answer (new ≡ mid) → OnOk answer (P mid)
-    → OnOk result (P new)
-settled_so P mid new (Ok x) result same settled holds = subst (λ (r : Result (Unit {0}) Refusal). OnOk r (P new)) (sym same) (subst P (sym settled) holds)
-settled_so P mid new (Err reason) result same settled holds = subst (λ (r : Result (Unit {0}) Refusal). OnOk r (P new)) (sym same) tt
-
-module _ {M : Type 0} (geometry : M → Geometry) (stands : M → DiskState → Contents → Contents → Type 0) where
-  -- from what stands before and behind to what is shown
-  pub uses_where : CountedLaw stands → (Holds : ℕ → Type 0) (old new : Held M) (n : ℕ) → is_failed old.mode ≡ false → is_failed new.mode ≡ false
-      → ((s : PlainPool) (now kept : Contents) → HasPool geometry stands old now kept s → Holds now.held_root
-      → (then : Contents) × (before : Contents) × stands new.metadata new.disk then before × (then.meta_used ≤ now.meta_used + n))
-      → UsesWhere geometry stands Holds old new n
-  uses_where counted Holds old new n works works_then step s t (inl a) (inl b) holds =
-      let w = step s a.0 a.1 a.2 (subst Holds a.2.has.held_root holds) in
-      let same = counted new.metadata new.disk w.0 w.1 b.0 b.1 w.2 b.2.standing in
-      omega (arith, a.2.has.meta_used, b.2.has.meta_used, same, w.3)
-  uses_where counted Holds old new n works works_then step s t (inl a) (inr f) holds = absurd (false≢true (sym works_then ∙ ap is_failed f.failed))
-  uses_where counted Holds old new n works works_then step s t (inr f) shown holds = absurd (false≢true (sym works ∙ ap is_failed f.failed))
-
-  pub uses_behind : CountedLaw stands → (old new : Held M) (n : ℕ) → is_failed old.mode ≡ false → is_failed new.mode ≡ false
-      → ((s : PlainPool) (now kept : Contents) → HasPool geometry stands old now kept s
-      → (then : Contents) × (before : Contents) × stands new.metadata new.disk then before × (then.meta_used ≤ now.meta_used + n))
-      → UsesAtMost geometry stands old new n
-  uses_behind counted old new n works works_then step s t a b =
-      uses_where counted (λ root. Unit {0}) old new n works works_then (λ p now kept pool holds. step p now kept pool) s t a b tt
-
-  -- the same of a part of a call that was settled
-  pub settled_uses : (old mid new : Held M) (n : ℕ) (answer result : Result (Unit {0}) Refusal) → result ≡ answer → OnOk answer (new ≡ mid)
-      → OnOk answer (UsesAtMost geometry stands old mid n) → OnOk result (UsesAtMost geometry stands old new n)
-  settled_uses old mid new n answer result same settled uses = settled_so (λ (h : Held M). UsesAtMost geometry stands old h n) mid new answer result same settled uses
-
-  pub settled_unheld : (old mid new : Held M) (n : ℕ) (answer result : Result (Unit {0}) Refusal) → result ≡ answer → OnOk answer (new ≡ mid)
-      → OnOk answer (UsesUnheld geometry stands old mid n) → OnOk result (UsesUnheld geometry stands old new n)
-  settled_unheld old mid new n answer result same settled uses = settled_so (λ (h : Held M). UsesUnheld geometry stands old h n) mid new answer result same settled uses
-
-  -- where that holds of every number
-  pub uses_always : (Holds : ℕ → Type 0) → ((root : ℕ) → Holds root) → (old new : Held M) (n : ℕ) (result : Result (Unit {0}) Refusal)
-      → OnOk result (UsesWhere geometry stands Holds old new n) → OnOk result (UsesAtMost geometry stands old new n)
-  uses_always Holds always old new n (Ok x) uses = λ s t a b. uses s t a b (always s.held_root)
-  uses_always Holds always old new n (Err reason) uses = tt
-
--- a part that is refused for want of room
-pub short_uses : {M : Type 0} (P : Type 0) (old new : Held M) (result : Result (Unit {0}) Refusal) → EndsShort old new result → OnOk result P
-short_uses P old new (Ok x) never = absurd never
-short_uses P old new (Err reason) only = tt
 
 module _ {M : Type 0} {geometry : M → Geometry} {stands : M → DiskState → Contents → Contents → Type 0} {marks : M → List Bool} {room : M → ℕ}
     (laws : Laws geometry stands marks room) (old : Held M) (works : old.mode ≡ mode.Writable) (call : Call) (writes : is_writing call ≡ true)

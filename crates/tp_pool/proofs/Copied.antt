@@ -14,6 +14,7 @@ use Rattle.tp_model.specs.Sectors.{Sector, sectors_of}
 use Rattle.tp_model.specs.Pool.{PlainPool, copy_id}
 use Rattle.tp_model.specs.Refusals.{is_fault, is_fault_refusal}
 use Rattle.tp_model.specs.Calls.{Answer, Gave, HeldRead, IsOneOf, MayAnswer, Refused, first_failed, has_copy, is_failed, is_silent, may_accept, refusal_of, refused_commits, reply}
+use Rattle.tp_model.specs.DiskStops.{moment}
 use Rattle.tp_model.specs.Disk.{DiskState, IsWellFormed, after_read, seen}
 use Rattle.tp_model.proofs.DiskLaws.{length-seen, sectors_of-concat, whole-seen}
 use Rattle.tp_sharing.specs.Volumes.{Volumes, device_of}
@@ -143,7 +144,8 @@ copy_commits reason (inr (inr (inl e))) = ap refused_commits e
 copy_commits reason (inr (inr (inr (inl e)))) = ap refused_commits e
 copy_commits reason (inr (inr (inr (inr e)))) = absurd e
 
-module _ {M : Type 0} (geometry : M → Geometry) (stands : M → DiskState → Contents → Contents → Type 0) (id sector n : ℕ) (old new : Held M) (works : is_failed old.mode ≡ false) (same : new.mode ≡ old.mode) where
+module _ {M : Type 0} (geometry : M → Geometry) (stands : M → DiskState → Contents → Contents → Type 0) (id sector n : ℕ) (old new : Held M) (works : is_failed old.mode ≡ false) (same : new.mode ≡ old.mode)
+    (calm : moment new.disk ≡ moment old.disk) where
   may_refuse : (m : Mode) → is_failed m ≡ false → (reason : Refusal) → MissesCopy reason → MayAnswer m (HeldRead id sector n) (Refused reason)
   may_refuse mode.Writable e reason one = one
   may_refuse mode.ReadOnly e reason one = one
@@ -160,12 +162,13 @@ module _ {M : Type 0} (geometry : M → Geometry) (stands : M → DiskState → 
   looks mode.Failed e = absurd (false≢true (sym e))
 
   pub held_gives : (sectors : List Sector) → Answered geometry stands old new (HeldRead id sector n) (Gave sectors)
-  held_gives sectors = record { may = may_give old.mode works; mode = same; silent = λ yes. absurd (false≢true (sym (looks old.mode works) ∙ yes)) }
+  held_gives sectors = record { may = may_give old.mode works; mode = same; reads = λ no. calm; silent = λ yes. absurd (false≢true (sym (looks old.mode works) ∙ yes)) }
 
   pub held_misses : (reason : Refusal) → MissesCopy reason → Answered geometry stands old new (HeldRead id sector n) (Refused reason)
   held_misses reason one = record {
     may = may_refuse old.mode works reason one;
     mode = same ∙ sym (keeps_mode (HeldRead id sector n) reason old.mode refl (copy_commits reason one));
+    reads = λ no. calm;
     silent = λ yes. absurd (false≢true (sym (looks old.mode works) ∙ yes));
   }
 

@@ -23,10 +23,10 @@ use Rattle.tp_stored.specs.Contents.{Contents, HasContents, IsStill, SameData}
 use Rattle.tp_shown.proofs.Made.{create_makes, snapshot_makes}
 use Rattle.tp_shown.proofs.Tests.{count_is_listed, exists_is_listed}
 use Rattle.tp_meta.specs.Metadata.{IsChanging, IsLater, Ran}
-use Rattle.tp_pool.specs.Held.{Held, HasPool, LacksRoom, PoolCalled, PoolRefused, PoolTried, UsesWhere, failed_by, shows}
+use Rattle.tp_pool.specs.Held.{Held, HasPool, LacksRoom, PoolCalled, PoolRefused, PoolTried, failed_by, shows}
 use Rattle.tp_pool.specs.Messages.{CountsBlocks, RefusesNew, TestedSo, blocks_of_new, create_call, misses_origin, new_tests, with_new, with_volume}
 use Rattle.tp_pool.specs.Writing.{IsAsBefore, IsHalf, IsKept, IsReclaiming, LacksMetadata}
-use Rattle.tp_pool.proofs.Behind.{CountedLaw, Over, kept_behind, uses_where}
+use Rattle.tp_pool.proofs.Behind.{Over, kept_behind}
 use Rattle.tp_pool.proofs.Calling.{Laws, called_working, met_fault}
 use Rattle.tp_pool.proofs.Create.{create_verdict, lacks_origin, no_room_is, three_pass, passes_room, room_is, tests_are, verdict_first}
 use Rattle.tp_pool.proofs.Halves.{half_changing}
@@ -66,7 +66,7 @@ is_creation id None = record {
   missed = refl;
   there = refl;
   many = refl;
-  outline = λ s q makes. (ap (λ (p : PlainPool). p.geometry) makes, ap (λ (p : PlainPool). p.holds) makes);
+  outline = λ s q makes. (ap (λ (p : PlainPool). p.geometry) makes.is, ap (λ (p : PlainPool). p.holds) makes.is);
 }
 is_creation id (Some origin) = record {
   writes = refl;
@@ -79,7 +79,7 @@ is_creation id (Some origin) = record {
   missed = refl;
   there = refl;
   many = refl;
-  outline = λ s q makes. (ap (λ (p : PlainPool). p.geometry) makes, ap (λ (p : PlainPool). p.holds) makes);
+  outline = λ s q makes. (ap (λ (p : PlainPool). p.geometry) makes.is, ap (λ (p : PlainPool). p.holds) makes.is);
 }
 
 -- the ids of the volumes that it names are of 24 bits
@@ -90,9 +90,13 @@ is_allowed : (s : PlainPool) (id : ℕ) (origin : Option ℕ) → id < 2 ^ 24 �
 is_allowed s id None low = lt-ltb id (2 ^ 24) low
 is_allowed s id (Some origin) low = lt-ltb id (2 ^ 24) low
 
-makes_it : (s : PlainPool) (id : ℕ) (origin : Option ℕ) (meta_used : ℕ) → Makes s (create_call id origin) (with_volume s id origin meta_used)
-makes_it s id None meta_used = refl
-makes_it s id (Some origin) meta_used = refl
+-- so many metadata blocks in use are no more than the call may take
+abbrev TakesFew : Option ℕ → PlainPool → ℕ → Type 0
+TakesFew origin s meta_used = CountsBlocks origin s.held_root → meta_used ≤ s.meta_used + blocks_of_new origin
+
+makes_it : (s : PlainPool) (id : ℕ) (origin : Option ℕ) (meta_used : ℕ) → TakesFew origin s meta_used → Makes s (create_call id origin) (with_volume s id origin meta_used)
+makes_it s id None meta_used few = record { is = refl; taken = few tt }
+makes_it s id (Some origin) meta_used few = record { is = refl; taken = few }
 
 origin_there : {A : Type 0} (o : Option A) → not (is_some o) ≡ false → IsSome o
 origin_there None e = absurd (true≢false e)
@@ -250,8 +254,9 @@ module _ {M : Type 0} {geometry : M → Geometry} {stands : M → DiskState → 
     -- the pool with the new volume
     created_shown : (metadata : M) (d : DiskState) (meta_used : ℕ) (before : Contents) → geometry metadata ≡ g → 128 ≤ room metadata
         → stands metadata d (with_new now id origin meta_used) before → HasContents g (with_new now id origin meta_used) (seen d.cells) (with_volume s id origin meta_used) → refusal_of s call ≡ None
+        → TakesFew origin s meta_used
         → HasPool geometry stands (record old { disk = d; metadata = metadata }) (with_new now id origin meta_used) before (with_volume s id origin meta_used)
-    created_shown metadata d meta_used before same enough standing has accepted = record {
+    created_shown metadata d meta_used before same enough standing has accepted few = record {
       standing = standing;
       has = subst (λ (x : Geometry). HasContents x (with_new now id origin meta_used) (seen d.cells) (with_volume s id origin meta_used)) (sym same) has;
       mode_is = pool.mode_is;
@@ -261,9 +266,9 @@ module _ {M : Type 0} {geometry : M → Geometry} {stands : M → DiskState → 
       check = pool.check;
       settled = λ read_only. absurd (not_read_only old.mode works read_only);
       sound = Step-IsSound s call (reply s call) (with_volume s id origin meta_used) (is_allowed s id origin ready_is.low.0) pool.sound
-          (step_accepted s call (with_volume s id origin meta_used) accepted (makes_it s id origin meta_used));
-      found = Makes-FindsHeld s call (with_volume s id origin meta_used) accepted (makes_it s id origin meta_used) pool.found;
-      known = known_after g (geometry metadata) old.holders s call (with_volume s id origin meta_used) same accepted (makes_it s id origin meta_used) refl pool.found pool.known;
+          (step_accepted s call (with_volume s id origin meta_used) accepted (makes_it s id origin meta_used few));
+      found = Makes-FindsHeld s call (with_volume s id origin meta_used) accepted (makes_it s id origin meta_used few) pool.found;
+      known = known_after g (geometry metadata) old.holders s call (with_volume s id origin meta_used) same accepted (makes_it s id origin meta_used few) refl pool.found pool.known;
     }
 
   -- ---- the change between two commits
@@ -273,6 +278,7 @@ module _ {M : Type 0} {geometry : M → Geometry} {stands : M → DiskState → 
     pub meta_used : ℕ
     pub before : Contents
     pub standing : stands metadata last (with_new now id origin meta_used) before
+    pub few : TakesFew origin s meta_used
     pub has : HasContents g (with_new now id origin meta_used) (seen last.cells) (with_volume s id origin meta_used)
     pub ends : (end : DiskState) → LeavesOnly last end (IsReclaiming g (with_new now id origin meta_used) before last)
         → LeavesOnly last end (EndStop g Flush 0 [] now kept old.disk (with_new now id origin meta_used) last)
@@ -310,7 +316,15 @@ module _ {M : Type 0} {geometry : M → Geometry} {stands : M → DiskState → 
 
     module _ (metadata : M)
         (added : (now kept : Contents) → stands mid d now kept → device_of id now.volumes ≡ None → devices_in now.volumes < 65536
-        → misses_origin origin now ≡ false → ((meta_used : ℕ) × stands metadata last (with_new now id origin meta_used) kept) × (marks metadata ≡ marks mid)) where
+        → misses_origin origin now ≡ false → ((meta_used : ℕ) × stands metadata last (with_new now id origin meta_used) kept) × (marks metadata ≡ marks mid))
+        (more : (now kept next before : Contents) → stands mid d now kept → stands metadata last next before → device_of id now.volumes ≡ None → devices_in now.volumes < 65536
+        → misses_origin origin now ≡ false → CountsBlocks origin now.held_root → next.meta_used ≤ now.meta_used + blocks_of_new origin) where
+      few_new : (s : PlainPool) (now before : Contents) (image : List Sector) (meta_used : ℕ) → HasContents g now image s → stands mid d now before
+          → stands metadata last (with_new now id origin meta_used) before → IsCreatable g id origin now → TakesFew origin s meta_used
+      few_new s now before image meta_used has standing then passed counts =
+          let most = more now before (with_new now id origin meta_used) before standing then passed.absent passed.few passed.there (subst (CountsBlocks origin) has.held_root counts) in
+          omega (arith, most, has.meta_used)
+
       has_new : (s : PlainPool) (now before : Contents) (meta_used : ℕ) → IsWithin g now.volumes → device_of id now.volumes ≡ None → misses_origin origin now ≡ false
           → stands mid d now before → HasContents g now (seen d.cells) s
           → HasContents g (with_new now id origin meta_used) (seen last.cells) (with_volume s id origin meta_used)
@@ -332,6 +346,7 @@ module _ {M : Type 0} {geometry : M → Geometry} {stands : M → DiskState → 
             meta_used = a.0.0;
             before = kept;
             standing = a.0.1;
+            few = few_new s now kept (seen old.disk.cells) a.0.0 pool.has standing a.0.1 passed;
             has = has_new s now kept a.0.0 within.volumes_now passed.absent passed.there standing has;
             ends = λ end left. third_phase g Flush 0 [] now kept (with_new now id origin a.0.0) old.disk last end half_still left;
           }
@@ -344,6 +359,7 @@ module _ {M : Type 0} {geometry : M → Geometry} {stands : M → DiskState → 
             meta_used = a.0.0;
             before = now;
             standing = a.0.1;
+            few = few_new s now now (seen old.disk.cells) a.0.0 pool.has is_kept.standing a.0.1 passed;
             has = has_new s now now a.0.0 within.volumes_now passed.absent passed.there is_kept.standing has;
             ends = λ end left. third_phase_kept g Flush 0 [] now kept (with_new now id origin a.0.0) old.disk d last end is_kept.left half_kept left;
           }
@@ -401,7 +417,7 @@ module _ {M : Type 0} {geometry : M → Geometry} {stands : M → DiskState → 
               subst (λ (r : Refusal). PoolRefused geometry stands old (failed_by r (record old { disk = d; metadata = metadata })) call r) (sym e)
               (called_working laws old new call (Refused Fault) (ap is_failed works) later faults (λ s now kept pool.
               let made : PlainPool = with_volume s id origin s.meta_used in
-              met_fault laws old new s made call (reply s call) is.writes is.fault (step_accepted s call made (accepted s now kept pool) (makes_it s id origin s.meta_used)) refl same
+              met_fault laws old new s made call (reply s call) is.writes is.fault (step_accepted s call made (accepted s now kept pool) (makes_it s id origin s.meta_used (λ _. omega arith))) refl same
               (pool.has.geometry ∙ sym same) pool.holds (found s now kept pool (Refused Fault) made d (left now kept pool.standing))))
           by (inr e) =
               let none_failed : d.failures ≡ old.disk.failures = cause.none (ap (λ (r : Refusal). not (is_fault_refusal r)) e) in
@@ -462,7 +478,9 @@ module _ {M : Type 0} {geometry : M → Geometry} {stands : M → DiskState → 
         -- it was done, and then kept
         module _ (ran : Ran 64 false (room mid) (room metadata) (geometry mid) (geometry metadata) d last) (enough : 512 ≤ room mid)
             (added : (now kept : Contents) → stands mid d now kept → device_of id now.volumes ≡ None → devices_in now.volumes < 65536
-            → misses_origin origin now ≡ false → ((meta_used : ℕ) × stands metadata last (with_new now id origin meta_used) kept) × (marks metadata ≡ marks mid)) where
+            → misses_origin origin now ≡ false → ((meta_used : ℕ) × stands metadata last (with_new now id origin meta_used) kept) × (marks metadata ≡ marks mid))
+            (more : (now kept next before : Contents) → stands mid d now kept → stands metadata last next before → device_of id now.volumes ≡ None → devices_in now.volumes < 65536
+            → misses_origin origin now ≡ false → CountsBlocks origin now.held_root → next.meta_used ≤ now.meta_used + blocks_of_new origin) where
           still_enough : 128 ≤ room metadata
           still_enough = omega (arith, enough, ran.room)
 
@@ -478,40 +496,20 @@ module _ {M : Type 0} {geometry : M → Geometry} {stands : M → DiskState → 
           over : (s : PlainPool) (now kept : Contents) → HasPool geometry stands old now kept s
               → Over laws old works call is.writes is.fault is.says metadata last same_last all_later none_failed_last s now kept
           over s now kept pool =
-              let w = created mid d same last changing metadata added s now kept pool (passed now kept pool.standing) (reclaimed now kept pool.standing) in
+              let w = created mid d same last changing metadata added more s now kept pool (passed now kept pool.standing) (reclaimed now kept pool.standing) in
               let passes_all = accepted s now kept pool in
               record {
                 then = with_new now id origin w.meta_used;
                 before = w.before;
                 made = with_volume s id origin w.meta_used;
                 accepted = passes_all;
-                makes = makes_it s id origin w.meta_used;
-                shown = created_shown s now kept pool metadata last w.meta_used w.before same_last still_enough w.standing w.has passes_all;
+                makes = makes_it s id origin w.meta_used w.few;
+                shown = created_shown s now kept pool metadata last w.meta_used w.before same_last still_enough w.standing w.has passes_all w.few;
                 geometry_is = refl;
                 holds_are = refl;
                 left = left_created now kept pool.standing;
                 ends = w.ends;
               }
-
-          -- as many more metadata blocks are in use behind it as a new volume takes
-          pub create_uses : CountedLaw stands
-              → ((now kept next before : Contents) → stands mid d now kept → stands metadata last next before → device_of id now.volumes ≡ None → devices_in now.volumes < 65536
-              → misses_origin origin now ≡ false → CountsBlocks origin now.held_root → next.meta_used ≤ now.meta_used + blocks_of_new origin)
-              → (end_metadata : M) (end : DiskState) (result : Result (Unit {0}) Refusal)
-              → OnOk result ((now kept : Contents) → stands metadata last now kept → now.meta_used + 128 ≤ (geometry metadata).metadata_blocks
-              → IsKept geometry stands marks metadata end_metadata last end now
-              × (room end_metadata + now.meta_used ≡ (geometry metadata).metadata_blocks))
-              → OnOk result (UsesWhere geometry stands (CountsBlocks origin) start (record old { disk = end; metadata = end_metadata }) (blocks_of_new origin))
-          create_uses counted more end_metadata end (Ok x) is_kept =
-              let new : Held M = record old { disk = end; metadata = end_metadata } in
-              subst (λ (h : Held M). UsesWhere geometry stands (CountsBlocks origin) h new (blocks_of_new origin)) ready_is.same
-              (uses_where geometry stands counted (CountsBlocks origin) old new (blocks_of_new origin) (ap is_failed works) (ap is_failed works) (λ s now kept pool counts.
-              let w = over s now kept pool in
-              let m = stood_or_kept now kept pool.standing in
-              let p = passed now kept pool.standing in
-              let k = (is_kept w.then w.before w.shown.standing w.shown.spare).0 in
-              (w.then, w.then, k.standing, more now m.0 w.then w.before m.1 w.shown.standing p.absent p.few p.there counts)))
-          create_uses counted more end_metadata end (Err reason) is_kept = tt
 
           pub create_then_kept : (end_metadata : M) (end : DiskState) → geometry end_metadata ≡ geometry metadata → IsLater last end
               → ((now kept : Contents) → stands metadata last now kept → now.meta_used + 128 ≤ (geometry metadata).metadata_blocks

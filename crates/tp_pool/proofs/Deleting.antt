@@ -13,7 +13,7 @@ use Rattle.tp_model.specs.Geometry.{Geometry}
 use Rattle.tp_model.specs.Sectors.{Sector}
 use Rattle.tp_model.specs.Pool.{PlainPool, hold_count}
 use Rattle.tp_model.specs.Refusals.{is_fault, is_fault_refusal}
-use Rattle.tp_model.specs.Calls.{Answer, Call, Delete, Flush, IsOneOf, MayAnswer, Refused, exists, first_failed, has_metadata_room, is_failed, is_read_only, refusal_of, refusals_in_writable, refused_commits, reply}
+use Rattle.tp_model.specs.Calls.{Answer, Call, Delete, Flush, IsOneOf, Makes, MayAnswer, Refused, exists, first_failed, has_metadata_room, is_failed, is_read_only, refusal_of, refusals_in_writable, refused_commits, reply}
 use Rattle.tp_model.specs.PoolStops.{Event, GivenBy}
 use Rattle.tp_model.specs.Disk.{DiskState, FaultHasCause, after_read, seen}
 use Rattle.tp_model.specs.DiskStops.{LeavesOnly}
@@ -27,13 +27,13 @@ use Rattle.tp_stored.specs.Contents.{Contents, HasContents, IsStill, SameData}
 use Rattle.tp_shown.proofs.Made.{delete_makes}
 use Rattle.tp_shown.proofs.Tests.{exists_is_listed}
 use Rattle.tp_meta.specs.Metadata.{IsChanging, IsLater, Ran}
-use Rattle.tp_pool.specs.Held.{EndsShort, Held, HasPool, IsTried, LacksRoom, PoolAnswered, PoolCalled, PoolRefused, PoolTried, UsesUnheld, failed_by, shows}
+use Rattle.tp_pool.specs.Held.{EndsShort, Held, HasPool, IsTried, LacksRoom, PoolAnswered, PoolCalled, PoolRefused, PoolTried, failed_by, shows}
 use Rattle.tp_holders.specs.Holders.{holds_of}
 use Rattle.tp_pool.specs.Flushes.{HasFlushed, Lacks}
 use Rattle.tp_pool.specs.Messages.{RefusesOld, TestedSo, old_tests, without_contents, without_plain}
 use Rattle.tp_pool.specs.Writing.{IsAsBefore, IsHalf, IsKept, IsReclaiming, LacksForRemoval}
 use Rattle.tp_pool.proofs.Answering.{tried_short, tried_writable}
-use Rattle.tp_pool.proofs.Behind.{CountedLaw, Over, kept_behind, uses_where}
+use Rattle.tp_pool.proofs.Behind.{Over, kept_behind}
 use Rattle.tp_pool.proofs.Calling.{Laws, called_working, met_fault}
 use Rattle.tp_pool.proofs.Create.{enough_blocks_are, lacking_blocks_are}
 use Rattle.tp_pool.proofs.Flushing.{counted_before, counted_behind, counted_short}
@@ -100,8 +100,11 @@ pub failure_deletes_nothing : (reason : Refusal) → (reason ≡ Fault) ⊎ (rea
 failure_deletes_nothing reason (inl e) = inl e
 failure_deletes_nothing reason (inr e) = inr (inl e)
 
+removes_it : (s : PlainPool) (id meta_used : ℕ) → (s.held_root ≡ 0 → meta_used ≤ s.meta_used) → Makes s (Delete id) (without_plain s id meta_used)
+removes_it s id meta_used few = record { is = refl; taken = few }
+
 keeps_outline : (id : ℕ) → KeepsOutline (Delete id)
-keeps_outline id s q makes = (ap (λ (p : PlainPool). p.geometry) makes, ap (λ (p : PlainPool). p.holds) makes)
+keeps_outline id s q makes = (ap (λ (p : PlainPool). p.geometry) makes.is, ap (λ (p : PlainPool). p.holds) makes.is)
 
 -- ---- what is known of it
 
@@ -304,8 +307,9 @@ module _ {M : Type 0} {geometry : M → Geometry} {stands : M → DiskState → 
       -- the pool without the volume
       deleted_shown : (metadata : M) (d : DiskState) (meta_used : ℕ) (before : Contents) → geometry metadata ≡ g → meta_used + 128 ≤ g.metadata_blocks
           → stands metadata d (without_contents now id meta_used) before → HasContents g (without_contents now id meta_used) (seen d.cells) (without_plain s id meta_used)
+          → (s.held_root ≡ 0 → meta_used ≤ s.meta_used)
           → HasPool geometry stands (record old { disk = d; metadata = metadata }) (without_contents now id meta_used) before (without_plain s id meta_used)
-      deleted_shown metadata d meta_used before same spare standing has = record {
+      deleted_shown metadata d meta_used before same spare standing has few = record {
         standing = standing;
         has = subst (λ (x : Geometry). HasContents x (without_contents now id meta_used) (seen d.cells) (without_plain s id meta_used)) (sym same) has;
         mode_is = pool.mode_is;
@@ -314,9 +318,9 @@ module _ {M : Type 0} {geometry : M → Geometry} {stands : M → DiskState → 
         works = pool.works;
         check = pool.check;
         settled = λ read_only. absurd (not_read_only old.mode works read_only);
-        sound = Step-IsSound s call (reply s call) (without_plain s id meta_used) tt pool.sound (step_accepted s call (without_plain s id meta_used) accepts refl);
-        found = Makes-FindsHeld s call (without_plain s id meta_used) accepts refl pool.found;
-        known = known_after g (geometry metadata) old.holders s call (without_plain s id meta_used) same accepts refl refl pool.found pool.known;
+        sound = Step-IsSound s call (reply s call) (without_plain s id meta_used) tt pool.sound (step_accepted s call (without_plain s id meta_used) accepts (removes_it s id meta_used few));
+        found = Makes-FindsHeld s call (without_plain s id meta_used) accepts (removes_it s id meta_used few) pool.found;
+        known = known_after g (geometry metadata) old.holders s call (without_plain s id meta_used) same accepts (removes_it s id meta_used few) refl pool.found pool.known;
       }
 
     -- The volume was removed from s, and a commit behind it leaves that or what a stop left before it.
@@ -430,7 +434,7 @@ module _ {M : Type 0} {geometry : M → Geometry} {stands : M → DiskState → 
             subst (λ (r : Refusal). PoolRefused geometry stands old (failed_by r (record old { disk = d; metadata = metadata })) call r) (sym e)
             (called_working laws old new call (Refused Fault) (ap is_failed works) later faults (λ s now kept pool.
             let made : PlainPool = without_plain s id s.meta_used in
-            met_fault laws old new s made call (reply s call) refl refl (step_accepted s call made (accepts s now kept pool) refl) refl same
+            met_fault laws old new s made call (reply s call) refl refl (step_accepted s call made (accepts s now kept pool) (removes_it s id s.meta_used (λ none. omega arith))) refl same
             (pool.has.geometry ∙ sym same) pool.holds (found s now kept pool (Refused Fault) made d (left now kept pool.standing pool.spare))))
         by (inr e) =
             let none_failed : d.failures ≡ old.disk.failures = cause.none (ap (λ (r : Refusal). not (is_fault_refusal r)) e) in
@@ -494,36 +498,19 @@ module _ {M : Type 0} {geometry : M → Geometry} {stands : M → DiskState → 
             → Over laws old works call refl refl (λ p. refl) metadata last same_last all_later none_failed_last s now kept
         over s now kept pool =
             let w = deleted mid d same last changing metadata removed s now kept pool (done now kept pool.standing pool.spare) in
+            let few : s.held_root ≡ 0 → w.meta_used ≤ s.meta_used = λ none. omega (arith, w.few, none_more now (sym pool.has.held_root ∙ none), pool.has.meta_used) in
             record {
               then = without_contents now id w.meta_used;
               before = w.before;
               made = without_plain s id w.meta_used;
               accepted = accepts s now kept pool;
-              makes = refl;
-              shown = deleted_shown s now kept pool metadata last w.meta_used w.before same_last (spare_then now kept pool.standing pool.spare w.meta_used w.few) w.standing w.has;
+              makes = removes_it s id w.meta_used few;
+              shown = deleted_shown s now kept pool metadata last w.meta_used w.before same_last (spare_then now kept pool.standing pool.spare w.meta_used w.few) w.standing w.has few;
               geometry_is = refl;
               holds_are = refl;
               left = left_deleted now kept pool.standing pool.spare;
               ends = w.ends;
             }
-
-        -- no more metadata blocks are in use behind it
-        pub delete_uses : CountedLaw stands → (end_metadata : M) (end : DiskState) (result : Result (Unit {0}) Refusal)
-            → OnOk result ((now kept : Contents) → stands metadata last now kept → now.meta_used + 128 ≤ (geometry metadata).metadata_blocks
-            → IsKept geometry stands marks metadata end_metadata last end now
-            × (room end_metadata + now.meta_used ≡ (geometry metadata).metadata_blocks))
-            → OnOk result (UsesUnheld geometry stands start (record old { disk = end; metadata = end_metadata }) 0)
-        delete_uses counted end_metadata end (Ok x) is_kept =
-            let new : Held M = record old { disk = end; metadata = end_metadata } in
-            let blocks : (geometry metadata).metadata_blocks ≡ g.metadata_blocks = ap (λ (z : Geometry). z.metadata_blocks) same_last in
-            subst (λ (h : Held M). UsesUnheld geometry stands h new 0) ready_is.same
-            (uses_where geometry stands counted (λ root. root ≡ 0) old new 0 (ap is_failed works) (ap is_failed works) (λ s now kept pool none.
-            let w = deleted mid d same last changing metadata removed s now kept pool (done now kept pool.standing pool.spare) in
-            let after = without_contents now id w.meta_used in
-            let spare : w.meta_used + 128 ≤ (geometry metadata).metadata_blocks = omega (arith, spare_then now kept pool.standing pool.spare w.meta_used w.few, blocks) in
-            let k = (is_kept after w.before w.standing spare).0 in
-            (after, after, k.standing, omega (arith, w.few, none_more now none))))
-        delete_uses counted end_metadata end (Err reason) is_kept = tt
 
         pub delete_then_kept : (end_metadata : M) (end : DiskState) → geometry end_metadata ≡ geometry metadata → IsLater last end
             → ((now kept : Contents) → stands metadata last now kept → now.meta_used + 128 ≤ (geometry metadata).metadata_blocks

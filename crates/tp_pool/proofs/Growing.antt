@@ -34,12 +34,11 @@ use Rattle.tp_shown.proofs.Tests.{exists_is_listed}
 use Rattle.tp_meta.specs.Metadata.{IsAltered, IsChanging, IsLater, Ran, StandsWith}
 use Rattle.tp_holders.specs.Holders.{Holding, holds_of}
 use Rattle.tp_pool.specs.Flushes.{HasFlushed, Lacks}
-use Rattle.tp_pool.specs.Held.{Held, HasPool, LacksRoom, PoolCalled, PoolRefused, PoolTried, UsesUnheld, failed_by, shows}
+use Rattle.tp_pool.specs.Held.{Held, HasPool, LacksRoom, PoolCalled, PoolRefused, PoolTried, failed_by, shows}
 use Rattle.tp_pool.specs.Messages.{HasBlocks, RefusesGrown, SizedSo, grown_tests, is_bad_size, size_verdict, with_blocks, with_grown}
 use Rattle.tp_pool.specs.Shown.{told_within}
 use Rattle.tp_pool.specs.Writing.{IsAsBefore, IsHalf, IsKept, IsReclaiming, LacksMetadata}
 use Rattle.tp_pool.proofs.Altering.{HasMade, IsAlteration, alter_accepts, alter_failed, alter_then_kept, alter_unreclaimed, stood_or_kept}
-use Rattle.tp_pool.proofs.Behind.{CountedLaw, uses_where}
 use Rattle.tp_pool.proofs.Calling.{Laws}
 use Rattle.tp_pool.proofs.Create.{no_room_is, passes_room, room_is}
 use Rattle.tp_pool.proofs.Flushing.{counted_before, counted_behind, counted_short}
@@ -334,15 +333,26 @@ module _ {M : Type 0} {geometry : M → Geometry} {stands : M → DiskState → 
   pub record IsEnlarged (now kept : Contents) : Type 0 where
     pub meta_used : ℕ
     pub standing : stands metadata last (with_blocks (geometry mid) now id blocks meta_used) kept
+    pub taken : now.held_root ≡ 0 → meta_used ≤ now.meta_used + 1
     pub untouched : blocks ≡ present → meta_used ≡ now.meta_used
+
+  -- at most one metadata block more is in use then
+  abbrev Used : Type 0
+  Used = (now kept next before : Contents) → stands mid d now kept → stands metadata last next before → IsSome (device_of id now.volumes)
+      → IsToldSize (geometry mid) (size_for (geometry mid) blocks) → ((size : ℕ) → size_of id now.volumes ≡ Some size → told_blocks (geometry mid) size ≤ blocks)
+      → now.held_root ≡ 0 → next.meta_used ≤ now.meta_used + 1
 
   abbrev Made : Type 0
   Made = (now kept : Contents) → stands mid d now kept → IsSome (device_of id now.volumes) → IsToldSize (geometry mid) (size_for (geometry mid) blocks)
       → ((size : ℕ) → size_of id now.volumes ≡ Some size → told_blocks (geometry mid) size ≤ blocks)
       → StandsWith stands marks metadata last now kept (resized id (size_for (geometry mid) blocks) now.volumes) (marks mid)
 
-  pub enlarge_made : result ≡ Ok tt → (now kept : Contents) → stands mid d now kept → HasBlocks (geometry mid) id present now → IsEnlarged now kept
-  enlarge_made done now kept st has = elim (cases_eq blocks present) [
+  pub enlarge_made : result ≡ Ok tt
+      → ((blocks ≡ present → ⊥) → OnOk result ((now kept next before : Contents) → stands mid d now kept → stands metadata last next before → IsSome (device_of id now.volumes)
+      → IsToldSize (geometry mid) (size_for (geometry mid) blocks) → ((size : ℕ) → size_of id now.volumes ≡ Some size → told_blocks (geometry mid) size ≤ blocks)
+      → now.held_root ≡ 0 → next.meta_used ≤ now.meta_used + 1))
+      → (now kept : Contents) → stands mid d now kept → HasBlocks (geometry mid) id present now → IsEnlarged now kept
+  enlarge_made done used now kept st has = elim (cases_eq blocks present) [
     | inl e ↦
         let s = same e in
         let within = laws.within mid d now kept st in
@@ -353,35 +363,19 @@ module _ {M : Type 0} {geometry : M → Geometry} {stands : M → DiskState → 
           standing =
               subst (λ (v : Volumes). stands metadata last (record now { volumes = v }) kept) (sym still)
               (subst (λ (x : DiskState). stands metadata x now kept) (sym s.2) (subst (λ (m : M). stands m d now kept) (sym s.1) st));
+          taken = λ none. omega arith;
           untouched = λ same_blocks. refl;
         }
     | inr n ↦
         let m = told_may now kept st has in
         let w = where_ok Made result done (altered n).made now kept st m.0 m.1 m.2 in
-        record { meta_used = w.0.0; standing = w.0.1; untouched = λ same_blocks. absurd (n same_blocks) }
-  ]
-
-  -- at most one metadata block more is in use then
-  abbrev Used : Type 0
-  Used = (now kept next before : Contents) → stands mid d now kept → stands metadata last next before → IsSome (device_of id now.volumes)
-      → IsToldSize (geometry mid) (size_for (geometry mid) blocks) → ((size : ℕ) → size_of id now.volumes ≡ Some size → told_blocks (geometry mid) size ≤ blocks)
-      → now.held_root ≡ 0 → next.meta_used ≤ now.meta_used + 1
-
-  pub enlarge_used : CountedLaw stands → result ≡ Ok tt
-      → ((blocks ≡ present → ⊥) → OnOk result ((now kept next before : Contents) → stands mid d now kept → stands metadata last next before → IsSome (device_of id now.volumes)
-      → IsToldSize (geometry mid) (size_for (geometry mid) blocks) → ((size : ℕ) → size_of id now.volumes ≡ Some size → told_blocks (geometry mid) size ≤ blocks)
-      → now.held_root ≡ 0 → next.meta_used ≤ now.meta_used + 1))
-      → (now kept next before : Contents) → stands mid d now kept → stands metadata last next before → HasBlocks (geometry mid) id present now → now.held_root ≡ 0
-      → next.meta_used ≤ now.meta_used + 1
-  enlarge_used counted done used now kept next before st stood has none = elim (cases_eq blocks present) [
-    | inl e ↦
-        let s = same e in
-        let here = subst (λ (m : M). stands m d next before) s.1 (subst (λ (x : DiskState). stands metadata x next before) s.2 stood) in
-        let equal = counted mid d now kept next before st here in
-        omega (arith, equal)
-    | inr n ↦
-        let m = told_may now kept st has in
-        where_ok Used result done (used n) now kept next before st stood m.0 m.1 m.2 none
+        let next : Contents = with_blocks (geometry mid) now id blocks w.0.0 in
+        record {
+          meta_used = w.0.0;
+          standing = w.0.1;
+          taken = λ none. where_ok Used result done (used n) now kept next kept st w.0.1 m.0 m.1 m.2 none;
+          untouched = λ same_blocks. absurd (n same_blocks);
+        }
   ]
 
 -- ---- behind the tests that read
@@ -519,7 +513,10 @@ module _ {M : Type 0} {geometry : M → Geometry} {stands : M → DiskState → 
           enlarge_damaged laws id present blocks more most mid d metadata last result same_blocks altered (is ∙ ap (λ (x : StoreError). Err x) (never e)) now m.0 m.1 (has_blocks now kept pool.standing)) only
 
       -- it was done
-      module _ (is_done : result ≡ Ok tt) (enough : 512 ≤ room mid) where
+      module _ (is_done : result ≡ Ok tt) (enough : 512 ≤ room mid)
+          (used : (blocks ≡ present → ⊥) → OnOk result ((now kept next before : Contents) → stands mid d now kept → stands metadata last next before → IsSome (device_of id now.volumes)
+          → IsToldSize (geometry mid) (size_for (geometry mid) blocks) → ((size : ℕ) → size_of id now.volumes ≡ Some size → told_blocks (geometry mid) size ≤ blocks)
+          → now.held_root ≡ 0 → next.meta_used ≤ now.meta_used + 1)) where
         no_failure : last.failures ≡ d.failures
         no_failure = ran.cause.none (ap (λ (r : Result (Unit {0}) StoreError). not (errors_of.is_fault r)) is_done)
 
@@ -529,7 +526,7 @@ module _ {M : Type 0} {geometry : M → Geometry} {stands : M → DiskState → 
         enlarged : (now before kept : Contents) → stands old.metadata old.disk now kept → stands mid d now before
             → IsEnlarged laws id present blocks more most mid d metadata last result same_blocks altered now before
         enlarged now before kept st standing =
-            enlarge_made laws id present blocks more most mid d metadata last result same_blocks altered is_done now before standing (has_blocks now kept st)
+            enlarge_made laws id present blocks more most mid d metadata last result same_blocks altered is_done used now before standing (has_blocks now kept st)
 
         -- what stands shows the volume that has grown
         grown_shown : (s : PlainPool) (now kept before : Contents) → HasPool geometry stands old now kept s → stands mid d now before → HasContents g now (seen d.cells) s → (meta_used : ℕ)
@@ -557,7 +554,11 @@ module _ {M : Type 0} {geometry : M → Geometry} {stands : M → DiskState → 
               pool = with_grown s id blocks w.meta_used;
               standing = subst (λ (x : Geometry). stands metadata last (with_blocks x now id blocks w.meta_used) before) same w.standing;
               has = grown_shown s now kept before pool standing has w.meta_used;
-              makes = record { is = refl; untouched = λ equal. w.untouched (equal ∙ as_told) ∙ sym pool.has.meta_used };
+              makes = record {
+                is = refl;
+                taken = λ none. omega (arith, w.taken (sym pool.has.held_root ∙ none), pool.has.meta_used);
+                untouched = λ equal. w.untouched (equal ∙ as_told) ∙ sym pool.has.meta_used;
+              };
             }
 
         -- and then kept
@@ -572,28 +573,6 @@ module _ {M : Type 0} {geometry : M → Geometry} {stands : M → DiskState → 
         grow_then_kept end_metadata end end_same end_later end_left =
             alter_then_kept laws call (grow_alters id blocks) Flush 0 (λ c. []) 512 start old ready_is.same works allowed accepted spared no_values mid d same later cause left done_alone
             metadata last same_last ran.time half no_failure still_enough made end_metadata end end_same end_later end_left
-
-        -- at most one metadata block more is in use behind it
-        pub grow_uses : CountedLaw stands
-            → ((blocks ≡ present → ⊥) → OnOk result ((now kept next before : Contents) → stands mid d now kept → stands metadata last next before → IsSome (device_of id now.volumes)
-            → IsToldSize (geometry mid) (size_for (geometry mid) blocks) → ((size : ℕ) → size_of id now.volumes ≡ Some size → told_blocks (geometry mid) size ≤ blocks)
-            → now.held_root ≡ 0 → next.meta_used ≤ now.meta_used + 1))
-            → (end_metadata : M) (end : DiskState) (kept_so : Result (Unit {0}) Refusal)
-            → OnOk kept_so ((now kept : Contents) → stands metadata last now kept → now.meta_used + 128 ≤ (geometry metadata).metadata_blocks
-            → IsKept geometry stands marks metadata end_metadata last end now × (room end_metadata + now.meta_used ≡ (geometry metadata).metadata_blocks))
-            → OnOk kept_so (UsesUnheld geometry stands start (record old { disk = end; metadata = end_metadata }) 1)
-        grow_uses counted used end_metadata end (Ok x) is_kept =
-            let new : Held M = record old { disk = end; metadata = end_metadata } in
-            subst (λ (h : Held M). UsesUnheld geometry stands h new 1) ready_is.same
-            (uses_where geometry stands counted (λ root. root ≡ 0) old new 1 (ap is_failed works) (ap is_failed works) (λ s now kept pool none.
-            let m = stood now kept pool.standing in
-            let w = enlarged now m.0 kept pool.standing m.1 in
-            let next : Contents = with_blocks (geometry mid) now id blocks w.meta_used in
-            let r = (laws.within metadata last next m.0 w.standing).room in
-            let k = (is_kept next m.0 w.standing (omega (arith, r, still_enough))).0 in
-            let few = enlarge_used laws id present blocks more most mid d metadata last result same_blocks altered counted is_done used now m.0 next m.0 m.1 w.standing (has_blocks now kept pool.standing) none in
-            (next, next, k.standing, few)))
-        grow_uses counted used end_metadata end (Err reason) is_kept = tt
 
     -- ---- how often it flushes
 

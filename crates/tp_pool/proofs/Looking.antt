@@ -37,7 +37,7 @@ module _ {M : Type 0} {geometry : M → Geometry} {stands : M → DiskState → 
       let accepted : Result (Unit {0}) Refusal = Ok tt in
       record {
         called = read_by laws h h.disk h.disk id sector n out accepted works refl there lies formed fits refl bytes (λ e. absurd (true≢false (ap is_ok e))) tt;
-        answered = read_answers geometry stands id sector n (sectors_of out) h h works refl accepted tt;
+        answered = read_answers geometry stands id sector n (sectors_of out) h h works refl refl accepted tt;
         flushes = read_flushes geometry stands marks room changed id sector n (sectors_of out) h h refl refl accepted tt;
       }
 

@@ -5,7 +5,7 @@ use Rattle.std.specs.Prelude.{MatchResult, OnErr, OnOk}
 use Rattle.tp_model.specs.declared.refusal.Refusal.{Refusal}
 use Rattle.tp_model.specs.Geometry.{Geometry}
 use Rattle.tp_model.specs.Sectors.{Sector}
-use Rattle.tp_model.specs.Calls.{Answer, Call, Done, Gave, Read, Refused, Sized, holds_after}
+use Rattle.tp_model.specs.Calls.{Answer, Call, Done, Gave, Line, Read, Refused, Sized, holds_after}
 use Rattle.tp_model.specs.Pool.{hold_count}
 use Rattle.tp_model.specs.Clauses.{Called, Flushes, IsAnswered, Meets, View}
 use Rattle.tp_model.specs.Disk.{DiskState}
@@ -47,6 +47,7 @@ module _ {M : Type 0} (geometry : M → Geometry) (stands : M → DiskState → 
   answers_of_served old new call answer a = record {
     may = a.may;
     mode = a.mode;
+    reads = a.reads;
     silent = λ yes. let q = a.silent yes in record { failures = q.failures; flushes = q.flushes; moment = q.moment };
   }
 
@@ -88,6 +89,16 @@ module _ {M : Type 0} (geometry : M → Geometry) (stands : M → DiskState → 
         → MatchResult result (λ _. Meeting old new call Done) (λ reason. Meeting old new call (Refused reason))
     met_same (Ok x) no_holds holders c answered flushes = meeting Done refl (ap holds_of holders ∙ sym (no_holds Done)) (told_alike old.holders new.holders holders) c answered flushes
     met_same (Err reason) no_holds holders c answered flushes = meeting (Refused reason) refl (ap holds_of holders ∙ sym (no_holds (Refused reason))) (told_alike old.holders new.holders holders) c answered flushes
+
+    -- a call that tells a line, from the number that it answers
+    pub met_line : (line : ℕ → List ℕ) → ((answer : Answer) → holds_after (holds_of old.holders) call answer ≡ holds_of old.holders)
+        → new.holders ≡ old.holders → (result : Result ℕ Refusal)
+        → MatchResult result (λ n. PoolCalled geometry stands old new call (Line (line n))) (λ reason. PoolRefused geometry stands old new call reason)
+        → MatchResult result (λ n. IsAnswered (view geometry stands) old new call (Line (line n))) (λ reason. IsAnswered (view geometry stands) old new call (Refused reason))
+        → MatchResult result (λ n. Flushes Whole old new call (Line (line n))) (λ reason. Flushes Whole old new call (Refused reason))
+        → MatchResult result (λ n. Meeting old new call (Line (line n))) (λ reason. Meeting old new call (Refused reason))
+    met_line line no_holds holders (Ok n) c answered flushes = meeting (Line (line n)) refl (ap holds_of holders ∙ sym (no_holds (Line (line n)))) (told_alike old.holders new.holders holders) c answered flushes
+    met_line line no_holds holders (Err reason) c answered flushes = meeting (Refused reason) refl (ap holds_of holders ∙ sym (no_holds (Refused reason))) (told_alike old.holders new.holders holders) c answered flushes
 
   pub met_read : (old new : Held M) (id sector n : ℕ) (sectors : List Sector)
       → geometry new.metadata ≡ geometry old.metadata → new.holders ≡ old.holders

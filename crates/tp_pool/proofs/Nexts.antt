@@ -12,6 +12,7 @@ use Rattle.tp_model.specs.Pool.{PlainPool, Volume}
 use Rattle.tp_model.specs.Refusals.{is_fault}
 use Rattle.tp_model.specs.Calls.{Answer, Found, MayAnswer, NextId, Refused, exists, first_failed, first_from, is_failed, is_silent, may_accept}
 use Rattle.tp_model.specs.Clauses.{Flushes, IsAnswered}
+use Rattle.tp_model.specs.DiskStops.{moment}
 use Rattle.tp_model.specs.Disk.{DiskState, after_read, seen}
 use Rattle.tp_model.proofs.Nexts.{first_none, first_some}
 use Rattle.tp_sharing.specs.Volumes.{Volumes, device_of}
@@ -69,7 +70,8 @@ module _ {M : Type 0} {geometry : M → Geometry} {stands : M → DiskState → 
 
 -- ---- what is known of it whatever the disk does
 
-module _ {M : Type 0} (geometry : M → Geometry) (stands : M → DiskState → Contents → Contents → Type 0) (from : ℕ) (old new : Held M) (works : is_failed old.mode ≡ false) (same : new.mode ≡ old.mode) where
+module _ {M : Type 0} (geometry : M → Geometry) (stands : M → DiskState → Contents → Contents → Type 0) (from : ℕ) (old new : Held M) (works : is_failed old.mode ≡ false) (same : new.mode ≡ old.mode)
+    (calm : moment new.disk ≡ moment old.disk) where
   may_refuse : (m : Mode) → is_failed m ≡ false → (reason : Refusal) → (reason ≡ Fault) ⊎ (reason ≡ Damaged) → MayAnswer m (NextId from) (Refused reason)
   may_refuse mode.Writable e reason (inl is) = inl is
   may_refuse mode.Writable e reason (inr is) = inr (inl is)
@@ -89,10 +91,11 @@ module _ {M : Type 0} (geometry : M → Geometry) (stands : M → DiskState → 
 
   pub next_answers : (result : Result (Option ℕ) Refusal) → IfErr result (λ reason. (reason ≡ Fault) ⊎ (reason ≡ Damaged))
       → MatchResult result (λ found. Answered geometry stands old new (NextId from) (Found found)) (λ reason. Answered geometry stands old new (NextId from) (Refused reason))
-  next_answers (Ok found) only = record { may = may_find old.mode works; mode = same; silent = λ yes. absurd (false≢true (sym (looks old.mode works) ∙ yes)) }
+  next_answers (Ok found) only = record { may = may_find old.mode works; mode = same; reads = λ no. calm; silent = λ yes. absurd (false≢true (sym (looks old.mode works) ∙ yes)) }
   next_answers (Err reason) only = record {
     may = may_refuse old.mode works reason only;
     mode = same ∙ sym (keeps_mode (NextId from) reason old.mode refl (failure_commits reason only));
+    reads = λ no. calm;
     silent = λ yes. absurd (false≢true (sym (looks old.mode works) ∙ yes));
   }
 

@@ -67,7 +67,7 @@ release_snaps = record {
   keeps_not = refl;
   ends = refl;
   asks = refl;
-  outline = λ s q makes. (ap (λ (p : PlainPool). p.geometry) makes, ap (λ (p : PlainPool). p.holds) makes, ap (λ (p : PlainPool). p.mode) makes);
+  outline = λ s q makes. (ap (λ (p : PlainPool). p.geometry) makes.is, ap (λ (p : PlainPool). p.holds) makes.is, ap (λ (p : PlainPool). p.mode) makes.is);
   allowed = λ s. tt;
   failure = failing;
   only_read = refl;
@@ -204,5 +204,5 @@ module _ {M : Type 0} {geometry : M → Geometry} {stands : M → DiskState → 
             checks = refl;
             standing = a.2;
             has = same_data_shows g then (seen old.disk.cells) (seen last.cells) plain (changing now kept pool.standing).same_data (release_makes g now (seen old.disk.cells) s pool.has a.0);
-            makes = refl;
+            makes = record { is = refl; taken = omega (arith, a.1, pool.has.meta_used) };
           }

@@ -20,11 +20,11 @@ use Rattle.tp_model.proofs.Shape.{Step-IsSound}
 use Rattle.tp_model.proofs.Steps.{step_accepted}
 use Rattle.tp_stored.specs.Contents.{Contents, HasContents}
 use Rattle.tp_meta.specs.Metadata.{IsChanging, IsLater}
-use Rattle.tp_pool.specs.Held.{EndsShort, Held, HasPool, IsTried, PoolRefused, PoolTried, UsesAtMost, failed_by, shows}
+use Rattle.tp_pool.specs.Held.{EndsShort, Held, HasPool, IsTried, PoolRefused, PoolTried, failed_by, shows}
 use Rattle.tp_pool.specs.Flushes.{HasFlushed}
 use Rattle.tp_pool.specs.Writing.{IsHalf, IsKept, IsReclaiming}
 use Rattle.tp_pool.proofs.Answering.{tried_short, tried_writable}
-use Rattle.tp_pool.proofs.Behind.{CountedLaw, Over, kept_behind, uses_behind}
+use Rattle.tp_pool.proofs.Behind.{Over, kept_behind}
 use Rattle.tp_pool.proofs.Calling.{Laws, called_working, met_fault}
 use Rattle.tp_pool.proofs.Flushing.{counted_only}
 use Rattle.tp_pool.proofs.Halves.{half_changing}
@@ -183,22 +183,6 @@ module _ {M : Type 0} {geometry : M → Geometry} {stands : M → DiskState → 
       snap_then_kept end_metadata end end_same end_later end_left result is_kept only end_cause =
           kept_behind laws old works call is.writes is.keeps_not is.says metadata last same later none_failed over end_metadata end end_same end_later end_left
           result is_kept only end_cause
-
-      -- no more metadata blocks are in use behind it
-      pub snap_uses : CountedLaw stands → (end_metadata : M) (end : DiskState) (result : Result (Unit {0}) Refusal)
-          → OnOk result ((now kept : Contents) → stands metadata last now kept → now.meta_used + 128 ≤ (geometry metadata).metadata_blocks
-          → IsKept geometry stands marks metadata end_metadata last end now
-          × (room end_metadata + now.meta_used ≡ (geometry metadata).metadata_blocks))
-          → OnOk result (UsesAtMost geometry stands old (record old { disk = end; metadata = end_metadata }) 0)
-      snap_uses counted end_metadata end (Ok x) is_kept =
-          let new : Held M = record old { disk = end; metadata = end_metadata } in
-          uses_behind geometry stands counted old new 0 (ap is_failed works) (ap is_failed works) (λ s now kept pool.
-          let w = snapped s now kept pool in
-          let blocks : (geometry metadata).metadata_blocks ≡ g.metadata_blocks = ap (λ (x : Geometry). x.metadata_blocks) same in
-          let spare : w.then.meta_used + 128 ≤ (geometry metadata).metadata_blocks = omega (arith, w.few, pool.spare, blocks) in
-          let k = (is_kept w.then kept w.standing spare).0 in
-          (w.then, w.then, k.standing, omega (arith, w.few)))
-      snap_uses counted end_metadata end (Err reason) is_kept = tt
 
   -- how often it flushes
   pub snap_flushed : ((s : PlainPool) (now kept : Contents) → HasPool geometry stands old now kept s → refusal_of s call ≡ None) → (mid new : DiskState) → mid.flushes ≡ old.disk.flushes

@@ -14,6 +14,7 @@ use Rattle.tp_model.specs.Refusals.{is_fault_refusal}
 use Rattle.tp_model.specs.Calls.{Call, Line, MayAnswer, Refused, Status, ThinStatus, exists, first_failed, is_failed, may_accept, refusal_of}
 use Rattle.tp_model.specs.Clauses.{Flushes, IsAnswered}
 use Rattle.tp_model.specs.Status.{pool_line, unless_failed, volume_line}
+use Rattle.tp_model.specs.DiskStops.{moment}
 use Rattle.tp_model.specs.Disk.{DiskState, after_read, seen}
 use Rattle.tp_sharing.specs.Volumes as listed
 use Rattle.tp_sharing.specs.Volumes.{BlockSlot, device_of, mapped_of}
@@ -153,18 +154,19 @@ module _ {M : Type 0} (geometry : M → Geometry) (stands : M → DiskState → 
   accepted_in call line reads failed mode.Failed = failed
 
   pub status_answers : (h : Held M) (line : List ℕ) → IsAnswered (view geometry stands) h h Status (Line line)
-  status_answers h line = record { may = accepted_in Status line refl refl h.mode; mode = refl; silent = λ yes. quiet geometry stands h h refl }
+  status_answers h line = record { may = accepted_in Status line refl refl h.mode; mode = refl; reads = λ no. refl; silent = λ yes. quiet geometry stands h h refl }
 
   pub thin_answers : (h : Held M) (id : ℕ) (line : List ℕ) → IsAnswered (view geometry stands) h (record h { disk = after_read true h.disk }) (ThinStatus id) (Line line)
   thin_answers h id line = record {
     may = accepted_in (ThinStatus id) line refl refl h.mode;
     mode = refl;
+    reads = λ no. refl;
     silent = λ yes. quiet geometry stands h (record h { disk = after_read true h.disk }) refl;
   }
 
-  pub thin_missed : (h new : Held M) (id : ℕ) (reason : Refusal) → is_failed h.mode ≡ false → new.mode ≡ h.mode → Missed reason
+  pub thin_missed : (h new : Held M) (id : ℕ) (reason : Refusal) → is_failed h.mode ≡ false → new.mode ≡ h.mode → moment new.disk ≡ moment h.disk → Missed reason
       → IsAnswered (view geometry stands) h new (ThinStatus id) (Refused reason)
-  thin_missed h new id reason works same one = missed geometry stands (ThinStatus id) (thin_looks_up id) h new works same reason one
+  thin_missed h new id reason works same calm one = missed geometry stands (ThinStatus id) (thin_looks_up id) h new works same calm reason one
 
   module _ (marks : M → List Bool) (room : M → ℕ) (changed : M → Bool) where
     pub status_flushes : (h : Held M) (line : List ℕ) → Flushes (served geometry stands marks room changed) h h Status (Line line)

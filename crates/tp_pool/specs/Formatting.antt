@@ -1,4 +1,4 @@
--- Internal: what a stop leaves while a pool is formatted over another one, in words of pools (own).
+-- Trusted reading: what a stop leaves while a pool is formatted over another one, in words of pools (own).
 use Rattle.std.specs.Prelude.{◌⊎◌, List}
 use Rattle.tp_model.specs.Geometry.{Geometry}
 use Rattle.tp_model.specs.Sectors.{Sector}

@@ -152,17 +152,6 @@ module _ {M : Type 0} (geometry : M → Geometry) (stands : M → DiskState → 
   abbrev pub LiesIn : Held M → ℕ → ℕ → Type 0
   LiesIn h id end = (id < 2 ^ 24) × EndsIn h id end
 
-  -- At most n more metadata blocks are in use in the one than in the other, whatever both show.
-  abbrev pub UsesAtMost : Held M → Held M → ℕ → Type 0
-  UsesAtMost old new n = (s t : PlainPool) → shows old s → shows new t → t.meta_used ≤ s.meta_used + n
-
-  -- The same, where that holds of the number of the held root; and where no root is held.
-  abbrev pub UsesWhere : (ℕ → Type 0) → Held M → Held M → ℕ → Type 0
-  UsesWhere Holds old new n = (s t : PlainPool) → shows old s → shows new t → Holds s.held_root → t.meta_used ≤ s.meta_used + n
-
-  abbrev pub UsesUnheld : Held M → Held M → ℕ → Type 0
-  UsesUnheld old new n = UsesWhere (λ root. root ≡ 0) old new n
-
   -- what is said of it but for what is changed and which blocks are free
   abbrev pub view : View (Held M)
   view = record {

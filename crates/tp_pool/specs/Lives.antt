@@ -1,4 +1,4 @@
--- Internal: a pool through any number of stops: its lives, each from an opening to a stop, and what they are of plain pools (own).
+-- Trusted reading: a pool through any number of stops: its lives, each from an opening to a stop, and what they are of plain pools (own).
 use Rattle.std.specs.Prelude.{◌≡◌, ⊤, ℕ, Bool, List, [], ◌∷◌, Option, None, Some}
 use Rattle.tp_model.specs.Geometry.{Geometry}
 use Rattle.tp_model.specs.Sectors.{Sector}

@@ -1,4 +1,4 @@
--- Internal: what a write of the pool does, block by block, and what a stop in it leaves (own).
+-- Trusted reading: what a write of the pool does, block by block, and what a stop in it leaves (own).
 use Rattle.std.specs.Prelude.{◌≡◌, ◌⊎◌, ℕ, ◌+◌, ◌-◌, ◌/◌, ◌%◌, ◌<◌, ◌≤◌, Bool, IsSome, IsTrue, true, false, ◌&&◌, ◌||◌, List, [], length, replicate, slice_index_or, Option, None, Some, if◌then◌else◌}
 use Rattle.std.specs.Option.{option_map_or}
 use Rattle.std.specs.List.{count_by, range_with_len}

@@ -5,6 +5,7 @@
 #![tactic(auto)]
 
 mod laws;
+mod managed;
 mod messages;
 mod modes;
 mod opening;

@@ -11,7 +11,7 @@ ghost use Rattle.tp_sharing.specs.Volumes.{device_of, devices_in, resized, size_
 ghost use Rattle.tp_mapping.specs.Mapping.{size_for};
 ghost use Rattle.tp_stored.specs.Contents.{Contents};
 ghost use Rattle.tp_meta.specs.Metadata.{IsAltered, StandsWith};
-ghost use Rattle.tp_pool.specs.Held.{AnswersSo, IsTried, PoolAnswered, PoolTried, UsesAtMost, UsesUnheld, UsesWhere, shows};
+ghost use Rattle.tp_pool.specs.Held.{AnswersSo, IsTried, PoolAnswered, PoolTried, shows};
 ghost use Rattle.tp_pool.specs.Flushes.{FlushesSo, HasChanged, HasFlushed};
 ghost use Rattle.tp_pool.specs.Messages.{CountsBlocks, RefusesGrown, RefusesNew, RefusesOld, SizedSo, TestedSo, blocks_of_new, create_call, grown_tests, misses_origin, new_tests, old_tests, size_verdict, with_new};
 
@@ -135,7 +135,6 @@ impl<D: Disk, M: Metadata> Pool<D, M> {
         ensures tried { IsTried self.old self.new (create_call id origin.now) result }
         ensures flushes { HasFlushed M.geometry M.stands M.marks M.room self.old self.new.disk (create_call id origin.now) }
         ensures changes { HasChanged M.changed self.old.metadata self.new.metadata (create_call id origin.now) result }
-        ensures used { OnOk result (UsesWhere M.geometry M.stands (CountsBlocks origin.now) self.old self.new (blocks_of_new origin.now)) }
         ensures held { self.new ≡ record self.old { disk = self.new.disk; metadata = self.new.metadata; mode = self.new.mode } }
         ensures geometry { M.geometry self.new.metadata ≡ M.geometry self.old.metadata }
     {
@@ -157,7 +156,6 @@ impl<D: Disk, M: Metadata> Pool<D, M> {
         ensures called { PoolAnswered M.geometry M.stands self.old self.new (CreateThin id) result }
         ensures answered { AnswersSo M.geometry M.stands self.old self.new (CreateThin id) result }
         ensures flushes { FlushesSo M.geometry M.stands M.marks M.room M.changed self.old self.new (CreateThin id) result }
-        ensures used { OnOk result (UsesAtMost M.geometry M.stands self.old self.new 8) }
         ensures held { self.new ≡ record self.old { disk = self.new.disk; metadata = self.new.metadata; mode = self.new.mode } }
         ensures geometry { M.geometry self.new.metadata ≡ M.geometry self.old.metadata }
     {
@@ -176,7 +174,6 @@ impl<D: Disk, M: Metadata> Pool<D, M> {
         ensures called { PoolAnswered M.geometry M.stands self.old self.new (CreateSnap id origin) result }
         ensures answered { AnswersSo M.geometry M.stands self.old self.new (CreateSnap id origin) result }
         ensures flushes { FlushesSo M.geometry M.stands M.marks M.room M.changed self.old self.new (CreateSnap id origin) result }
-        ensures used { OnOk result (UsesUnheld M.geometry M.stands self.old self.new 3) }
         ensures held { self.new ≡ record self.old { disk = self.new.disk; metadata = self.new.metadata; mode = self.new.mode } }
         ensures geometry { M.geometry self.new.metadata ≡ M.geometry self.old.metadata }
     {
@@ -210,7 +207,6 @@ impl<D: Disk, M: Metadata> Pool<D, M> {
         ensures tried { IsTried self.old self.new (Delete id) result }
         ensures flushes { HasFlushed M.geometry M.stands M.marks M.room self.old self.new.disk (Delete id) }
         ensures changes { HasChanged M.changed self.old.metadata self.new.metadata (Delete id) result }
-        ensures used { OnOk result (UsesUnheld M.geometry M.stands self.old self.new 0) }
         ensures held { self.new ≡ record self.old { disk = self.new.disk; metadata = self.new.metadata; mode = self.new.mode } }
         ensures geometry { M.geometry self.new.metadata ≡ M.geometry self.old.metadata }
     {
@@ -234,7 +230,6 @@ impl<D: Disk, M: Metadata> Pool<D, M> {
         ensures called { PoolAnswered M.geometry M.stands self.old self.new (Delete id) result }
         ensures answered { AnswersSo M.geometry M.stands self.old self.new (Delete id) result }
         ensures flushes { FlushesSo M.geometry M.stands M.marks M.room M.changed self.old self.new (Delete id) result }
-        ensures used { OnOk result (UsesUnheld M.geometry M.stands self.old self.new 0) }
         ensures room { result ≡ Err Refusal.NoMetadataSpace → (s : PlainPool) → shows M.geometry M.stands self.old s → s.held_root ≡ 0 → ⊥ }
         ensures held { self.new ≡ record self.old { disk = self.new.disk; metadata = self.new.metadata; mode = self.new.mode } }
         ensures geometry { M.geometry self.new.metadata ≡ M.geometry self.old.metadata }
@@ -269,7 +264,6 @@ impl<D: Disk, M: Metadata> Pool<D, M> {
         ensures tried { IsTried self.old self.new (Grow id blocks) result }
         ensures flushes { HasFlushed M.geometry M.stands M.marks M.room self.old self.new.disk (Grow id blocks) }
         ensures changes { HasChanged M.changed self.old.metadata self.new.metadata (Grow id blocks) result }
-        ensures used { OnOk result (UsesUnheld M.geometry M.stands self.old self.new 1) }
         ensures held { self.new ≡ record self.old { disk = self.new.disk; metadata = self.new.metadata; mode = self.new.mode } }
         ensures geometry { M.geometry self.new.metadata ≡ M.geometry self.old.metadata }
     {
@@ -300,7 +294,6 @@ impl<D: Disk, M: Metadata> Pool<D, M> {
         ensures called { PoolAnswered M.geometry M.stands self.old self.new (Grow id blocks) result }
         ensures answered { AnswersSo M.geometry M.stands self.old self.new (Grow id blocks) result }
         ensures flushes { FlushesSo M.geometry M.stands M.marks M.room M.changed self.old self.new (Grow id blocks) result }
-        ensures used { OnOk result (UsesUnheld M.geometry M.stands self.old self.new 1) }
         ensures held { self.new ≡ record self.old { disk = self.new.disk; metadata = self.new.metadata; mode = self.new.mode } }
         ensures geometry { M.geometry self.new.metadata ≡ M.geometry self.old.metadata }
     {
@@ -359,7 +352,6 @@ impl<D: Disk, M: Metadata> Pool<D, M> {
         ensures tried { IsTried self.old self.new ReserveMetadataSnap result }
         ensures flushes { HasFlushed M.geometry M.stands M.marks M.room self.old self.new.disk ReserveMetadataSnap }
         ensures changes { HasChanged M.changed self.old.metadata self.new.metadata ReserveMetadataSnap result }
-        ensures used { OnOk result (UsesAtMost M.geometry M.stands self.old self.new 0) }
         ensures held { self.new ≡ record self.old { disk = self.new.disk; metadata = self.new.metadata; mode = self.new.mode } }
         ensures geometry { M.geometry self.new.metadata ≡ M.geometry self.old.metadata }
     {
@@ -383,7 +375,6 @@ impl<D: Disk, M: Metadata> Pool<D, M> {
         ensures called { PoolAnswered M.geometry M.stands self.old self.new ReserveMetadataSnap result }
         ensures answered { AnswersSo M.geometry M.stands self.old self.new ReserveMetadataSnap result }
         ensures flushes { FlushesSo M.geometry M.stands M.marks M.room M.changed self.old self.new ReserveMetadataSnap result }
-        ensures used { OnOk result (UsesAtMost M.geometry M.stands self.old self.new 0) }
         ensures held { self.new ≡ record self.old { disk = self.new.disk; metadata = self.new.metadata; mode = self.new.mode } }
         ensures geometry { M.geometry self.new.metadata ≡ M.geometry self.old.metadata }
     {
@@ -401,7 +392,6 @@ impl<D: Disk, M: Metadata> Pool<D, M> {
         ensures tried { IsTried self.old self.new ReleaseMetadataSnap result }
         ensures flushes { HasFlushed M.geometry M.stands M.marks M.room self.old self.new.disk ReleaseMetadataSnap }
         ensures changes { HasChanged M.changed self.old.metadata self.new.metadata ReleaseMetadataSnap result }
-        ensures used { OnOk result (UsesAtMost M.geometry M.stands self.old self.new 0) }
         ensures held { self.new ≡ record self.old { disk = self.new.disk; metadata = self.new.metadata; mode = self.new.mode } }
         ensures geometry { M.geometry self.new.metadata ≡ M.geometry self.old.metadata }
     {
@@ -421,7 +411,6 @@ impl<D: Disk, M: Metadata> Pool<D, M> {
         ensures called { PoolAnswered M.geometry M.stands self.old self.new ReleaseMetadataSnap result }
         ensures answered { AnswersSo M.geometry M.stands self.old self.new ReleaseMetadataSnap result }
         ensures flushes { FlushesSo M.geometry M.stands M.marks M.room M.changed self.old self.new ReleaseMetadataSnap result }
-        ensures used { OnOk result (UsesAtMost M.geometry M.stands self.old self.new 0) }
         ensures room { result ≡ Err Refusal.NoMetadataSpace → ⊥ }
         ensures held { self.new ≡ record self.old { disk = self.new.disk; metadata = self.new.metadata; mode = self.new.mode } }
         ensures geometry { M.geometry self.new.metadata ≡ M.geometry self.old.metadata }

@@ -1,5 +1,5 @@
 -- Clearing the flag of a clean image, in words of what the program prints.
-use Rattle.std.proofs.Common.{◌≡◌, ◌≢◌, ◌⊎◌, ℕ, inl, inr, List, Option, Result, Ok, Err, subst, sym}
+use Rattle.std.proofs.Common.{◌≡◌, ◌≢◌, List, Result, Ok, Err, subst, sym}
 use Rattle.std.specs.Prelude.{IfErr, IsTrue, OnOk}
 use Rattle.std.proofs.lemmas.Result.{IfErr-weaker, on_ok_weaker}
 use Rattle.tp_model.specs.declared.refusal.Refusal.{Refusal}
@@ -9,6 +9,7 @@ use Rattle.tp_model.specs.Pool.{PlainPool}
 use Rattle.tp_model.specs.Refusals.{is_fault}
 use Rattle.tp_model.specs.Disk.{DiskState, FaultHasCause, IsSameDisk, IsSettled, seen}
 use Rattle.tp_model.specs.DiskStops.{LeavesOnly}
+use Rattle.tp_hub.specs.Streams.{StreamCall}
 use Rattle.tp_image.specs.Clean.{IsClean}
 use Rattle.tp_image.specs.Stands.{StandsFor}
 use Rattle.tp_stored.specs.Contents.{Contents, HoldsContents}
@@ -46,7 +47,7 @@ module _ (law : CleanStandForOpened) (old new : DiskState) (done : Result (Unit 
   }
 
 -- A check in front of it changes nothing.
-pub checked_first : (checked old new : DiskState) (told told' : Option (List ℕ)) (result : Result (Unit {0}) Refusal) → checked ≡ old → (IsTrue old.is_honest → IsClean (seen old.cells))
-    → ((IsTrue checked.is_honest → IsClean (seen checked.cells)) → PrintsCleared checked new told told' result) → PrintsCleared old new told told' result
-checked_first checked old new told told' result same clean rest =
-    subst (λ (d : DiskState). (IsTrue d.is_honest → IsClean (seen d.cells)) → PrintsCleared d new told told' result) same rest clean
+pub checked_first : (checked old new : DiskState) (calls calls' : List StreamCall) (result : Result (Unit {0}) Refusal) → checked ≡ old → (IsTrue old.is_honest → IsClean (seen old.cells))
+    → ((IsTrue checked.is_honest → IsClean (seen checked.cells)) → PrintsCleared calls calls' result checked new) → PrintsCleared calls calls' result old new
+checked_first checked old new calls calls' result same clean rest =
+    subst (λ (d : DiskState). (IsTrue d.is_honest → IsClean (seen d.cells)) → PrintsCleared calls calls' result d new) same rest clean

@@ -1,4 +1,4 @@
--- How a client is served over the first pool.
+-- The first pool.
 use Rattle.std.proofs.Common.{◌≡◌, ◌⊎◌, inl, inr, ℕ, Bool, true, false, List, [], Option, Some, None, Result, Ok, Err, refl, sym, ap, sum_by, ◌∙◌}
 use Rattle.std.specs.Prelude.{IfOk, MatchOption, MatchResult, OnOk}
 use Rattle.std.specs.Io.KnownBytes.{Keeps}
@@ -14,10 +14,6 @@ use Rattle.tp_model.specs.Disk.{DiskState}
 use Rattle.tp_meta.specs.declared.whole.Meta.{Meta}
 use Rattle.tp_meta.specs.Standing.{StandsFor, changed_of, geometry_of, marks_of, room_of}
 use Rattle.tp_holders.specs.Holders.{Holding, counts_of, holds_of}
-use Rattle.tp_served.specs.Served.{Cached, IsClosed, cached}
-use Rattle.tp_program.specs.declared.feeding.Ending.{Ending}
-use Rattle.tp_program.specs.declared.feeding.Ending.TheVariants.{EndOfInput, InputFailed, SessionOver}
-use Rattle.tp_program.specs.Serving.{IsClosedAtLast, IsEnded, Serves, ServesPool, is_written}
 
 abbrev is_done : Answer → Bool
 is_done Done = true
@@ -45,29 +41,3 @@ no_holds holders none =
 pub unheld : (holders : List Holding) → holders ≡ [] → holds_of holders ≡ empty
 unfolding counts_of
 unheld holders none = ap holds_of none
-
--- whatever else is told, the pool was closed
-pub closed_at_last : {D E : Type 0} {view : View D} (r : Result (Unit {0}) E) (pool : D) → IsEnded view pool → OnOk r (IsClosedAtLast view)
-closed_at_last (Ok x) pool ended = (pool, ended)
-closed_at_last (Err reason) pool ended = tt
-
--- a pool that was closed, in words of its view
-pub ended : (pool : Cached Meta) (disk : DiskState) (r : Result (Unit {0}) Refusal)
-    → MatchResult r (λ _. IsClosed geometry_of StandsFor marks_of room_of changed_of pool disk Done) (λ reason. IsClosed geometry_of StandsFor marks_of room_of changed_of pool disk (Refused reason))
-    → OnOk r (IsEnded (cached geometry_of StandsFor marks_of room_of changed_of) pool)
-ended pool disk (Ok x) closed = record { last = closed.new; called = closed.called; answered = closed.answered; flushes = closed.flushes }
-ended pool disk (Err reason) closed = tt
-
--- an ending at which all was written
-pub all_written : (ending : Ending) → ((ending ≡ SessionOver) ⊎ (ending ≡ EndOfInput) ⊎ (ending ≡ InputFailed)) → is_written ending ≡ true
-all_written ending (inl e) = ap is_written e
-all_written ending (inr (inl e)) = ap is_written e
-all_written ending (inr (inr e)) = ap is_written e
-
-module _ {D : Type 0} (view : View D) (pool after : D) (left left' told told' : Option (List ℕ)) where
-  -- after serving it is refused
-  pub refused_after : (fed : Result Ending Refusal) → IfOk fed (λ ending. Serves view pool left left' told told' ending after)
-      → MatchResult fed (λ _. Unit {0}) (λ reason. (reason ≡ Memory) × (after ≡ pool) × Keeps left left' × Keeps told told')
-      → (reason : Refusal) → ServesPool view pool left left' told told' (Err reason)
-  refused_after (Ok ending) serves kept reason = inr (ending, after, serves, tt)
-  refused_after (Err why) serves kept reason = inl (reason, refl, kept.2, kept.3)

@@ -1,6 +1,11 @@
 mod Failing
 pub mod First
-pub mod Serving
+mod Ending
+mod Living
+mod Asks
 mod Cleared
 mod Ends
 mod Playing
+mod Tasks
+mod Formats
+mod Deeds

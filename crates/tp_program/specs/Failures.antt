@@ -1,4 +1,4 @@
--- Of a refusal that has its cause beside it, the refusal alone.
+-- Trusted reading: of a refusal that has its cause beside it, the refusal alone.
 use Rattle.std.specs.Prelude.{Result, Ok, Err}
 use Rattle.tp_model.specs.declared.refusal.Refusal.{Refusal}
 use Rattle.tp_program.specs.declared.failure.Failure.{Failure}

@@ -1,6 +1,12 @@
 pub mod Failures
 pub mod First
 pub mod Images
+pub mod Lives
+pub mod Living
+pub mod Opening
+pub mod Playing
+pub mod Printing
 pub mod Scripts
 pub mod Serving
 pub mod Statuses
+pub mod Tasks

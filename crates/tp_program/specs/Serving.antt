@@ -1,78 +1,77 @@
--- Trusted reading: what is read and written where a client is served from a reader, its answers going to a writer.
-use Rattle.std.specs.Prelude.{◌≡◌, ◌⊎◌, ℕ, Bool, true, false, List, [], ◌++◌, OnOk, Option, Result, Err}
-use Rattle.std.specs.Io.KnownBytes.{Consumes, IsAtEnd, Keeps}
+-- Trusted reading: what serving one client over the pool of a disk is, and many; and how it is told (own).
+use Rattle.std.specs.Prelude.{◌≡◌, ◌⊎◌, ℕ, ◌≤◌, nat_lt, if◌then◌else◌, List, [], ◌∷◌, Some, Result, Ok, Err}
 use Rattle.tp_model.specs.declared.refusal.Refusal.{Refusal}
-use Rattle.tp_model.specs.Calls.{Close, Done}
-use Rattle.tp_model.specs.Clauses.{Called, Flushes, IsAnswered, View}
-use Rattle.nbd_wire.specs.Replies.{greeting}
-use Rattle.nbd_session.specs.declared.phase.Phase.{Phase}
-use Rattle.nbd_session.specs.declared.phase.Phase.TheVariants.{Flags, Ended}
-use Rattle.nbd_session.specs.Session.{State, state}
-use Rattle.nbd_session.specs.Clauses.{Feeds, Leaves}
-use Rattle.tp_lines.specs.Writing.{Writes}
-use Rattle.tp_program.specs.declared.feeding.Ending.{Ending}
-use Rattle.tp_program.specs.declared.feeding.Ending.TheVariants.{SessionOver, EndOfInput, InputFailed, OutputFailed}
+use Rattle.tp_model.specs.declared.refusal.Refusal.TheVariants.{Fault, Memory, SessionInUse}
+use Rattle.tp_model.specs.Disk.{DiskState}
+use Rattle.tp_hub.specs.Told.{Told}
+use Rattle.tp_hub.specs.Desks.{Exchange}
+use Rattle.tp_hub.specs.Carrying.{IsCarried}
+use Rattle.tp_hub.specs.Streams.{Makes, StreamCall}
+use Rattle.tp_hub.specs.declared.client.Carried.{Carried}
+use Rattle.tp_hub.specs.declared.client.Carried.TheVariants.{EndOfInput, InUse, InputFailed, LastLost, NoMemory, OutputFailed, SessionOver}
+use Rattle.tp_images.specs.Deeds.{Deed, OnImage, Refuses}
+use Rattle.tp_images.specs.declared.way.Way.TheVariants.{ToWrite}
+use Rattle.tp_program.specs.Lives.{IsFirstLife, IsLifeOn, closing_of}
+use Rattle.tp_program.specs.Opening.{IsRefusedOn}
 
-abbrev pub is_written : Ending → Bool
-is_written SessionOver = true
-is_written EndOfInput = true
-is_written InputFailed = true
-is_written OutputFailed = false
+-- ---- how it is told
 
--- Bytes that were read are lost only where the writer failed. A session that is over has ended, and at the end of the
--- input the reader has no more.
-abbrev pub Stops : Ending → List ℕ → Phase → Option (List ℕ) → Type 0
-Stops SessionOver lost phase left = (lost ≡ []) × (phase ≡ Ended)
-Stops EndOfInput lost phase left = (lost ≡ []) × IsAtEnd left
-Stops InputFailed lost phase left = lost ≡ []
-Stops OutputFailed lost phase left = Unit {0}
+-- how a client ended
+abbrev pub told_of : Carried → Result (Unit {0}) Refusal
+told_of NoMemory = Err Memory
+told_of InUse = Err SessionInUse
+told_of SessionOver = Ok (tt {0})
+told_of LastLost = Err Fault
+told_of EndOfInput = Ok (tt {0})
+told_of InputFailed = Ok (tt {0})
+told_of OutputFailed = Err Fault
 
--- outline: a pool's geometry, mode and holds. shows: the plain pools of which it shows the state. failures: how many calls of
--- its disk have failed.
-module _ {D : Type 0} (view : View D) where
-  -- A piece is answered, or a beginning of it where the writer failed.
-  pub record Answers (old : State) (pool : D) (piece : List ℕ) (told told' : Option (List ℕ)) (all : Bool) (new : State) (after : D) : Type 0 where
-    pub fed : List ℕ
-    pub lost : List ℕ
-    pub sent : List ℕ
-    pub piece_is : piece ≡ fed ++ lost
-    pub feeds : Feeds view old pool fed [] sent new after
-    pub wrote : Writes told told' sent all
-    pub none_lost : all ≡ true → lost ≡ []
+-- so many clients were wanted, so many came, and so many of them were refused memory or a thread
+abbrev pub told_of_clients : ℕ → ℕ → ℕ → Result (Unit {0}) Refusal
+told_of_clients wanted came refused = if nat_lt came wanted then Err Fault else (if nat_lt 0 refused then Err Memory else Ok (tt {0}))
 
-  -- What is read is answered, piece after piece, after what was sent before. left: the bytes that the reader has left.
-  -- told: those that the writer holds.
-  pub record Listens (old : State) (pool : D) (before : List ℕ) (left left' told told' : Option (List ℕ)) (ending : Ending) (new : State) (after : D) : Type 0 where
-    pub fed : List ℕ
-    pub lost : List ℕ
-    pub sent : List ℕ
-    pub read : Consumes left left' (fed ++ lost)
-    pub feeds : Feeds view old pool fed before sent new after
-    pub wrote : Writes told told' sent (is_written ending)
-    pub stops : Stops ending lost new.phase left'
+-- that closing is refused is told first
+abbrev pub told_behind : Result (Unit {0}) Refusal → Result (Unit {0}) Refusal → Result (Unit {0}) Refusal
+told_behind (Ok done) told = told
+told_behind (Err reason) told = Err reason
 
-  -- One client, from the greeting to the end of its session: what is written is the greeting and the answers to what was
-  -- read, or a beginning of that where the writer failed. At the end the session lets its volume go.
-  pub record Serves (pool : D) (left left' told told' : Option (List ℕ)) (ending : Ending) (after : D) : Type 0 where
-    pub last : State
-    pub mid : D
-    pub listens : Listens (state Flags []) pool greeting left left' told told' ending last mid
-    pub leaves : Leaves view last.phase mid after
-    pub geometry : (view.outline after).geometry ≡ (view.outline pool).geometry
+-- ---- one client
 
-  -- The pool was closed, which keeps all that was done.
-  pub record IsEnded (pool : D) : Type 0 where
-    pub last : D
-    pub called : Called view pool last Close Done
-    pub answered : IsAnswered view pool last Close Done
-    pub flushes : Flushes view pool last Close Done
+-- There was no memory for what is read, and nothing was asked, read or written; or the client of the stream was carried by a hub as its session 0.
+abbrev pub IsFed : List Exchange → List StreamCall → List StreamCall → Carried → Type 0
+IsFed asks calls calls' ending =
+    ((asks ≡ []) × (calls' ≡ calls) × (ending ≡ NoMemory)) ⊎ ((out : Told) × Makes calls calls' (λ did. IsCarried 0 out asks did ending))
 
-  -- Some pool was closed, behind whatever clients had of it.
-  abbrev pub IsClosedAtLast : Type 0
-  IsClosedAtLast = (pool : D) × IsEnded pool
+-- The pool of a disk was opened, one client was served by a hub of its own over it, and it was closed; or it was not opened, and nothing was read or written.
+abbrev pub FeedsOn : List StreamCall → List StreamCall → Result (Unit {0}) Refusal → DiskState → DiskState → Type 0
+FeedsOn calls calls' result before after =
+    ((reason : Refusal) × (result ≡ Err reason) × IsRefusedOn before after reason × (calls' ≡ calls))
+    ⊎ ((asks : List Exchange) × (ending : Carried) × (closing : Result (Unit {0}) Refusal) × IsFed asks calls calls' ending
+    × (result ≡ told_behind closing (told_of ending)) × IsLifeOn before after asks (Some (closing_of closing)))
 
-  -- Nothing was read or written; or one client was served, and where that is not refused, all answers were written and the pool was closed.
-  abbrev pub ServesPool : D → Option (List ℕ) → Option (List ℕ) → Option (List ℕ) → Option (List ℕ) → Result (Unit {0}) Refusal → Type 0
-  ServesPool pool left left' told told' result =
-      ((reason : Refusal) × (result ≡ Err reason) × Keeps left left' × Keeps told told')
-      ⊎ ((ending : Ending) × (after : D) × Serves pool left left' told told' ending after × OnOk result ((is_written ending ≡ true) × IsEnded after))
+-- The same of the image of a name, which was opened to write; or it was not, which is a fault, and nothing was read or written.
+abbrev pub FeedsImage : List ℕ → List Deed → List Deed → List StreamCall → List StreamCall → Result (Unit {0}) Refusal → Type 0
+FeedsImage name old new calls calls' result =
+    ((new ≡ Refuses ToWrite name ∷ old) × (result ≡ Err Fault) × (calls' ≡ calls)) ⊎ OnImage ToWrite name old new (FeedsOn calls calls' result)
+
+-- The same of the pool in memory; or it was not made.
+abbrev pub FeedsFirst : List StreamCall → List StreamCall → Result (Unit {0}) Refusal → Type 0
+FeedsFirst calls calls' result =
+    ((reason : Refusal) × (result ≡ Err reason) × (calls' ≡ calls))
+    ⊎ ((asks : List Exchange) × (ending : Carried) × (closing : Result (Unit {0}) Refusal) × IsFed asks calls calls' ending
+    × (result ≡ told_behind closing (told_of ending)) × IsFirstLife asks (Some (closing_of closing)))
+
+-- ---- many clients
+
+-- The pool of a disk was opened, a hub over it was asked by clients and control lines, and it was closed; or it was opened, but its clients could not be waited for, which is a
+-- fault, and the disk is as it was; or it was not opened. No more came than were wanted, and that all was done is told only where as many came, and none of them was refused.
+abbrev pub ServesOn : ℕ → Result (Unit {0}) Refusal → DiskState → DiskState → Type 0
+ServesOn wanted result before after =
+    ((reason : Refusal) × (result ≡ Err reason) × IsRefusedOn before after reason)
+    ⊎ ((result ≡ Err Fault) × (after ≡ before))
+    ⊎ ((asks : List Exchange) × (came : ℕ) × (refused : ℕ) × (closing : Result (Unit {0}) Refusal) × (came ≤ wanted) × (refused ≤ came)
+    × (result ≡ told_behind closing (told_of_clients wanted came refused)) × IsLifeOn before after asks (Some (closing_of closing)))
+
+-- The same of the image of a name, which was opened to write; or it was not, which is a fault.
+abbrev pub ServesImage : List ℕ → ℕ → List Deed → List Deed → Result (Unit {0}) Refusal → Type 0
+ServesImage name wanted old new result = ((new ≡ Refuses ToWrite name ∷ old) × (result ≡ Err Fault)) ⊎ OnImage ToWrite name old new (ServesOn wanted result)

@@ -1,16 +1,21 @@
-//! Who types `format` is asked before a file is destroyed.
+//! Who types `format` is asked before an image is destroyed.
 
-use crate::failure::{Cause, Failure};
-use crate::images::open_image_to_read;
-use std::alloc::Global;
-use std::fs::{self, File};
-use std::io::{Read, Write};
-use std::rt::Files;
+ghost use Rattle.std.specs.Prelude.{◌≡◌, IfOk, IsTrue, length};
+ghost use Rattle.tp_model.specs.DiskStops.{moment};
+ghost use Rattle.tp_disk.specs.HandedOut.{IsHandedOut};
+ghost use Rattle.tp_hub.specs.Streams.{Makes};
+ghost use Rattle.tp_served.specs.Served.{disk_of};
+ghost use Rattle.tp_program.specs.Tasks.{IsAgreed, LooksInto, SaysYes};
+
+use crate::opening::open_pool;
+use std::alloc::{AllocError, Global};
+use std::io::Write;
 use tp_cache::ReadCache;
-use tp_disk::FileDisk;
-use tp_lines::{Taken, take_some};
+use tp_disk::{Disk, TellsTrouble};
+use tp_hub::{Received, Stream};
+use tp_images::Images;
 use tp_meta::Meta;
-use tp_model::{DevId, Refusal};
+use tp_model::DevId;
 use tp_served::Served;
 
 /// The most bytes of an answer that are looked at.
@@ -19,7 +24,7 @@ const ANSWER: usize = 16;
 /// A pool has at most so many volumes.
 const MOST_VOLUMES: u32 = 65_536;
 
-/// What a file holds that is to be overwritten.
+/// What an image holds that is to be overwritten.
 #[derive(Clone, Copy, Debug, PartialEq, Eq)]
 enum Held {
     /// A pool with so many volumes.
@@ -29,7 +34,9 @@ enum Held {
 }
 
 /// How many volumes a pool has, if its disk tells.
-fn count_volumes(pool: &mut Served<ReadCache<FileDisk>, Meta>) -> Option<u64> {
+fn count_volumes<D: Disk + Drop>(pool: &mut Served<ReadCache<D>, Meta>) -> Option<u64>
+    ensures { moment (disk_of pool.new) ≡ moment (disk_of pool.old) }
+{
     let mut next = Some(DevId::new(0));
     for count in 0..=MOST_VOLUMES {
         let Some(from) = next else {
@@ -44,81 +51,121 @@ fn count_volumes(pool: &mut Served<ReadCache<FileDisk>, Meta>) -> Option<u64> {
     None
 }
 
-/// The bytes of a file that has some.
-fn bytes_of<F: Files<File = File>>(files: &F, path: &str) -> Option<Held> {
-    match fs::metadata(files, path) {
-        Ok(found) if found.len() > 0 => Some(Held::Bytes(found.len())),
+/// How many volumes the pool of a disk has, if there is one and its disk tells.
+fn count_on<D: Disk + TellsTrouble + Drop>(alloc: Global, disk: D) -> (D, Option<u64>)
+    requires { IsHandedOut (D.state disk) }
+    ensures { moment (D.state result.0) ≡ moment (D.state disk) }
+{
+    match open_pool(alloc, disk) {
+        Ok(mut pool) => {
+            let count = count_volumes(&mut pool);
+            (pool.into_disk(), count)
+        }
+        Err((_, disk)) => (disk, None),
+    }
+}
+
+/// The bytes of an image that has some.
+fn bytes_of<I: Images>(images: &I, name: &str) -> Option<Held> {
+    match images.length(name) {
+        Some(length) if length > 0 => Some(Held::Bytes(length)),
         _ => None,
     }
 }
 
-/// What a file holds that a format would destroy. Nothing where it is absent or empty, and where it would be refused, as one in use.
-fn look_into<F: Files<File = File>>(files: &F, alloc: Global, path: &str) -> Option<Held> {
-    match open_image_to_read(files, alloc, path) {
-        Ok(mut pool) => match count_volumes(&mut pool) {
-            Some(count) => Some(Held::Pool(count)),
-            None => bytes_of(files, path),
-        },
-        Err(
-            Failure {
-                cause: Cause::Image(_),
-                ..
-            },
-        ) => None,
-        Err(_) => bytes_of(files, path),
+/// The volumes of an image whose pool has so many, or else its bytes.
+fn held_of<I: Images>(images: &I, name: &str, count: Option<u64>) -> Option<Held> {
+    match count {
+        Some(count) => Some(Held::Pool(count)),
+        None => bytes_of(images, name),
+    }
+}
+
+/// What an image holds that a format would destroy. Nothing where it is absent or empty, and where it would be refused, as one in use.
+fn look_into<I: Images>(images: &mut I, alloc: Global, name: &str) -> Option<Held>
+    ensures { LooksInto name.now (I.deeds images.old) (I.deeds images.new) }
+{
+    match images.open_to_read(name) {
+        Ok(disk) => {
+            let (disk, count) = count_on(alloc, disk);
+            images.close(name, disk);
+            held_of(images, name, count)
+        }
+        Err(_) => None,
     }
 }
 
 /// Whether a line is `yes`.
-fn is_yes(line: &[u8]) -> bool {
+fn is_yes(line: &[u8]) -> bool
+    ensures { IsTrue result → SaysYes line.now }
+{
     line == b"yes\n".as_slice() || line == b"yes".as_slice() || line == b"yes\r\n".as_slice()
 }
 
+/// So many zero bytes.
+fn zeroes(alloc: Global, len: usize) -> Result<Vec<u8>, AllocError>
+    ensures { IfOk result (λ v. length v.items ≡ len) }
+{
+    vec![in alloc; 0u8; len]
+}
+
 /// Whether a terminal's next line, which one read gives, is `yes`.
-fn says_yes<R: Read>(input: &mut R) -> bool {
-    let mut line = [0; ANSWER];
-    match take_some(input, &mut line) {
-        Taken::Bytes(count) => is_yes(&line[..count]),
-        Taken::End | Taken::Failed => false,
+fn says_yes<S: Stream>(alloc: Global, stream: &mut S) -> bool
+    ensures { IsTrue result → Makes (S.calls stream.old) (S.calls stream.new) IsAgreed }
+{
+    let Ok(mut line) = zeroes(alloc, ANSWER) else {
+        return false;
+    };
+    match stream.receive(&mut line) {
+        Received::Got(count) => is_yes(&line[..count]),
+        Received::NotNow | Received::End | Received::Broken => false,
     }
 }
 
-/// Asks on `errors` whether what a file holds is to be destroyed, and reads the answer. It is refused unless that is `yes`; where there is nothing to
-/// destroy nobody is asked.
-pub(crate) fn ask_to_destroy<F: Files<File = File>, R: Read, E: Write>(
-    files: &F,
-    alloc: Global,
-    path: &str,
-    input: &mut R,
-    errors: &mut E,
-) -> Result<(), Failure> {
-    let asked = match look_into(files, alloc, path) {
-        None => return Ok(()),
-        Some(Held::Pool(1)) => {
+/// Asks whether what an image holds is to be destroyed.
+fn ask<E: Write>(held: Held, name: &str, errors: &mut E) -> bool {
+    let asked = match held {
+        Held::Pool(1) => {
             write!(
                 errors,
-                "thinpool: {path} holds a pool with 1 volume; type yes to destroy it: "
+                "thinpool: {name} holds a pool with 1 volume; type yes to destroy it: "
             )
         }
-        Some(Held::Pool(count)) => {
+        Held::Pool(count) => {
             write!(
                 errors,
-                "thinpool: {path} holds a pool with {count} volumes; type yes to destroy it: "
+                "thinpool: {name} holds a pool with {count} volumes; type yes to destroy it: "
             )
         }
-        Some(Held::Bytes(count)) => {
+        Held::Bytes(count) => {
             write!(
                 errors,
-                "thinpool: {path} holds {count} bytes that are no pool; type yes to destroy them: "
+                "thinpool: {name} holds {count} bytes that are no pool; type yes to destroy them: "
             )
         }
     };
-    if asked.is_ok() && says_yes(input) {
-        Ok(())
-    } else {
-        Err(Failure {
-            refusal: Refusal::Exists,
-            cause: Cause::Declined,
-        })
+    asked.is_ok()
+}
+
+/// Asks on `errors` whether what an image holds is to be destroyed, and tells whether the answer is `yes`. Where there is nothing to destroy nobody is asked.
+pub(crate) fn may_destroy<I: Images, S: Stream, E: Write>(
+    images: &mut I,
+    alloc: Global,
+    name: &str,
+    stream: &mut S,
+    errors: &mut E,
+) -> bool
+    ensures looks { LooksInto name.now (I.deeds images.old) (I.deeds images.new) }
+    ensures agreed { IsTrue result → Makes (S.calls stream.old) (S.calls stream.new) IsAgreed }
+{
+    match look_into(images, alloc, name) {
+        None => true,
+        Some(held) => {
+            if ask(held, name, errors) {
+                says_yes(alloc, stream)
+            } else {
+                false
+            }
+        }
     }
 }

@@ -7,9 +7,9 @@ ghost use Rattle.tp_program.specs.Images.{Clears, PrintsCleared};
 
 use crate::telling::print_line;
 use std::alloc::Global;
-use std::io::Write;
 use tp_check::check;
 use tp_disk::Disk;
+use tp_hub::Stream;
 use tp_meta::Meta;
 use tp_model::Refusal;
 use tp_pool::Pool;
@@ -25,30 +25,30 @@ fn clear<D: Disk>(alloc: Global, disk: &mut D) -> Result<(), Refusal>
 
 /// Checks the image on a disk and, where it is clean, keeps its pool as one that wants no check, and then prints `clean`. What is not
 /// clean is not written.
-pub fn tell_cleared<D: Disk, W: Write>(
+pub fn tell_cleared<D: Disk, S: Stream>(
     alloc: Global,
     disk: &mut D,
-    output: &mut W,
+    stream: &mut S,
 ) -> Result<(), Refusal>
-    ensures { PrintsCleared (D.state disk.old) (D.state disk.new) (W.contents output.old) (W.contents output.new) result }
+    ensures { PrintsCleared (S.calls stream.old) (S.calls stream.new) result (D.state disk.old) (D.state disk.new) }
 {
     match check(alloc, disk) {
-        Ok(()) => print_cleared(alloc, disk, output),
+        Ok(()) => print_cleared(alloc, disk, stream),
         Err(error) => Err(error.refusal()),
     }
 }
 
 /// Keeps the pool of a clean image as one that wants no check, and then prints `clean`.
-fn print_cleared<D: Disk, W: Write>(
+fn print_cleared<D: Disk, S: Stream>(
     alloc: Global,
     disk: &mut D,
-    output: &mut W,
+    stream: &mut S,
 ) -> Result<(), Refusal>
     ensures { (IsTrue (D.state disk.old).is_honest → IsClean (seen (D.state disk.old).cells))
-        → PrintsCleared (D.state disk.old) (D.state disk.new) (W.contents output.old) (W.contents output.new) result }
+        → PrintsCleared (S.calls stream.old) (S.calls stream.new) result (D.state disk.old) (D.state disk.new) }
 {
     match clear(alloc, disk) {
-        Ok(()) => print_line(output, b"clean"),
+        Ok(()) => print_line(stream, b"clean"),
         Err(reason) => Err(reason),
     }
 }

@@ -1,27 +1,28 @@
 //! Clients of a TCP address over the pool of an image, which is then closed, and beside them control lines from another address.
 
-ghost use Rattle.std.specs.Prelude.{◌≡◌, ◌⊎◌, ◌<◌, ◌≤◌, IfOk, MatchResult, OnOk, is_some};
+ghost use Rattle.std.specs.Prelude.{◌≡◌, ◌≤◌, IfErr, IfOk, is_some};
 ghost use Rattle.std.specs.FinMap.{empty};
-ghost use Rattle.tp_meta.specs.Standing.{StandsFor, changed_of, geometry_of, marks_of, room_of};
+ghost use Rattle.tp_crowd.specs.Locked.{CameOf};
+ghost use Rattle.tp_disk.specs.HandedOut.{IsHandedOut};
 ghost use Rattle.tp_holders.specs.Holders.{holds_of};
-ghost use Rattle.tp_served.specs.Served.{cached};
-ghost use Rattle.tp_program.specs.Serving.{IsClosedAtLast};
+ghost use Rattle.tp_program.specs.Failures.{number_of};
+ghost use Rattle.tp_program.specs.Living.{ServesPool};
+ghost use Rattle.tp_program.specs.Serving.{ServesImage, ServesOn, told_of_clients};
 
-use crate::closing::finish;
+use crate::closing::{behind, end_hub};
 use crate::failure::{Cause, Failure};
-use crate::images::open_image;
+use crate::opening::open_pool;
 use std::alloc::Global;
-use std::fs::File;
 use std::io::Write;
 use std::net::{Net, TcpListener, TcpStream};
-use std::rt::Files;
 use std::sync::{Mutex, Wait};
 use std::thread::Threads;
 use std::time::Clock;
 use tp_cache::ReadCache;
 use tp_crowd::{Alarm, serve_listener, serve_listener_with_control};
-use tp_disk::FileDisk;
+use tp_disk::{SharedDisk, TellsTrouble};
 use tp_hub::Hub;
+use tp_images::Images;
 use tp_meta::Meta;
 use tp_model::{Refusal, SharedVolumes};
 use tp_msg::Managed;
@@ -56,9 +57,7 @@ fn tell_failed_pool<E: Write>(errors: &mut E) {
 /// Why serving clients was refused though the pool was closed: an accept failed, so that fewer came, which is a fault; or some of those who came were refused
 /// memory or a thread.
 fn refused_after(came: u8, wanted: u8, refused: u64) -> Result<(), Failure>
-    ensures { MatchResult result
-        (λ _. (wanted ≤ came) × (refused ≡ 0))
-        (λ why. ((came < wanted) × (why.refusal ≡ Refusal.Fault)) ⊎ ((wanted ≤ came) × (why.refusal ≡ Refusal.Memory))) }
+    ensures { number_of result ≡ told_of_clients wanted came refused }
 {
     if came < wanted {
         return Err(Failure::fault(Cause::Accept(came)));
@@ -86,7 +85,7 @@ where
     R: Threads + Wait + Clock + Sync,
     V: Managed + SharedVolumes + Send + Sync,
     A: Alarm + Sync,
-    ensures came { result.came ≤ 64 }
+    ensures asked { CameOf V.view hub result.hub }
     ensures offered { result.came ≤ count }
     ensures refused { result.refused ≤ result.came }
 {
@@ -99,22 +98,23 @@ where
     }
 }
 
-/// Serves so many clients of a listener over a pool, each from when it is accepted, and then closes the pool. That closing is refused is told first, then that an
-/// accept failed, and then that a client was refused memory or a thread. How the clients' sessions end is no refusal, and nothing that the control side does is.
-/// That the pool fails is told when it does, and at the end closing is refused.
-fn serve_pool_on<R, E>(
+/// Serves so many clients of a listener over a pool, each from when it is accepted, closes the pool, and hands its disk back. That closing is refused is told first, then
+/// that an accept failed, and then that a client was refused memory or a thread. How the clients' sessions end is no refusal, and nothing that the control side does
+/// is. That the pool fails is told when it does, and at the end closing is refused.
+fn serve_pool<R, D, E>(
     rt: &R,
     alloc: Global,
-    pool: Served<ReadCache<FileDisk>, Meta>,
+    pool: Served<ReadCache<D>, Meta>,
     listeners: Listeners,
     clients: u8,
     errors: &mut E,
-) -> Result<(), Failure>
+) -> (D, Result<(), Failure>)
 where
     R: Threads + Wait + Clock + Sync,
+    D: SharedDisk + TellsTrouble + Drop + Send + Sync,
     E: Write + Send,
     requires { holds_of pool.besides.holders ≡ empty }
-    ensures { OnOk result (IsClosedAtLast (cached geometry_of StandsFor marks_of room_of changed_of)) }
+    ensures { ServesPool pool clients (number_of result.1) (D.state result.0) }
 {
     let alarm = Errors {
         rt,
@@ -122,15 +122,17 @@ where
     };
     let served = serve_hub(rt, alloc, Hub::new(pool), listeners, clients, &alarm);
     let tp_crowd::Served { hub, came, refused } = served;
-    finish(hub.into_pool())?;
-    refused_after(came, clients, refused)
+    let (disk, closed) = end_hub(hub);
+    (disk, behind(closed, refused_after(came, clients, refused)))
 }
 
 /// Binds the address of clients: `Fault` where the system refuses it.
 fn bind<N: Net<Listener = TcpListener, Stream = TcpStream>>(
     net: &N,
     address: &str,
-) -> Result<TcpListener, Failure> {
+) -> Result<TcpListener, Failure>
+    ensures { IfErr result (λ why. why.refusal ≡ Refusal.Fault) }
+{
     match TcpListener::bind(net, address) {
         Ok(listener) => Ok(listener),
         Err(error) => Err(Failure::fault(Cause::Address(error))),
@@ -142,7 +144,8 @@ fn bind_control<N: Net<Listener = TcpListener, Stream = TcpStream>>(
     net: &N,
     address: Option<&str>,
 ) -> Result<Option<TcpListener>, Failure>
-    ensures { IfOk result (λ listener. is_some listener ≡ is_some address.entry) }
+    ensures some { IfOk result (λ listener. is_some listener ≡ is_some address.entry) }
+    ensures fault { IfErr result (λ why. why.refusal ≡ Refusal.Fault) }
 {
     let Some(address) = address else {
         return Ok(None);
@@ -154,7 +157,9 @@ fn bind_control<N: Net<Listener = TcpListener, Stream = TcpStream>>(
 }
 
 /// Tells where a listener listens, and for what: with port 0 the system picked one.
-fn tell_where<E: Write>(listener: &TcpListener, what: &str, errors: &mut E) -> Result<(), Failure> {
+fn tell_where<E: Write>(listener: &TcpListener, what: &str, errors: &mut E) -> Result<(), Failure>
+    ensures { IfErr result (λ why. why.refusal ≡ Refusal.Fault) }
+{
     let bound = match listener.local_addr() {
         Ok(bound) => bound,
         Err(error) => return Err(Failure::fault(Cause::Address(error))),
@@ -164,7 +169,9 @@ fn tell_where<E: Write>(listener: &TcpListener, what: &str, errors: &mut E) -> R
 }
 
 /// Tells where clients are waited for, and then where control lines are, if they are.
-fn tell_listeners<E: Write>(listeners: &Listeners, errors: &mut E) -> Result<(), Failure> {
+fn tell_listeners<E: Write>(listeners: &Listeners, errors: &mut E) -> Result<(), Failure>
+    ensures { IfErr result (λ why. why.refusal ≡ Refusal.Fault) }
+{
     tell_where(&listeners.clients, "listening", errors)?;
     match &listeners.control {
         None => Ok(()),
@@ -179,7 +186,8 @@ fn listen<N: Net<Listener = TcpListener, Stream = TcpStream>, E: Write>(
     control: Option<&str>,
     errors: &mut E,
 ) -> Result<Listeners, Failure>
-    ensures { IfOk result (λ listeners. is_some listeners.control ≡ is_some control.entry) }
+    ensures control { IfOk result (λ listeners. is_some listeners.control ≡ is_some control.entry) }
+    ensures fault { IfErr result (λ why. why.refusal ≡ Refusal.Fault) }
 {
     let clients = bind(net, address)?;
     let control = bind_control(net, control)?;
@@ -188,28 +196,57 @@ fn listen<N: Net<Listener = TcpListener, Stream = TcpStream>, E: Write>(
     Ok(listeners)
 }
 
-/// Serves so many clients of a TCP address over the pool of an image, and then closes the pool; meanwhile it answers the lines of those who come to the
-/// control address, where there is one. The image is opened before the addresses are bound.
-pub fn serve_image<R, E>(
+/// Serves so many clients of a TCP address over the pool of a disk, which is handed back. The pool is opened before the addresses are bound.
+fn serve_disk<R, D, E>(
     rt: &R,
     alloc: Global,
-    path: &str,
+    disk: D,
+    address: &str,
+    clients: u8,
+    control: Option<&str>,
+    errors: &mut E,
+) -> (D, Result<(), Failure>)
+where
+    R: Net<Listener = TcpListener, Stream = TcpStream> + Threads + Wait + Clock + Sync,
+    D: SharedDisk + TellsTrouble + Drop + Send + Sync,
+    E: Write + Send,
+    requires { IsHandedOut (D.state disk) }
+    ensures { ServesOn clients (number_of result.1) (D.state disk) (D.state result.0) }
+{
+    let pool = match open_pool(alloc, disk) {
+        Ok(pool) => pool,
+        Err((why, disk)) => return (disk, Err(why)),
+    };
+    match listen(rt, address, control, errors) {
+        Ok(listeners) => serve_pool(rt, alloc, pool, listeners, clients, errors),
+        Err(why) => (pool.into_disk(), Err(why)),
+    }
+}
+
+/// Serves so many clients of a TCP address over the pool of an image, and then closes the pool; meanwhile it answers the lines of those who come to the
+/// control address, where there is one. The image is opened before the addresses are bound.
+pub fn serve_image<R, I, E>(
+    rt: &R,
+    images: &mut I,
+    alloc: Global,
+    name: &str,
     address: &str,
     clients: u8,
     control: Option<&str>,
     errors: &mut E,
 ) -> Result<(), Failure>
 where
-    R: Files<File = File>
-        + Net<Listener = TcpListener, Stream = TcpStream>
-        + Threads
-        + Wait
-        + Clock
-        + Sync,
+    R: Net<Listener = TcpListener, Stream = TcpStream> + Threads + Wait + Clock + Sync,
+    I: Images,
     E: Write + Send,
-    ensures { OnOk result (IsClosedAtLast (cached geometry_of StandsFor marks_of room_of changed_of)) }
+    ensures { ServesImage name.now clients (I.deeds images.old) (I.deeds images.new) (number_of result) }
 {
-    let pool = open_image(rt, alloc, path)?;
-    let listeners = listen(rt, address, control, errors)?;
-    serve_pool_on(rt, alloc, pool, listeners, clients, errors)
+    match images.open(name) {
+        Ok(disk) => {
+            let (disk, served) = serve_disk(rt, alloc, disk, address, clients, control, errors);
+            images.close(name, disk);
+            served
+        }
+        Err(error) => Err(Failure::unopened(error)),
+    }
 }

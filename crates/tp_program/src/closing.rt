@@ -1,50 +1,60 @@
-//! One client over a pool that is then closed.
+//! How a pool, or the hub over it, is ended, and its disk handed back.
 
-ghost use Rattle.std.specs.Prelude.{◌≡◌, OnOk};
-ghost use Rattle.tp_model.specs.Pool.{hold_total};
-ghost use Rattle.tp_meta.specs.Standing.{StandsFor, changed_of, geometry_of, marks_of, room_of};
-ghost use Rattle.tp_holders.specs.Holders.{holds_of};
-ghost use Rattle.tp_served.specs.Served.{cached};
+ghost use Rattle.std.specs.Prelude.{◌≡◌, None, OnOk, Some};
+ghost use Rattle.tp_model.specs.Pool.{PlainPool};
+ghost use Rattle.tp_model.specs.Disk.{IsSettled};
+ghost use Rattle.tp_meta.specs.Standing.{StandsFor, geometry_of};
+ghost use Rattle.tp_pool.specs.Held.{shows};
+ghost use Rattle.tp_served.specs.Served.{on_cache};
 ghost use Rattle.tp_program.specs.Failures.{number_of};
-ghost use Rattle.tp_program.specs.Serving.{IsEnded, ServesPool};
+ghost use Rattle.tp_program.specs.Lives.{HandsBack, closing_of};
+ghost use Rattle.tp_program.specs.Living.{IsOfClosing, IsOver};
+ghost use Rattle.tp_program.specs.Serving.{told_behind};
 
-use crate::failure::{Cause, Failure, TellsTrouble, because};
-use crate::feeding::{Ending, feed};
-use std::alloc::Global;
-use std::io::{Read, Write};
+use crate::failure::{Failure, because};
 use tp_cache::ReadCache;
-use tp_disk::Disk;
+use tp_disk::{Disk, TellsTrouble};
+use tp_hub::Hub;
 use tp_meta::Meta;
 use tp_served::Served;
 
-/// Closes a pool, and lets its disk go.
-pub fn finish<D: Disk + TellsTrouble + Drop>(
+/// Closes a pool, and hands its disk back.
+pub(crate) fn finish<D: Disk + TellsTrouble + Drop>(
     pool: Served<ReadCache<D>, Meta>,
-) -> Result<(), Failure>
-    ensures { OnOk result (IsEnded (cached geometry_of StandsFor marks_of room_of changed_of) pool) }
+) -> (D, Result<(), Failure>)
+    ensures back { HandsBack pool (Some (closing_of (number_of result.1))) (D.state result.0) }
+    ensures settled { OnOk result.1 ((s : PlainPool) → shows geometry_of StandsFor (on_cache pool) s → IsSettled (D.state result.0).cells) }
+    ensures known { IsOfClosing (Some (closing_of (number_of result.1))) }
 {
     let (answer, disk) = pool.close();
-    because(&disk, answer)
+    let told = because(&disk, answer);
+    (disk, told)
 }
 
-/// Serves one client over a pool, and then closes the pool. That closing is refused is told first, then that the buffers
-/// are, and that the writer failed, which is a fault. A read that fails is no refusal: it is taken as the client's hangup, as
-/// the end of the input is.
-pub fn serve_pool<D: Disk + TellsTrouble + Drop, R: Read, W: Write>(
-    alloc: Global,
-    pool: Served<ReadCache<D>, Meta>,
-    input: &mut R,
-    output: &mut W,
-) -> Result<(), Failure>
-    requires { hold_total (holds_of pool.besides.holders) ≡ 0 }
-    ensures { ServesPool (cached geometry_of StandsFor marks_of room_of changed_of) pool (R.remaining input.old) (R.remaining input.new) (W.contents output.old) (W.contents output.new) (number_of result) }
+/// Ends all sessions of a hub, closes its pool, and hands the disk back.
+pub(crate) fn end_hub<D: Disk + TellsTrouble + Drop>(
+    hub: Hub<Served<ReadCache<D>, Meta>>,
+) -> (D, Result<(), Failure>)
+    ensures { IsOver hub (Some (closing_of (number_of result.1))) (D.state result.0) }
 {
-    let mut pool = pool;
-    let fed = feed(alloc, &mut pool, input, output);
-    let closed = finish(pool);
-    closed?;
-    match fed? {
-        Ending::OutputFailed => Err(Failure::fault(Cause::Output)),
-        Ending::SessionOver | Ending::EndOfInput | Ending::InputFailed => Ok(()),
+    finish(hub.into_pool())
+}
+
+/// Ends all sessions of a hub, and hands the disk back as it is then: the pool is not closed.
+pub(crate) fn leave_hub<D: Disk + TellsTrouble + Drop>(hub: Hub<Served<ReadCache<D>, Meta>>) -> D
+    ensures { IsOver hub None (D.state result) }
+{
+    let pool = hub.into_pool();
+    pool.facts();
+    pool.into_disk()
+}
+
+/// What is told behind closing: that it is refused first.
+pub(crate) fn behind(closed: Result<(), Failure>, told: Result<(), Failure>) -> Result<(), Failure>
+    ensures { number_of result ≡ told_behind (number_of closed) (number_of told) }
+{
+    match closed {
+        Ok(()) => told,
+        Err(why) => Err(why),
     }
 }

@@ -4,7 +4,7 @@ ghost use Rattle.std.specs.Prelude.{◌≡◌};
 ghost use Rattle.tp_program.specs.Failures.{number_of};
 
 use std::io;
-use tp_disk::{FileDisk, MemDisk, OpenError, Trouble};
+use tp_disk::{OpenError, TellsTrouble, Trouble};
 use tp_model::Refusal;
 
 /// Why a task was refused: by which number, and what is known of its cause.
@@ -95,24 +95,6 @@ fn cause_of(refusal: Refusal, trouble: Option<Trouble>) -> Cause {
             Refusal::Fault => Cause::Output,
             _ => Cause::Meaning,
         },
-    }
-}
-
-/// A disk that tells what the system said of the last call that failed.
-pub trait TellsTrouble {
-    fn trouble(&self) -> Option<Trouble>;
-}
-
-impl TellsTrouble for FileDisk {
-    fn trouble(&self) -> Option<Trouble> {
-        FileDisk::trouble(self)
-    }
-}
-
-/// No system stands below it.
-impl TellsTrouble for MemDisk {
-    fn trouble(&self) -> Option<Trouble> {
-        None
     }
 }
 

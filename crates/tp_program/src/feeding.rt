@@ -1,76 +1,32 @@
-//! One client, from a reader and to a writer.
+//! One client over the pool of an image, or over one in memory, which is then closed.
 
-ghost use Rattle.std.specs.Prelude.{◌≡◌, ◌<◌, [], length, IfOk, MatchResult};
-ghost use Rattle.std.specs.Io.KnownBytes.{Keeps};
-ghost use Rattle.tp_model.specs.Pool.{hold_total};
-ghost use Rattle.nbd_wire.specs.Replies.{greeting};
-ghost use Rattle.nbd_session.specs.Clauses.{IsReady};
-ghost use Rattle.tp_program.specs.Serving.{Answers, Listens, Serves};
+ghost use Rattle.std.specs.Prelude.{◌≡◌, IfOk, List, Some, length};
+ghost use Rattle.std.specs.FinMap.{empty};
+ghost use Rattle.tp_disk.specs.HandedOut.{IsHandedOut};
+ghost use Rattle.tp_holders.specs.Holders.{holds_of};
+ghost use Rattle.tp_hub.specs.Desks.{AreAsked, Exchange};
+ghost use Rattle.tp_hub.specs.Serve.{HubRuns};
+ghost use Rattle.tp_program.specs.Failures.{number_of};
+ghost use Rattle.tp_program.specs.Living.{FeedsPool};
+ghost use Rattle.tp_program.specs.Serving.{FeedsFirst, FeedsImage, FeedsOn, IsFed, told_of};
 
-use nbd_session::{Phase, Session};
+use crate::closing::{behind, end_hub};
+use crate::failure::{Cause, Failure};
+use crate::fresh::fresh_pool;
+use crate::opening::open_pool;
+use crate::table::Table;
 use std::alloc::{AllocError, Global};
-use std::io::{Read, Write};
-use tp_lines::{Taken, put, send, take_some};
-use tp_model::{Refusal, Volumes};
+use tp_cache::ReadCache;
+use tp_disk::{Disk, TellsTrouble};
+use tp_hub::{Answers, Carried, Hub, Stream, carry};
+use tp_images::Images;
+use tp_meta::Meta;
+use tp_model::Refusal;
+use tp_msg::Managed;
+use tp_served::Served;
 
 /// The most bytes that are read at once.
 const PIECE: usize = 262_144;
-
-/// How serving a client ended.
-#[derive(Clone, Copy, Debug, PartialEq, Eq)]
-pub enum Ending {
-    /// The session ended.
-    SessionOver,
-    /// The reader has no more bytes.
-    EndOfInput,
-    /// A read failed, or there were 2^64 - 1 of them: the client is taken to have hung up.
-    InputFailed,
-    /// A write or a flush failed.
-    OutputFailed,
-}
-
-/// Serves one client over the volumes of a pool: writes the greeting, reads to the end of the session or of the input,
-/// and writes the answers, flushed once for each piece that was read. At the end the session lets its volume go.
-///
-/// `Memory` where the buffers are refused; nothing is read or written then.
-pub fn feed<V: Volumes, R: Read, W: Write>(
-    alloc: Global,
-    pool: &mut V,
-    input: &mut R,
-    output: &mut W,
-) -> Result<Ending, Refusal>
-    requires { hold_total (V.view.outline pool.old).holds < 64 }
-    ensures serves { IfOk result (λ ending. Serves V.view pool.old (R.remaining input.old) (R.remaining input.new) (W.contents output.old) (W.contents output.new) ending pool.new) }
-    ensures refused { MatchResult result (λ _. Unit {0}) (λ reason. (reason ≡ Refusal.Memory) × (pool.new ≡ pool.old)
-        × Keeps (R.remaining input.old) (R.remaining input.new) × Keeps (W.contents output.old) (W.contents output.new)) }
-{
-    let mut session = Session::open(alloc)?;
-    let Ok(mut buffer) = zeroes(alloc, PIECE) else {
-        return Err(Refusal::Memory);
-    };
-    let ending = attend(&mut session, pool, input, output, &mut buffer);
-    session.leave(pool);
-    Ok(ending)
-}
-
-/// Greets, and then reads and answers.
-fn attend<V: Volumes, R: Read, W: Write>(
-    session: &mut Session,
-    pool: &mut V,
-    input: &mut R,
-    output: &mut W,
-    buffer: &mut [u8],
-) -> Ending
-    requires room { 0 < length buffer.old }
-    requires ready { IsReady session.old.phase (V.view.outline pool.old) (V.view.more pool.old) }
-    ensures { Listens V.view session.old pool.old greeting (R.remaining input.old) (R.remaining input.new) (W.contents output.old) (W.contents output.new) result session.new pool.new }
-{
-    let _ = session.phase();
-    if !send(output, session.greeting()) {
-        return Ending::OutputFailed;
-    }
-    listen(session, pool, input, output, buffer)
-}
 
 /// So many zero bytes.
 fn zeroes(alloc: Global, len: usize) -> Result<Vec<u8>, AllocError>
@@ -79,54 +35,90 @@ fn zeroes(alloc: Global, len: usize) -> Result<Vec<u8>, AllocError>
     vec![in alloc; 0u8; len]
 }
 
-/// Takes steps to the end of a piece and writes each answer, or tells that the writer failed.
-fn answer<V: Volumes, W: Write>(
-    session: &mut Session,
-    pool: &mut V,
-    piece: &[u8],
-    output: &mut W,
-) -> bool
-    requires { IsReady session.old.phase (V.view.outline pool.old) (V.view.more pool.old) }
-    ensures { Answers V.view session.old pool.old piece.now (W.contents output.old) (W.contents output.new) result session.new pool.new }
+/// Serves one client over a hub, and gives the hub back. Where there is no memory for what is read, nothing is done.
+fn feed_hub<V: Managed, S: Stream>(alloc: Global, hub: Hub<V>, stream: &mut S) -> (Hub<V>, Carried)
+    ensures { (asks : List Exchange) × AreAsked (HubRuns V.view) hub asks result.0 × IsFed asks (S.calls stream.old) (S.calls stream.new) result.1 }
 {
-    let _ = session.phase();
-    let mut at = 0;
-    while at < piece.len() {
-        let step = session.step(pool, &piece[at..]);
-        let is_written = put(output, step.sent);
-        at += step.taken;
-        if !is_written {
-            return false;
-        }
-    }
-    output.flush().is_ok()
+    let Ok(mut buffer) = zeroes(alloc, PIECE) else {
+        return (hub, Carried::NoMemory);
+    };
+    let mut out = Answers::new(alloc);
+    let mut table = Table { alloc, hub };
+    let ending = carry(&mut table, 0, stream, &mut buffer, &mut out);
+    let Table { alloc: _, hub } = table;
+    (hub, ending)
 }
 
-/// Reads and answers, until the session or the input ends, or one of them fails.
-fn listen<V: Volumes, R: Read, W: Write>(
-    session: &mut Session,
-    pool: &mut V,
-    input: &mut R,
-    output: &mut W,
-    buffer: &mut [u8],
-) -> Ending
-    requires room { 0 < length buffer.old }
-    requires ready { IsReady session.old.phase (V.view.outline pool.old) (V.view.more pool.old) }
-    ensures { Listens V.view session.old pool.old [] (R.remaining input.old) (R.remaining input.new) (W.contents output.old) (W.contents output.new) result session.new pool.new }
+/// How a client's end is told. A read that fails is no refusal: it is taken as the client's hangup, as the end of the input is.
+fn told(ending: Carried) -> Result<(), Failure>
+    ensures { number_of result ≡ told_of ending }
 {
-    let _ = session.phase();
-    for _ in 0..u64::MAX {
-        let count = match take_some(input, buffer) {
-            Taken::Bytes(count) => count,
-            Taken::End => return Ending::EndOfInput,
-            Taken::Failed => return Ending::InputFailed,
-        };
-        if !answer(session, pool, &buffer[..count], output) {
-            return Ending::OutputFailed;
-        }
-        if let Phase::Ended = session.phase() {
-            return Ending::SessionOver;
-        }
+    match ending {
+        Carried::SessionOver | Carried::EndOfInput | Carried::InputFailed => Ok(()),
+        Carried::LastLost | Carried::OutputFailed => Err(Failure::fault(Cause::Output)),
+        Carried::NoMemory => Err(Failure::from(Refusal::Memory)),
+        Carried::InUse => Err(Failure::from(Refusal::SessionInUse)),
     }
-    Ending::InputFailed
+}
+
+/// Serves one client over a pool, closes it, and hands its disk back.
+fn feed_pool<D: Disk + TellsTrouble + Drop, S: Stream>(
+    alloc: Global,
+    pool: Served<ReadCache<D>, Meta>,
+    stream: &mut S,
+) -> (D, Result<(), Failure>)
+    requires { holds_of pool.besides.holders ≡ empty }
+    ensures { FeedsPool pool (S.calls stream.old) (S.calls stream.new) (number_of result.1) (D.state result.0) }
+{
+    let (hub, ending) = feed_hub(alloc, Hub::new(pool), stream);
+    let (disk, closed) = end_hub(hub);
+    (disk, behind(closed, told(ending)))
+}
+
+/// Serves one client over the pool of a disk, which is handed back.
+fn feed_disk<D: Disk + TellsTrouble + Drop, S: Stream>(
+    alloc: Global,
+    disk: D,
+    stream: &mut S,
+) -> (D, Result<(), Failure>)
+    requires { IsHandedOut (D.state disk) }
+    ensures { FeedsOn (S.calls stream.old) (S.calls stream.new) (number_of result.1) (D.state disk) (D.state result.0) }
+{
+    match open_pool(alloc, disk) {
+        Ok(pool) => feed_pool(alloc, pool, stream),
+        Err((why, disk)) => (disk, Err(why)),
+    }
+}
+
+/// Serves one client over the pool of an image, and then closes the pool. That closing is refused is told first, then that a buffer is, and that the stream
+/// took no answers, which is a fault.
+pub fn feed_image<I: Images, S: Stream>(
+    images: &mut I,
+    alloc: Global,
+    name: &str,
+    stream: &mut S,
+) -> Result<(), Failure>
+    ensures { FeedsImage name.now (I.deeds images.old) (I.deeds images.new) (S.calls stream.old) (S.calls stream.new) (number_of result) }
+{
+    match images.open(name) {
+        Ok(disk) => {
+            let (disk, fed) = feed_disk(alloc, disk, stream);
+            images.close(name, disk);
+            fed
+        }
+        Err(error) => Err(Failure::unopened(error)),
+    }
+}
+
+/// The same over a fresh pool in memory.
+pub fn feed_fresh<S: Stream>(alloc: Global, stream: &mut S) -> Result<(), Failure>
+    ensures { FeedsFirst (S.calls stream.old) (S.calls stream.new) (number_of result) }
+{
+    match fresh_pool(alloc) {
+        Ok(pool) => {
+            let (_, fed) = feed_pool(alloc, pool, stream);
+            fed
+        }
+        Err(reason) => Err(Failure::from(reason)),
+    }
 }

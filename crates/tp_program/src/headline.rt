@@ -1,13 +1,21 @@
 //! The headline, for the pool that is stored on a disk, and for the one on caches that the program uses.
 
-ghost use Rattle.std.specs.Prelude.{List};
+ghost use Rattle.std.specs.Prelude.{◌≡◌, List, [], Option};
 ghost use Rattle.tp_model.specs.Sectors.{Sector};
 ghost use Rattle.tp_model.specs.Pool.{PlainPool};
+ghost use Rattle.tp_model.specs.Calls.{Answer};
+ghost use Rattle.tp_model.specs.PoolStops.{MayBeLeftSince, reopened};
+ghost use Rattle.tp_model.specs.Clauses.{events_of};
+ghost use Rattle.tp_model.specs.Disk.{DiskState, seen};
 ghost use Rattle.tp_image.specs.Stands.{StandsFor};
 ghost use Rattle.tp_pool.specs.Flushes.{served};
 ghost use Rattle.tp_pool.specs.Held.{Held, IsSomePool};
 ghost use Rattle.tp_served.specs.Served.{Cached, cached};
 ghost use Rattle.nbd_session.specs.Turns.{AreLives, AreRuns, Life};
+ghost use Rattle.tp_hub.specs.Serving.{Slots};
+ghost use Rattle.tp_hub.specs.Desks.{Exchange};
+ghost use Rattle.tp_images.specs.Deeds.{IsLeftBy};
+ghost use Rattle.tp_program.specs.Lives.{IsFoundAs, IsKept, IsPlainLife};
 
 use nbd_session::lives_are_runs;
 use tp_disk::Disk;
@@ -40,3 +48,14 @@ pub fn served_pools_are_plain<D: Disk + Drop, M: Metadata + Drop>()
 {
     lives_are_runs::<Served<D, M>>();
 }
+
+/// From one call of the program to the next, where the disk of an image was given back honest and is opened as `Images` promises: as it was given back, or as a
+/// stop left it then.
+pub fn images_go_on()
+    // The image is opened as a pool that may be found behind the life of the plain pool that was lived on it.
+    ensures found { (s : PlainPool) (begun ended : Slots) (asks : List Exchange) (answer : Option Answer) (before after disk : DiskState)
+        → (life : IsPlainLife s begun ended asks answer before after) → IsLeftBy after disk
+        → IsFoundAs (MayBeLeftSince (λ S. ⊥) s [] (events_of life.over.trace)) (seen disk.cells) }
+    // Where closing was done, as the pool at its end and no other.
+    ensures kept { (s : PlainPool) (shut disk : DiskState) → IsKept s shut → IsLeftBy shut disk → IsFoundAs (λ P. P ≡ reopened s) (seen disk.cells) }
+{}

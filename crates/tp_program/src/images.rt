@@ -1,62 +1,115 @@
-//! The programs over image files.
+//! The commands on one image: status lines, messages, new pools and checks.
 
-ghost use Rattle.std.specs.Prelude.{◌≡◌, ◌↔◌, IfErr, IfOk, IsOk};
-ghost use Rattle.tp_model.specs.Geometry.{IsWithinLimits};
+ghost use Rattle.std.specs.Prelude.{◌≡◌, ◌↔◌, ◌≤◌, IfErr, IfOk, IsOk, Some, ℕ};
+ghost use Rattle.tp_model.specs.Geometry.{IsWithinLimits, sectors_of_image};
+ghost use Rattle.tp_disk.specs.HandedOut.{IsHandedOut};
+ghost use Rattle.tp_images.specs.declared.way.Way.TheVariants.{ToMake};
+ghost use Rattle.tp_served.specs.Served.{disk_of};
 ghost use Rattle.tp_program.specs.Failures.{number_of};
-ghost use Rattle.tp_disk.specs.File.{IsUntouched, file_state};
-ghost use Rattle.tp_program.specs.Images.{IsChecked, IsCleared, IsFormatted, IsFromFile, IsMessageGiven, IsStatusTold, ServesImage, sizes_asked};
+ghost use Rattle.tp_program.specs.Images.{FormatsOn, GivesOn, IsChecked, IsCleared, IsFormatted, IsMessageGiven, IsStatusTold, OnName, PrintsCheck, PrintsCleared, TellsOn, sizes_asked};
 
 use crate::caches::ROOM;
 use crate::clearing::tell_cleared;
-use crate::closing::serve_pool;
 use crate::failure::{Failure, because};
+use crate::opening::open_pool;
 use crate::telling::{give_line, print_status, tell_check, tell_status};
 use std::alloc::Global;
-use std::fs::File;
-use std::io::{Read, Write};
-use std::rt::Files;
 use tp_cache::ReadCache;
-use tp_disk::FileDisk;
+use tp_disk::{Disk, TellsTrouble};
+use tp_hub::Stream;
+use tp_images::Images;
 use tp_meta::Meta;
 use tp_model::{DevId, Geometry, Refusal};
 use tp_served::Served;
 use tp_words::Sizes;
 
-/// The pool on a disk over a file.
-fn open_pool(alloc: Global, disk: FileDisk) -> Result<Served<ReadCache<FileDisk>, Meta>, Failure>
-    requires { IsUntouched (file_state disk) }
-    ensures { IfOk result (λ pool. IsFromFile pool) }
+/// The disk of a pool that is let go as it is, and what is told, with the cause of a refusal.
+fn hand_back<D: Disk + TellsTrouble + Drop>(
+    pool: Served<ReadCache<D>, Meta>,
+    told: Result<(), Refusal>,
+) -> (D, Result<(), Failure>)
+    ensures disk { D.state result.0 ≡ disk_of pool }
+    ensures told { number_of result.1 ≡ told }
 {
-    match Served::open(alloc, disk, ROOM) {
-        Ok(pool) => Ok(pool),
-        Err((refusal, disk)) => Err(Failure::on_disk(refusal, disk.trouble())),
+    let disk = pool.into_disk();
+    let told = because(&disk, told);
+    (disk, told)
+}
+
+/// Prints the status line of the pool of a disk, or of one of its volumes.
+fn tell_status_on<D: Disk + TellsTrouble + Drop, S: Stream>(
+    alloc: Global,
+    disk: D,
+    id: Option<DevId>,
+    stream: &mut S,
+) -> (D, Result<(), Failure>)
+    requires { IsHandedOut (D.state disk) }
+    ensures { TellsOn id (S.calls stream.old) (S.calls stream.new) (number_of result.1) (D.state disk) (D.state result.0) }
+{
+    match open_pool(alloc, disk) {
+        Ok(mut pool) => {
+            let told = tell_status(&mut pool, id, stream);
+            hand_back(pool, told)
+        }
+        Err((why, disk)) => (disk, Err(why)),
     }
 }
 
-/// The pool of an image: `Fault` where the system refuses the file.
-pub fn open_image<F: Files<File = File>>(
-    files: &F,
+/// Prints the status line of the pool of an image, or of one of its volumes. The image is opened to read alone.
+pub fn status_of_image<I: Images, S: Stream>(
+    images: &mut I,
     alloc: Global,
-    path: &str,
-) -> Result<Served<ReadCache<FileDisk>, Meta>, Failure>
-    ensures { IfOk result (λ pool. IsFromFile pool) }
+    name: &str,
+    id: Option<DevId>,
+    stream: &mut S,
+) -> Result<(), Failure>
+    ensures { IsStatusTold name.now id (I.deeds images.old) (I.deeds images.new) (S.calls stream.old) (S.calls stream.new) (number_of result) }
 {
-    match FileDisk::open(files, path) {
-        Ok(disk) => open_pool(alloc, disk),
+    match images.open_to_read(name) {
+        Ok(disk) => {
+            let (disk, told) = tell_status_on(alloc, disk, id, stream);
+            images.close(name, disk);
+            told
+        }
         Err(error) => Err(Failure::unopened(error)),
     }
 }
 
-/// The same by the file's shared lock and without the right to write it, for what writes nothing.
-pub(crate) fn open_image_to_read<F: Files<File = File>>(
-    files: &F,
+/// Gives the pool of a disk the message of a line, and prints `ok` where it is accepted. The pool is opened before the line is read.
+fn give_line_on<D: Disk + TellsTrouble + Drop, S: Stream>(
     alloc: Global,
-    path: &str,
-) -> Result<Served<ReadCache<FileDisk>, Meta>, Failure>
-    ensures { IfOk result (λ pool. IsFromFile pool) }
+    disk: D,
+    line: &str,
+    stream: &mut S,
+) -> (D, Result<(), Failure>)
+    requires { IsHandedOut (D.state disk) }
+    ensures { GivesOn line.now (S.calls stream.old) (S.calls stream.new) (number_of result.1) (D.state disk) (D.state result.0) }
 {
-    match FileDisk::open_to_read(files, path) {
-        Ok(disk) => open_pool(alloc, disk),
+    match open_pool(alloc, disk) {
+        Ok(mut pool) => {
+            let told = give_line(&mut pool, line, stream);
+            hand_back(pool, told)
+        }
+        Err((why, disk)) => (disk, Err(why)),
+    }
+}
+
+/// Gives the pool of an image the message of a line, and prints `ok` where it is accepted. The image is opened before the line is read.
+pub fn message_to_image<I: Images, S: Stream>(
+    images: &mut I,
+    alloc: Global,
+    name: &str,
+    line: &str,
+    stream: &mut S,
+) -> Result<(), Failure>
+    ensures { IsMessageGiven name.now line.now (I.deeds images.old) (I.deeds images.new) (S.calls stream.old) (S.calls stream.new) (number_of result) }
+{
+    match images.open(name) {
+        Ok(disk) => {
+            let (disk, told) = give_line_on(alloc, disk, line, stream);
+            images.close(name, disk);
+            told
+        }
         Err(error) => Err(Failure::unopened(error)),
     }
 }
@@ -75,35 +128,70 @@ pub(crate) fn geometry_of(sizes: &Sizes) -> Result<Geometry, Refusal>
     )
 }
 
-/// Makes a file the image of an empty pool, and prints its status line. Sizes that are out of their limits are refused before the
-/// file is touched; the file has the image's size from then on, also where formatting is refused.
-pub fn format_image<F: Files<File = File>, W: Write>(
-    files: &F,
+/// Makes a disk that of an empty pool, and prints the pool's status line.
+fn format_on<D: Disk + TellsTrouble + Drop, S: Stream>(
     alloc: Global,
-    path: &str,
-    sizes: &Sizes,
-    output: &mut W,
-) -> Result<(), Failure>
-    ensures { IsFormatted sizes.now (W.contents output.old) (W.contents output.new) (number_of result) }
+    disk: D,
+    geometry: Geometry,
+    stream: &mut S,
+) -> (D, Result<(), Failure>)
+    requires { (D.state disk).size ≡ sectors_of_image geometry }
+    ensures { FormatsOn geometry (S.calls stream.old) (S.calls stream.new) (number_of result.1) (D.state disk) (D.state result.0) }
 {
-    let geometry = geometry_of(sizes)?;
-    let disk = match FileDisk::create(files, path, geometry.image_sectors()) {
-        Ok(disk) => disk,
-        Err(error) => return Err(Failure::unopened(error)),
-    };
     match Served::format(alloc, disk, geometry, ROOM) {
         Ok(mut pool) => {
-            let told = print_status(&mut pool, output);
-            because(pool.disk(), told)
+            let told = print_status(&mut pool, stream);
+            hand_back(pool, told)
         }
-        Err((refusal, disk)) => Err(Failure::on_disk(refusal, disk.trouble())),
+        Err((refusal, disk)) => {
+            let why = Failure::on_disk(refusal, disk.trouble());
+            (disk, Err(why))
+        }
+    }
+}
+
+/// Makes an image that of an empty pool, and prints the pool's status line.
+fn format_sized<I: Images, S: Stream>(
+    images: &mut I,
+    alloc: Global,
+    name: &str,
+    geometry: Geometry,
+    stream: &mut S,
+) -> Result<(), Failure>
+    ensures { OnName ToMake name.now (I.deeds images.old) (I.deeds images.new) (S.calls stream.old) (S.calls stream.new) (number_of result)
+        (FormatsOn geometry (S.calls stream.old) (S.calls stream.new) (number_of result)) }
+{
+    match images.create(name, geometry.image_sectors()) {
+        Ok(disk) => {
+            let (disk, told) = format_on(alloc, disk, geometry, stream);
+            images.close(name, disk);
+            told
+        }
+        Err(error) => Err(Failure::unopened(error)),
+    }
+}
+
+/// Makes an image that of an empty pool, and prints the pool's status line. Sizes that are out of their limits are refused before the image is touched; it has the
+/// size that is asked for from then on, also where formatting is refused.
+pub fn format_image<I: Images, S: Stream>(
+    images: &mut I,
+    alloc: Global,
+    name: &str,
+    sizes: &Sizes,
+    stream: &mut S,
+) -> Result<(), Failure>
+    ensures { IsFormatted name.now sizes.now (I.deeds images.old) (I.deeds images.new) (S.calls stream.old) (S.calls stream.new) (number_of result) }
+{
+    match geometry_of(sizes) {
+        Ok(geometry) => format_sized(images, alloc, name, geometry, stream),
+        Err(reason) => Err(Failure::from(reason)),
     }
 }
 
 /// The volume of which a status is asked, or `BadDeviceId`.
 pub fn volume_asked(id: Option<u64>) -> Result<Option<DevId>, Refusal>
     ensures asked { IfOk result (λ asked. asked ≡ id) }
-    ensures refused { IfErr result (λ reason. reason ≡ Refusal.BadDeviceId) }
+    ensures refused { IfErr result (λ reason. (reason ≡ Refusal.BadDeviceId) × (number : ℕ) × (id ≡ Some number) × (16777216 ≤ number)) }
 {
     match id {
         None => Ok(None),
@@ -114,81 +202,67 @@ pub fn volume_asked(id: Option<u64>) -> Result<Option<DevId>, Refusal>
     }
 }
 
-/// Prints the status line of the pool of an image, or of one of its volumes. The file is opened to read alone.
-pub fn status_of_image<F: Files<File = File>, W: Write>(
-    files: &F,
+/// Checks the image on a disk, and prints `clean` where it is clean.
+fn check_on<D: Disk + TellsTrouble, S: Stream>(
     alloc: Global,
-    path: &str,
-    id: Option<DevId>,
-    output: &mut W,
-) -> Result<(), Failure>
-    ensures { IsStatusTold id (W.contents output.old) (W.contents output.new) (number_of result) }
+    mut disk: D,
+    stream: &mut S,
+) -> (D, Result<(), Failure>)
+    ensures { PrintsCheck (S.calls stream.old) (S.calls stream.new) (number_of result.1) (D.state disk) (D.state result.0) }
 {
-    let mut pool = open_image_to_read(files, alloc, path)?;
-    let told = tell_status(&mut pool, id, output);
-    because(pool.disk(), told)
+    let told = tell_check(alloc, &mut disk, stream);
+    let told = because(&disk, told);
+    (disk, told)
 }
 
-/// Checks the image in a file, and prints `clean` where it is clean. The file is opened to read alone.
-pub fn check_image<F: Files<File = File>, W: Write>(
-    files: &F,
+/// Checks an image, and prints `clean` where it is clean. The image is opened to read alone.
+pub fn check_image<I: Images, S: Stream>(
+    images: &mut I,
     alloc: Global,
-    path: &str,
-    output: &mut W,
+    name: &str,
+    stream: &mut S,
 ) -> Result<(), Failure>
-    ensures { IsChecked (W.contents output.old) (W.contents output.new) (number_of result) }
+    ensures { IsChecked name.now (I.deeds images.old) (I.deeds images.new) (S.calls stream.old) (S.calls stream.new) (number_of result) }
 {
-    let mut disk = match FileDisk::open_to_read(files, path) {
-        Ok(disk) => disk,
-        Err(error) => return Err(Failure::unopened(error)),
-    };
-    let told = tell_check(alloc, &mut disk, output);
-    because(&disk, told)
+    match images.open_to_read(name) {
+        Ok(disk) => {
+            let (disk, told) = check_on(alloc, disk, stream);
+            images.close(name, disk);
+            told
+        }
+        Err(error) => Err(Failure::unopened(error)),
+    }
 }
 
-/// Checks the image in a file and, where it is clean, keeps its pool as one that wants no check, and then prints `clean`. What is not
-/// clean is not written. The file is opened to write.
-pub fn clear_image<F: Files<File = File>, W: Write>(
-    files: &F,
+/// Checks the image on a disk and, where it is clean, keeps its pool as one that wants no check, and then prints `clean`.
+fn clear_on<D: Disk + TellsTrouble, S: Stream>(
     alloc: Global,
-    path: &str,
-    output: &mut W,
-) -> Result<(), Failure>
-    ensures { IsCleared (W.contents output.old) (W.contents output.new) (number_of result) }
+    mut disk: D,
+    stream: &mut S,
+) -> (D, Result<(), Failure>)
+    ensures { PrintsCleared (S.calls stream.old) (S.calls stream.new) (number_of result.1) (D.state disk) (D.state result.0) }
 {
-    let mut disk = match FileDisk::open(files, path) {
-        Ok(disk) => disk,
-        Err(error) => return Err(Failure::unopened(error)),
-    };
-    let told = tell_cleared(alloc, &mut disk, output);
-    because(&disk, told)
+    let told = tell_cleared(alloc, &mut disk, stream);
+    let told = because(&disk, told);
+    (disk, told)
 }
 
-/// Gives the pool of an image the message of a line, and prints `ok` where it is accepted. The image is opened before the line is read.
-pub fn message_to_image<F: Files<File = File>, W: Write>(
-    files: &F,
+/// Checks an image and, where it is clean, keeps its pool as one that wants no check, and then prints `clean`. What is not clean is not written. The image is
+/// opened to write.
+pub fn clear_image<I: Images, S: Stream>(
+    images: &mut I,
     alloc: Global,
-    path: &str,
-    line: &str,
-    output: &mut W,
+    name: &str,
+    stream: &mut S,
 ) -> Result<(), Failure>
-    ensures { IsMessageGiven line.now (W.contents output.old) (W.contents output.new) (number_of result) }
+    ensures { IsCleared name.now (I.deeds images.old) (I.deeds images.new) (S.calls stream.old) (S.calls stream.new) (number_of result) }
 {
-    let mut pool = open_image(files, alloc, path)?;
-    let given = give_line(&mut pool, line, output);
-    because(pool.disk(), given)
-}
-
-/// Serves one client over the pool of an image, and then closes the pool, as `feed_fresh` does.
-pub fn feed_image<F: Files<File = File>, R: Read, W: Write>(
-    files: &F,
-    alloc: Global,
-    path: &str,
-    input: &mut R,
-    output: &mut W,
-) -> Result<(), Failure>
-    ensures { ServesImage (R.remaining input.old) (R.remaining input.new) (W.contents output.old) (W.contents output.new) (number_of result) }
-{
-    let pool = open_image(files, alloc, path)?;
-    serve_pool(alloc, pool, input, output)
+    match images.open(name) {
+        Ok(disk) => {
+            let (disk, told) = clear_on(alloc, disk, stream);
+            images.close(name, disk);
+            told
+        }
+        Err(error) => Err(Failure::unopened(error)),
+    }
 }

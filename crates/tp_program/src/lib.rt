@@ -1,6 +1,6 @@
-//! The programs of a thin pool, over image files and one in memory: what the words of a command line ask for, and how it is done.
+//! The programs of a thin pool, over images and one pool in memory: what the words of a command line ask for, and how it is done.
 //!
-//! [`program`] does it, over a reader and two writers that its caller gives. `thinpool` is that with the system's words and streams.
+//! [`program`] does it, over images, a reader and two writers that its caller gives. `thinpool` is that with the system's words, streams and files.
 #![tactic(auto)]
 
 mod asking;
@@ -14,9 +14,11 @@ mod feeding;
 mod fresh;
 pub mod headline;
 mod images;
+mod opening;
 mod programs;
 mod scripts;
 mod streams;
+mod table;
 mod telling;
 
 pub use programs::{Status, program, without_streams, without_words};

@@ -1,30 +1,39 @@
 //! The program, over a reader and two writers.
 
-ghost use Rattle.std.specs.Prelude.{◌≡◌, IfErr, map};
+ghost use Rattle.std.specs.Prelude.{◌≡◌, ◌&&◌, IfNone, IfSome, List, MatchBool, [], map};
+ghost use Rattle.tp_hub.specs.Streams.{StreamCall};
+ghost use Rattle.tp_lines.specs.Pipes.{IsPiped};
 ghost use Rattle.tp_words.specs.CommandLine.{IsScript};
-ghost use Rattle.tp_program.specs.Scripts.{IsBadLine};
+ghost use Rattle.tp_words.specs.declared.task.Task.TheVariants.{Play};
+ghost use Rattle.tp_program.specs.Failures.{number_of};
+ghost use Rattle.tp_program.specs.Images.{IsChecked, IsCleared, IsFormatted};
 ghost use Rattle.tp_program.specs.Statuses.{EndsBy, status_after, status_code, status_of, status_without};
+ghost use Rattle.tp_program.specs.Tasks.{AsksStatus, Does, DoesOn, Feeds, FormatsAsked, Performs, Plays, PlaysFile, plain_of};
 
-use crate::asking::ask_to_destroy;
+use crate::asking::may_destroy;
 use crate::clients::serve_image;
 use crate::explaining::Explanation;
-use crate::failure::Failure;
-use crate::fresh::feed_fresh;
+use crate::failure::{Cause, Failure};
+use crate::feeding::{feed_fresh, feed_image};
 use crate::images::{
-    check_image, clear_image, feed_image, format_image, geometry_of, message_to_image,
-    status_of_image, volume_asked,
+    check_image, clear_image, format_image, geometry_of, message_to_image, status_of_image,
+    volume_asked,
 };
-use crate::scripts::{Unplayed, play};
+use crate::scripts::{Unplayed, play_fresh, play_image};
 use crate::streams::Terminals;
 use std::alloc::Global;
 use std::convert::AsStr;
 use std::fs::File;
 use std::io::{self, Read, Write};
+use std::marker::Brand;
 use std::net::{Net, TcpListener, TcpStream};
 use std::rt::Files;
 use std::sync::Wait;
 use std::thread::Threads;
 use std::time::Clock;
+use tp_hub::Stream;
+use tp_images::Images;
+use tp_lines::{Begins, Ends, Piped};
 use tp_model::Refusal;
 use tp_words::{Image, NoWords, Sizes, Task, Unread, command};
 
@@ -52,11 +61,12 @@ impl Status {
     }
 }
 
-/// Does what the words ask for, on the files and the sockets of a system. Help goes to `output`, what is wrong with the words, where clients
+/// Does what the words ask for, on images, and on the scripts and the sockets of a system. Help goes to `output`, what is wrong with the words, where clients
 /// are waited for, that the pool fails while they are served and why the task was refused to `errors`: the number and name of a refusal on a line, and where that
 /// is a terminal, or the words ask for it, what that means here on a second one.
-pub fn program<S: AsStr, F, R: Read, W: Write, E>(
-    files: &F,
+pub fn program<S: AsStr, F, I: Images, R: Read, W: Write, E>(
+    system: &F,
+    images: &mut I,
     alloc: Global,
     words: &[S],
     terminals: Terminals,
@@ -72,11 +82,15 @@ where
         + Clock
         + Sync,
     E: Write + Send,
-    ensures { EndsBy (map S.text words.now) result }
+    ensures ends { EndsBy (map S.text words.now) result }
+    ensures performs { Performs (terminals.input && terminals.errors) (map S.text words.now) (I.deeds images.old) (I.deeds images.new)
+        (R.remaining input.old) (R.remaining input.new) (W.contents output.old) (W.contents output.new) result }
 {
     match command(alloc, words) {
         Ok(asked) => {
-            let done = perform(files, alloc, asked.task, terminals, input, output, errors);
+            let done = perform(
+                system, images, alloc, asked.task, terminals, input, output, errors,
+            );
             conclude_task(
                 &asked.task,
                 done,
@@ -172,47 +186,284 @@ fn conclude_task<E: Write>(
 
 /// The same of a task without a script.
 fn plain(done: Result<(), Failure>) -> Result<(), Unplayed>
-    ensures { IfErr result (λ why. IsBadLine why → ⊥) }
+    ensures { result ≡ plain_of done }
 {
     match done {
         Ok(()) => Ok(()),
-        Err(reason) => Err(Unplayed::Refused(reason)),
+        Err(why) => Err(Unplayed::Refused(why)),
     }
 }
 
 /// Tells the status of the pool of an image, or of one of its volumes.
-fn tell_status<F: Files<File = File>, W: Write>(
-    files: &F,
+fn tell_status<I: Images, S: Stream>(
+    images: &mut I,
     alloc: Global,
     image: &str,
     id: Option<u64>,
-    output: &mut W,
-) -> Result<(), Failure> {
-    status_of_image(files, alloc, image, volume_asked(id)?, output)
+    stream: &mut S,
+) -> Result<(), Failure>
+    ensures { AsksStatus image.now id (I.deeds images.old) (I.deeds images.new) (S.calls stream.old) (S.calls stream.new) (number_of result) }
+{
+    match volume_asked(id) {
+        Ok(id) => status_of_image(images, alloc, image, id, stream),
+        Err(reason) => Err(Failure::from(reason)),
+    }
 }
 
-/// Makes a file the image of an empty pool. Where the sizes are within their limits and a terminal is there to answer, it is asked first whether what the file holds
-/// is to be destroyed.
-fn format_asked<F: Files<File = File>, R: Read, W: Write, E: Write>(
-    files: &F,
+/// Makes an image that of an empty pool. Where the sizes are within their limits, it is asked first whether what the image holds is to be destroyed.
+fn format_asked<I: Images, S: Stream, E: Write>(
+    images: &mut I,
     alloc: Global,
     image: &str,
     sizes: &Sizes,
-    terminals: Terminals,
+    stream: &mut S,
+    errors: &mut E,
+) -> Result<(), Failure>
+    ensures { FormatsAsked image.now sizes.now (I.deeds images.old) (I.deeds images.new) (S.calls stream.old) (S.calls stream.new) (number_of result) }
+{
+    match geometry_of(sizes) {
+        Ok(_) => {
+            if may_destroy(images, alloc, image, stream, errors) {
+                format_image(images, alloc, image, sizes, stream)
+            } else {
+                Err(Failure {
+                    refusal: Refusal::Exists,
+                    cause: Cause::Declined,
+                })
+            }
+        }
+        Err(reason) => Err(Failure::from(reason)),
+    }
+}
+
+/// Makes an image that of an empty pool. Where a terminal is there to answer, it is asked first.
+fn format<I: Images, S: Stream, E: Write>(
+    images: &mut I,
+    alloc: Global,
+    image: &str,
+    sizes: &Sizes,
+    asks: bool,
+    stream: &mut S,
+    errors: &mut E,
+) -> Result<(), Failure>
+    ensures { MatchBool asks
+        (FormatsAsked image.now sizes.now (I.deeds images.old) (I.deeds images.new) (S.calls stream.old) (S.calls stream.new) (number_of result))
+        (IsFormatted image.now sizes.now (I.deeds images.old) (I.deeds images.new) (S.calls stream.old) (S.calls stream.new) (number_of result)) }
+{
+    if asks {
+        format_asked(images, alloc, image, sizes, stream, errors)
+    } else {
+        format_image(images, alloc, image, sizes, stream)
+    }
+}
+
+/// Checks an image, and clears the flag of its pool where that is asked for.
+fn check<I: Images, S: Stream>(
+    images: &mut I,
+    alloc: Global,
+    image: &str,
+    clears: bool,
+    stream: &mut S,
+) -> Result<(), Failure>
+    ensures { MatchBool clears
+        (IsCleared image.now (I.deeds images.old) (I.deeds images.new) (S.calls stream.old) (S.calls stream.new) (number_of result))
+        (IsChecked image.now (I.deeds images.old) (I.deeds images.new) (S.calls stream.old) (S.calls stream.new) (number_of result)) }
+{
+    if clears {
+        clear_image(images, alloc, image, stream)
+    } else {
+        check_image(images, alloc, image, stream)
+    }
+}
+
+/// Serves one client over a pool in memory, or over that of an image.
+fn feed<I: Images, S: Stream>(
+    images: &mut I,
+    alloc: Global,
+    image: Image<'_>,
+    stream: &mut S,
+) -> Result<(), Failure>
+    ensures { Feeds image.entry (I.deeds images.old) (I.deeds images.new) (S.calls stream.old) (S.calls stream.new) (number_of result) }
+{
+    match image {
+        Image::Memory => feed_fresh(alloc, stream),
+        Image::File(name) => feed_image(images, alloc, name, stream),
+    }
+}
+
+/// Plays the script that a stream gives over a pool in memory, or over that of an image.
+fn play_on<I: Images, S: Stream>(
+    images: &mut I,
+    alloc: Global,
+    image: Image<'_>,
+    stream: &mut S,
+) -> Result<(), Unplayed>
+    ensures { Plays image.entry (I.deeds images.old) (I.deeds images.new) (S.calls stream.old) (S.calls stream.new) result }
+{
+    match image {
+        Image::Memory => play_fresh(alloc, stream),
+        Image::File(name) => play_image(images, alloc, name, stream),
+    }
+}
+
+/// The same of the lines of a reader, their answers going to a writer, as a pipe from where this one begins.
+fn play_since<'a, I: Images, R: Read, W: Write, K: Begins>(
+    images: &mut I,
+    alloc: Global,
+    image: Image<'_>,
+    ends: Ends<'a, R, W>,
+) -> (Ends<'a, R, W>, Result<(), Unplayed>)
+    requires { K.opening ≡ record { reader = ends.input.ghost_name; writer = ends.output.ghost_name; left = R.remaining ends.input.now; told = W.contents ends.output.now } }
+    ensures same { (result.0.input.ghost_name ≡ ends.entry.input.ghost_name) × (result.0.output.ghost_name ≡ ends.entry.output.ghost_name) }
+    ensures played { (did : List StreamCall) × IsPiped (R.remaining ends.entry.input.now) (R.remaining result.0.input.now) (W.contents ends.entry.output.now) (W.contents result.0.output.now) did
+        × Plays image.entry (I.deeds images.old) (I.deeds images.new) [] did result.1 }
+{
+    let mut piped = Piped::<R, W, K>::begin(ends);
+    let played = play_on(images, alloc, image, &mut piped);
+    (piped.end(), played)
+}
+
+/// The same of the lines of a reader, their answers going to a writer.
+fn play_lines<I: Images, R: Read, W: Write>(
+    images: &mut I,
+    alloc: Global,
+    image: Image<'_>,
+    input: &mut R,
+    output: &mut W,
+) -> Result<(), Unplayed>
+    ensures { (did : List StreamCall) × IsPiped (R.remaining input.old) (R.remaining input.new) (W.contents output.old) (W.contents output.new) did
+        × Plays image.entry (I.deeds images.old) (I.deeds images.new) [] did result }
+{
+    let (_, played) = play_since::<I, R, W, Brand>(images, alloc, image, Ends { input, output });
+    played
+}
+
+/// Plays the script in a file over a pool. The file is opened first.
+fn play_file<F: Files<File = File>, I: Images, W: Write>(
+    files: &F,
+    images: &mut I,
+    alloc: Global,
+    image: Image<'_>,
+    path: &str,
+    output: &mut W,
+) -> Result<(), Unplayed>
+    ensures { PlaysFile image.entry (I.deeds images.old) (I.deeds images.new) (W.contents output.old) (W.contents output.new) result }
+{
+    match File::open(files, path) {
+        Ok(mut script) => play_lines(images, alloc, image, &mut script, output),
+        Err(error) => Err(Unplayed::Refused(Failure::fault(Cause::Script(error)))),
+    }
+}
+
+/// Performs a task that has no script, over the stream that it reads and writes.
+fn perform_on<F, I: Images, S: Stream, E>(
+    system: &F,
+    images: &mut I,
+    alloc: Global,
+    task: Task<'_>,
+    asks: bool,
+    stream: &mut S,
+    errors: &mut E,
+) -> Result<(), Unplayed>
+where
+    F: Net<Listener = TcpListener, Stream = TcpStream> + Threads + Wait + Clock + Sync,
+    E: Write + Send,
+    requires { IsScript task → ⊥ }
+    ensures { DoesOn asks task.entry (I.deeds images.old) (I.deeds images.new) (S.calls stream.old) (S.calls stream.new) result }
+{
+    match task {
+        Task::Format { image, sizes } => {
+            plain(format(images, alloc, image, &sizes, asks, stream, errors))
+        }
+        Task::Message { image, line } => {
+            plain(message_to_image(images, alloc, image, line, stream))
+        }
+        Task::Status { image, id } => plain(tell_status(images, alloc, image, id, stream)),
+        Task::Check { image, clears } => plain(check(images, alloc, image, clears, stream)),
+        Task::Feed { image } => plain(feed(images, alloc, image, stream)),
+        Task::Serve {
+            image,
+            address,
+            clients,
+            control,
+        } => plain(serve_image(
+            system, images, alloc, image, address, clients, control, errors,
+        )),
+        Task::Play { .. } => Err(Unplayed::Refused(Failure::fault(Cause::Output))),
+    }
+}
+
+/// The same over a reader and a writer, as a pipe from where this one begins.
+fn perform_since<'a, F, I: Images, R: Read, W: Write, E, K: Begins>(
+    system: &F,
+    images: &mut I,
+    alloc: Global,
+    task: Task<'_>,
+    asks: bool,
+    ends: Ends<'a, R, W>,
+    errors: &mut E,
+) -> (Ends<'a, R, W>, Result<(), Unplayed>)
+where
+    F: Net<Listener = TcpListener, Stream = TcpStream> + Threads + Wait + Clock + Sync,
+    E: Write + Send,
+    requires no_script { IsScript task → ⊥ }
+    requires begins { K.opening ≡ record { reader = ends.input.ghost_name; writer = ends.output.ghost_name; left = R.remaining ends.input.now; told = W.contents ends.output.now } }
+    ensures same { (result.0.input.ghost_name ≡ ends.entry.input.ghost_name) × (result.0.output.ghost_name ≡ ends.entry.output.ghost_name) }
+    ensures done { (did : List StreamCall) × IsPiped (R.remaining ends.entry.input.now) (R.remaining result.0.input.now) (W.contents ends.entry.output.now) (W.contents result.0.output.now) did
+        × DoesOn asks task.entry (I.deeds images.old) (I.deeds images.new) [] did result.1 }
+{
+    let mut piped = Piped::<R, W, K>::begin(ends);
+    let done = perform_on(system, images, alloc, task, asks, &mut piped, errors);
+    (piped.end(), done)
+}
+
+/// The same over a reader and a writer.
+fn perform_piped<F, I: Images, R: Read, W: Write, E>(
+    system: &F,
+    images: &mut I,
+    alloc: Global,
+    task: Task<'_>,
+    asks: bool,
     input: &mut R,
     output: &mut W,
     errors: &mut E,
-) -> Result<(), Failure> {
-    let _ = geometry_of(sizes)?;
-    if terminals.input && terminals.errors {
-        ask_to_destroy(files, alloc, image, input, errors)?;
+) -> Result<(), Unplayed>
+where
+    F: Net<Listener = TcpListener, Stream = TcpStream> + Threads + Wait + Clock + Sync,
+    E: Write + Send,
+    requires { IsScript task → ⊥ }
+    ensures { (did : List StreamCall) × IsPiped (R.remaining input.old) (R.remaining input.new) (W.contents output.old) (W.contents output.new) did
+        × DoesOn asks task.entry (I.deeds images.old) (I.deeds images.new) [] did result }
+{
+    let ends = Ends { input, output };
+    let (_, done) = perform_since::<F, I, R, W, E, Brand>(
+        system, images, alloc, task, asks, ends, errors,
+    );
+    done
+}
+
+/// Whether a terminal is there to answer what is asked on another one.
+fn can_answer(terminals: Terminals) -> bool
+    ensures { result ≡ (terminals.input && terminals.errors) }
+{
+    terminals.input && terminals.errors
+}
+
+/// The pool and the script of a task that plays one.
+fn script_of<'a>(task: &Task<'a>) -> Option<(Image<'a>, &'a str)>
+    ensures script { IfSome result (λ script. task.now ≡ Play script.0 script.1) }
+    ensures none { IfNone result (IsScript task.now → ⊥) }
+{
+    match *task {
+        Task::Play { image, script } => Some((image, script)),
+        _ => None,
     }
-    format_image(files, alloc, image, sizes, output)
 }
 
 /// Performs a task.
-fn perform<F, R: Read, W: Write, E>(
-    files: &F,
+fn perform<F, I: Images, R: Read, W: Write, E>(
+    system: &F,
+    images: &mut I,
     alloc: Global,
     task: Task<'_>,
     terminals: Terminals,
@@ -228,34 +479,21 @@ where
         + Clock
         + Sync,
     E: Write + Send,
-    ensures { IfErr result (λ why. IsBadLine why → IsScript task.entry) }
+    ensures { Does (terminals.input && terminals.errors) task.entry (I.deeds images.old) (I.deeds images.new)
+        (R.remaining input.old) (R.remaining input.new) (W.contents output.old) (W.contents output.new) result }
 {
-    match task {
-        Task::Format { image, sizes } => plain(format_asked(
-            files, alloc, image, &sizes, terminals, input, output, errors,
-        )),
-        Task::Message { image, line } => plain(message_to_image(files, alloc, image, line, output)),
-        Task::Status { image, id } => plain(tell_status(files, alloc, image, id, output)),
-        Task::Check { image, clears } => {
-            if clears {
-                plain(clear_image(files, alloc, image, output))
-            } else {
-                plain(check_image(files, alloc, image, output))
-            }
-        }
-        Task::Feed {
-            image: Image::Memory,
-        } => plain(feed_fresh(alloc, input, output)),
-        Task::Feed {
-            image: Image::File(path),
-        } => plain(feed_image(files, alloc, path, input, output)),
-        Task::Serve {
-            image,
-            address,
-            clients,
-            control,
-        } => plain(serve_image(files, alloc, image, address, clients, control, errors)),
-        Task::Play { image, script } => play(files, alloc, image, script, output),
+    match script_of(&task) {
+        Some((image, script)) => play_file(system, images, alloc, image, script, output),
+        None => perform_piped(
+            system,
+            images,
+            alloc,
+            task,
+            can_answer(terminals),
+            input,
+            output,
+            errors,
+        ),
     }
 }
 

@@ -1,29 +1,32 @@
-//! Scripts over the hub of a pool, which is then closed.
+//! Scripts over the pool of an image, or over one in memory, which is then closed.
 
-ghost use Rattle.std.specs.Prelude.{◌≡◌, MatchResult, Ok};
+ghost use Rattle.std.specs.Prelude.{◌≡◌, List, Ok, false};
 ghost use Rattle.std.specs.FinMap.{empty};
-ghost use Rattle.tp_meta.specs.Standing.{StandsFor, changed_of, geometry_of, marks_of, room_of};
+ghost use Rattle.tp_disk.specs.HandedOut.{IsHandedOut};
 ghost use Rattle.tp_holders.specs.Holders.{holds_of};
-ghost use Rattle.tp_served.specs.Served.{cached};
-ghost use Rattle.tp_program.specs.Scripts.{Concludes, Plays, PlaysFile, PlaysFirst, PlaysImage, PlaysPool, is_bad};
+ghost use Rattle.tp_hub.specs.Desks.{AreAsked, Exchange};
+ghost use Rattle.tp_hub.specs.Serve.{HubRuns};
+ghost use Rattle.tp_hub.specs.Streams.{Makes};
+ghost use Rattle.tp_lines.specs.Plays.{PlaysScript};
+ghost use Rattle.tp_program.specs.Failures.{number_of};
+ghost use Rattle.tp_program.specs.Playing.{EndsScript, PlaysPool};
+ghost use Rattle.tp_program.specs.Scripts.{IsTold, PlaysFirst, PlaysImage, PlaysOn, is_bad};
 
-use crate::closing::finish;
-use crate::failure::{Cause, Failure, TellsTrouble};
+use crate::closing::{end_hub, leave_hub};
+use crate::failure::{Cause, Failure};
 use crate::fresh::fresh_pool;
-use crate::images::open_image;
+use crate::opening::open_pool;
+use crate::table::Table;
 use std::alloc::Global;
-use std::fs::File;
-use std::io::{Read, Write};
-use std::rt::Files;
 use tp_cache::ReadCache;
-use tp_disk::Disk;
-use tp_hub::{Answers, Desk, Event, Hub, Ran};
+use tp_disk::{Disk, TellsTrouble};
+use tp_hub::{Hub, Stream};
+use tp_images::Images;
 use tp_lines::{Ended, Stopped, play_script};
 use tp_meta::Meta;
 use tp_model::Refusal;
 use tp_msg::Managed;
 use tp_served::Served;
-use tp_words::Image;
 
 /// Why a script was not played.
 #[derive(Clone, Copy, Debug)]
@@ -34,45 +37,33 @@ pub enum Unplayed {
     BadLine(u64),
 }
 
-/// A hub that is the script's alone.
-#[derive(Drop)]
-struct Table<V: Managed> {
-    alloc: Global,
-    hub: Hub<V>,
-}
-
-impl<V: Managed> Desk for Table<V> {
-    ghost use Rattle.tp_hub.specs.Serve.{HubRuns};
-
-    ghost asks = { λ a took answers b. HubRuns V.view a.hub took answers b.hub };
-
-    fn ask(&mut self, event: Event<'_>, out: &mut Answers) -> Ran {
-        self.hub.run(self.alloc, &[event], out)
+/// What is told of a script that a line which is none did not stop, behind closing: that it is refused first.
+fn told(closed: Result<(), Failure>, ended: Result<(), Stopped>) -> Result<(), Unplayed>
+    requires { is_bad ended ≡ false }
+    ensures { IsTold ended (number_of closed) result }
+{
+    match closed {
+        Ok(()) => told_of(ended),
+        Err(why) => Err(Unplayed::Refused(why)),
     }
 }
 
-/// What is told of a script that was played to its end, and of one that was not though its lines are lines.
-fn told(ended: Result<(), Stopped>, is_flushed: bool) -> Result<(), Unplayed>
-    ensures { MatchResult result (λ _. ended ≡ Ok (tt {0})) (λ why. (reason : Failure) × (why ≡ Unplayed.Refused reason)) }
+/// The same where closing was done.
+fn told_of(ended: Result<(), Stopped>) -> Result<(), Unplayed>
+    requires { is_bad ended ≡ false }
+    ensures { IsTold ended (Ok (tt {0})) result }
 {
     match ended {
-        Ok(()) => {
-            if is_flushed {
-                Ok(())
-            } else {
-                Err(Unplayed::Refused(Failure::fault(Cause::Output)))
-            }
-        }
+        Ok(()) => Ok(()),
         Err(Stopped::Memory) => Err(Unplayed::Refused(Failure::from(Refusal::Memory))),
         Err(Stopped::Script) => Err(Unplayed::Refused(Failure::fault(Cause::ScriptEnded))),
-        Err(Stopped::BadLine | Stopped::Output) => {
-            Err(Unplayed::Refused(Failure::fault(Cause::Output)))
-        }
+        Err(Stopped::Output) => Err(Unplayed::Refused(Failure::fault(Cause::Output))),
+        Err(Stopped::BadLine) => Err(Unplayed::BadLine(0)),
     }
 }
 
 /// Whether a line was bad.
-fn stopped_at_line(ended: Result<(), Stopped>) -> bool
+fn is_at_bad_line(ended: Result<(), Stopped>) -> bool
     ensures { result ≡ is_bad ended }
 {
     match ended {
@@ -81,104 +72,89 @@ fn stopped_at_line(ended: Result<(), Stopped>) -> bool
     }
 }
 
-/// Ends all sessions and closes the pool, unless a line was bad. That closing is refused is told first.
+/// Ends all sessions of a hub over which a script was played, closes its pool, unless a line was bad, and hands its disk back.
 fn end_script<D: Disk + TellsTrouble + Drop>(
     hub: Hub<Served<ReadCache<D>, Meta>>,
-    ended: Result<(), Stopped>,
-    played: u64,
-    is_flushed: bool,
-) -> Result<(), Unplayed>
-    ensures { Concludes (cached geometry_of StandsFor marks_of room_of changed_of) hub ended played result }
+    ended: Ended,
+) -> (D, Result<(), Unplayed>)
+    ensures { EndsScript hub ended.result ended.played result.1 (D.state result.0) }
 {
-    if stopped_at_line(ended) {
-        return Err(Unplayed::BadLine(played.saturating_add(1)));
+    let Ended { result, played } = ended;
+    if is_at_bad_line(result) {
+        let line = Unplayed::BadLine(played.saturating_add(1));
+        return (leave_hub(hub), Err(line));
     }
-    match finish(hub.into_pool()) {
-        Ok(()) => told(ended, is_flushed),
-        Err(reason) => Err(Unplayed::Refused(reason)),
-    }
+    let (disk, closed) = end_hub(hub);
+    (disk, told(closed, result))
 }
 
-/// Plays a script over a pool, and then closes the pool. At a bad line it stops, and the pool is not closed.
-fn play_pool<D: Disk + TellsTrouble + Drop, R: Read, W: Write>(
-    alloc: Global,
-    pool: Served<ReadCache<D>, Meta>,
-    script: &mut R,
-    output: &mut W,
-) -> Result<(), Unplayed>
-    requires { holds_of pool.besides.holders ≡ empty }
-    ensures { PlaysPool (cached geometry_of StandsFor marks_of room_of changed_of) pool (R.remaining script.old) (R.remaining script.new) (W.contents output.old) (W.contents output.new) result }
+/// Plays the script that a stream gives over a hub, and gives the hub back.
+fn play_hub<V: Managed, S: Stream>(alloc: Global, hub: Hub<V>, stream: &mut S) -> (Hub<V>, Ended)
+    ensures { (asks : List Exchange) × AreAsked (HubRuns V.view) hub asks result.0
+        × Makes (S.calls stream.old) (S.calls stream.new) (λ did. PlaysScript asks did result.1.played result.1.result) }
 {
-    let mut table = Table {
-        alloc,
-        hub: Hub::new(pool),
-    };
-    let Ended { result, played } = play_script(alloc, &mut table, script, output);
-    let is_flushed = output.flush().is_ok();
+    let mut table = Table { alloc, hub };
+    let ended = play_script(alloc, &mut table, stream);
     let Table { alloc: _, hub } = table;
-    end_script(hub, result, played, is_flushed)
+    (hub, ended)
 }
 
-/// Plays the script in a file over a pool that is open.
-fn play_file<F: Files<File = File>, D: Disk + TellsTrouble + Drop, W: Write>(
-    files: &F,
+/// Plays a script over a pool, closes it, unless a line was bad, and hands its disk back.
+fn play_pool<D: Disk + TellsTrouble + Drop, S: Stream>(
     alloc: Global,
     pool: Served<ReadCache<D>, Meta>,
-    path: &str,
-    output: &mut W,
-) -> Result<(), Unplayed>
+    stream: &mut S,
+) -> (D, Result<(), Unplayed>)
     requires { holds_of pool.besides.holders ≡ empty }
-    ensures { PlaysFile (cached geometry_of StandsFor marks_of room_of changed_of) pool (W.contents output.old) (W.contents output.new) result }
+    ensures { PlaysPool pool (S.calls stream.old) (S.calls stream.new) result.1 (D.state result.0) }
 {
-    match File::open(files, path) {
-        Ok(mut script) => play_pool(alloc, pool, &mut script, output),
-        Err(error) => Err(Unplayed::Refused(Failure::fault(Cause::Script(error)))),
+    let (hub, ended) = play_hub(alloc, Hub::new(pool), stream);
+    end_script(hub, ended)
+}
+
+/// Plays a script over the pool of a disk, which is handed back.
+fn play_disk<D: Disk + TellsTrouble + Drop, S: Stream>(
+    alloc: Global,
+    disk: D,
+    stream: &mut S,
+) -> (D, Result<(), Unplayed>)
+    requires { IsHandedOut (D.state disk) }
+    ensures { PlaysOn (S.calls stream.old) (S.calls stream.new) result.1 (D.state disk) (D.state result.0) }
+{
+    match open_pool(alloc, disk) {
+        Ok(pool) => play_pool(alloc, pool, stream),
+        Err((why, disk)) => (disk, Err(Unplayed::Refused(why))),
     }
 }
 
-/// Plays the script in a file over a fresh pool in memory.
-fn play_fresh<F: Files<File = File>, W: Write>(
-    files: &F,
+/// Plays the script that a stream gives over the pool of an image, and then closes the pool. At a line that is none it stops, and the pool is not closed.
+pub fn play_image<I: Images, S: Stream>(
+    images: &mut I,
     alloc: Global,
-    path: &str,
-    output: &mut W,
+    name: &str,
+    stream: &mut S,
 ) -> Result<(), Unplayed>
-    ensures { PlaysFirst (cached geometry_of StandsFor marks_of room_of changed_of) (W.contents output.old) (W.contents output.new) result }
+    ensures { PlaysImage name.now (I.deeds images.old) (I.deeds images.new) (S.calls stream.old) (S.calls stream.new) result }
+{
+    match images.open(name) {
+        Ok(disk) => {
+            let (disk, played) = play_disk(alloc, disk, stream);
+            images.close(name, disk);
+            played
+        }
+        Err(error) => Err(Unplayed::Refused(Failure::unopened(error))),
+    }
+}
+
+/// The same over a fresh pool in memory.
+pub fn play_fresh<S: Stream>(alloc: Global, stream: &mut S) -> Result<(), Unplayed>
+    ensures { PlaysFirst (S.calls stream.old) (S.calls stream.new) result }
 {
     match fresh_pool(alloc) {
-        Ok(pool) => play_file(files, alloc, pool, path, output),
+        Ok(pool) => {
+            let (_, played) = play_pool(alloc, pool, stream);
+            played
+        }
         Err(reason) => Err(Unplayed::Refused(Failure::from(reason))),
-    }
-}
-
-/// Plays the script in a file over the pool of an image.
-fn play_image<F: Files<File = File>, W: Write>(
-    files: &F,
-    alloc: Global,
-    image: &str,
-    path: &str,
-    output: &mut W,
-) -> Result<(), Unplayed>
-    ensures { PlaysImage (W.contents output.old) (W.contents output.new) result }
-{
-    match open_image(files, alloc, image) {
-        Ok(pool) => play_file(files, alloc, pool, path, output),
-        Err(reason) => Err(Unplayed::Refused(reason)),
-    }
-}
-
-/// Plays the script in a file, over the pool of an image or a fresh one. The image is opened before the script is.
-pub fn play<F: Files<File = File>, W: Write>(
-    files: &F,
-    alloc: Global,
-    image: Image<'_>,
-    path: &str,
-    output: &mut W,
-) -> Result<(), Unplayed>
-    ensures { Plays image.entry (W.contents output.old) (W.contents output.new) result }
-{
-    match image {
-        Image::Memory => play_fresh(files, alloc, path, output),
-        Image::File(image) => play_image(files, alloc, image, path, output),
     }
 }

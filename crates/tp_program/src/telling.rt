@@ -4,14 +4,13 @@ ghost use Rattle.std.specs.Prelude.{◌≡◌, ◌+◌, ◌++◌, ◌≤◌, len
 ghost use Rattle.tp_model.specs.Calls.{Status, ThinStatus};
 ghost use Rattle.tp_hub.specs.Runs.{call_of};
 ghost use Rattle.tp_served.specs.Served.{cached};
-ghost use Rattle.tp_program.specs.Images.{IsLineGiven, Prints, PrintsCall, PrintsCheck, newline, status_call};
+ghost use Rattle.tp_program.specs.Images.{PrintsCheck};
+ghost use Rattle.tp_program.specs.Printing.{IsLineGiven, Prints, PrintsCall, newline, status_call};
 
 use std::alloc::Global;
-use std::io::Write;
 use tp_check::check;
 use tp_disk::Disk;
-use tp_hub::apply;
-use tp_lines::send;
+use tp_hub::{Stream, apply, send_all};
 use tp_meta::Metadata;
 use tp_model::{DevId, Refusal};
 use tp_msg::{LineBuffer, Message, read_message};
@@ -22,11 +21,11 @@ const LINE: usize = 192;
 
 const ENDED_LINE: usize = 193;
 
-/// Prints bytes: `Fault` where the writer fails.
-fn print<W: Write>(output: &mut W, bytes: &[u8]) -> Result<(), Refusal>
-    ensures { Prints (W.contents output.old) (W.contents output.new) bytes.now result }
+/// Prints bytes: `Fault` where the stream fails.
+fn print<S: Stream>(stream: &mut S, bytes: &[u8]) -> Result<(), Refusal>
+    ensures { Prints (S.calls stream.old) (S.calls stream.new) bytes.now result }
 {
-    if send(output, bytes) {
+    if send_all(stream, bytes) {
         Ok(())
     } else {
         Err(Refusal::Fault)
@@ -57,94 +56,94 @@ fn end_line(out: &mut [u8], line: &[u8]) -> usize
 }
 
 /// Prints a line with a newline.
-pub fn print_line<W: Write>(output: &mut W, line: &[u8]) -> Result<(), Refusal>
+pub fn print_line<S: Stream>(stream: &mut S, line: &[u8]) -> Result<(), Refusal>
     requires { length line.now ≤ 192 }
-    ensures { Prints (W.contents output.old) (W.contents output.new) (line.now ++ newline) result }
+    ensures { Prints (S.calls stream.old) (S.calls stream.new) (line.now ++ newline) result }
 {
     let mut out = [0; ENDED_LINE];
     let end = end_line(&mut out, line);
-    print(output, &out[..end])
+    print(stream, &out[..end])
 }
 
 /// Prints the status line of a pool.
-pub fn print_status<D: Disk + Drop, M: Metadata + Drop, W: Write>(
+pub fn print_status<D: Disk + Drop, M: Metadata + Drop, S: Stream>(
     pool: &mut Served<D, M>,
-    output: &mut W,
+    stream: &mut S,
 ) -> Result<(), Refusal>
-    ensures { PrintsCall (cached M.geometry M.stands M.marks M.room M.changed) pool.old pool.new Status (W.contents output.old) (W.contents output.new) result }
+    ensures { PrintsCall (cached M.geometry M.stands M.marks M.room M.changed) pool.old pool.new Status (S.calls stream.old) (S.calls stream.new) result }
 {
     let mut line = [0; LINE];
     let len = pool.status(&mut line);
-    print_line(output, &line[..len])
+    print_line(stream, &line[..len])
 }
 
-/// Prints the status line of a volume: 15, 5, or 5 where the writer fails.
-fn print_thin_status<D: Disk + Drop, M: Metadata + Drop, W: Write>(
+/// Prints the status line of a volume: 15, 5, or 5 where the stream fails.
+fn print_thin_status<D: Disk + Drop, M: Metadata + Drop, S: Stream>(
     pool: &mut Served<D, M>,
     id: DevId,
-    output: &mut W,
+    stream: &mut S,
 ) -> Result<(), Refusal>
-    ensures { PrintsCall (cached M.geometry M.stands M.marks M.room M.changed) pool.old pool.new (ThinStatus id) (W.contents output.old) (W.contents output.new) result }
+    ensures { PrintsCall (cached M.geometry M.stands M.marks M.room M.changed) pool.old pool.new (ThinStatus id) (S.calls stream.old) (S.calls stream.new) result }
 {
     let mut line = [0; LINE];
     match pool.thin_status(id, &mut line) {
-        Ok(len) => print_line(output, &line[..len]),
+        Ok(len) => print_line(stream, &line[..len]),
         Err(reason) => Err(reason),
     }
 }
 
 /// Prints the status line of a pool, or of one of its volumes.
-pub fn tell_status<D: Disk + Drop, M: Metadata + Drop, W: Write>(
+pub fn tell_status<D: Disk + Drop, M: Metadata + Drop, S: Stream>(
     pool: &mut Served<D, M>,
     id: Option<DevId>,
-    output: &mut W,
+    stream: &mut S,
 ) -> Result<(), Refusal>
-    ensures { PrintsCall (cached M.geometry M.stands M.marks M.room M.changed) pool.old pool.new (status_call id) (W.contents output.old) (W.contents output.new) result }
+    ensures { PrintsCall (cached M.geometry M.stands M.marks M.room M.changed) pool.old pool.new (status_call id) (S.calls stream.old) (S.calls stream.new) result }
 {
     match id {
-        None => print_status(pool, output),
-        Some(id) => print_thin_status(pool, id, output),
+        None => print_status(pool, stream),
+        Some(id) => print_thin_status(pool, id, stream),
     }
 }
 
 /// Gives a pool one message, and prints `ok` where it is accepted.
-fn give<D: Disk + Drop, M: Metadata + Drop, W: Write>(
+fn give<D: Disk + Drop, M: Metadata + Drop, S: Stream>(
     pool: &mut Served<D, M>,
     message: &Message,
-    output: &mut W,
+    stream: &mut S,
 ) -> Result<(), Refusal>
-    ensures { PrintsCall (cached M.geometry M.stands M.marks M.room M.changed) pool.old pool.new (call_of message.now) (W.contents output.old) (W.contents output.new) result }
+    ensures { PrintsCall (cached M.geometry M.stands M.marks M.room M.changed) pool.old pool.new (call_of message.now) (S.calls stream.old) (S.calls stream.new) result }
 {
     match apply(pool, message) {
-        Ok(()) => print_line(output, b"ok"),
+        Ok(()) => print_line(stream, b"ok"),
         Err(reason) => Err(reason),
     }
 }
 
 /// Gives a pool the message of a line, and prints `ok` where it is accepted.
-pub fn give_line<D: Disk + Drop, M: Metadata + Drop, W: Write>(
+pub fn give_line<D: Disk + Drop, M: Metadata + Drop, S: Stream>(
     pool: &mut Served<D, M>,
     line: &str,
-    output: &mut W,
+    stream: &mut S,
 ) -> Result<(), Refusal>
-    ensures { IsLineGiven (cached M.geometry M.stands M.marks M.room M.changed) pool.old pool.new line.now (W.contents output.old) (W.contents output.new) result }
+    ensures { IsLineGiven (cached M.geometry M.stands M.marks M.room M.changed) pool.old pool.new line.now (S.calls stream.old) (S.calls stream.new) result }
 {
     match read_message(line.as_bytes()) {
-        Ok(message) => give(pool, &message, output),
+        Ok(message) => give(pool, &message, stream),
         Err(reason) => Err(reason),
     }
 }
 
 /// Checks the image on a disk, and prints `clean` where it is clean.
-pub fn tell_check<D: Disk, W: Write>(
+pub fn tell_check<D: Disk, S: Stream>(
     alloc: Global,
     disk: &mut D,
-    output: &mut W,
+    stream: &mut S,
 ) -> Result<(), Refusal>
-    ensures { PrintsCheck (D.state disk.old) (D.state disk.new) (W.contents output.old) (W.contents output.new) result }
+    ensures { PrintsCheck (S.calls stream.old) (S.calls stream.new) result (D.state disk.old) (D.state disk.new) }
 {
     match check(alloc, disk) {
-        Ok(()) => print_line(output, b"clean"),
+        Ok(()) => print_line(stream, b"clean"),
         Err(error) => Err(error.refusal()),
     }
 }

@@ -106,7 +106,7 @@ const FILES: &[Wrong] = &[
         "thinpool: 5 Fault\nthinpool: missing.img cannot be opened: No such file or directory (os error 2); `thinpool format` makes an image\n",
     ),
     (
-        &["thinpool", "play", "missing.img", "script"],
+        &["thinpool", "play", "missing.img", "/dev/null"],
         "thinpool: 5 Fault\nthinpool: missing.img cannot be opened: No such file or directory (os error 2); `thinpool format` makes an image\n",
     ),
     (

@@ -13,6 +13,7 @@ use std::sync::Wait;
 use std::test::Fail;
 use std::thread::Threads;
 use std::time::Clock;
+use tp_images::FileImages;
 use tp_program::{Status, program};
 
 /// The flags of a client that wants no zeroes behind EXPORT_NAME.
@@ -522,6 +523,7 @@ where
     let mut errors = Vec::new(rt.alloc());
     let status = program(
         rt,
+        &mut FileImages::new(rt),
         rt.alloc(),
         FEED,
         NO_TERMINAL,

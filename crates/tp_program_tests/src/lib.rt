@@ -1,4 +1,4 @@
-//! Tests of the programs, by [`tp_program::program`] alone: over image files, scripts, loopback sockets and pipes.
+//! Tests of the programs, by [`tp_program::program`] alone: over image files and images in memory, scripts, loopback sockets and pipes.
 //!
 //! They stand here, above it, so that no large crate is proved a second time for its tests.
 #![tactic(auto)]
@@ -15,6 +15,8 @@ mod explained_tests;
 mod feed_tests;
 #[cfg(test)]
 mod image_tests;
+#[cfg(test)]
+mod memory_tests;
 #[cfg(test)]
 mod parts;
 #[cfg(test)]

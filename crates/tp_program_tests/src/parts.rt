@@ -10,6 +10,7 @@ use std::sync::Wait;
 use std::test::Fail;
 use std::thread::Threads;
 use std::time::Clock;
+use tp_images::{FileImages, Images};
 use tp_program::{Status, Terminals, program};
 
 /// What is said of a task that the system refuses.
@@ -141,10 +142,31 @@ where
         + Sync
         + Alloc<A = Global>,
 {
+    run_in(rt, &mut FileImages::new(rt), words, terminals, input)
+}
+
+/// The same over these images.
+pub(crate) fn run_in<H, I: Images, R: Read>(
+    rt: &H,
+    images: &mut I,
+    words: &[&str],
+    terminals: Terminals,
+    input: &mut R,
+) -> Ran
+where
+    H: Files<File = File>
+        + Net<Listener = TcpListener, Stream = TcpStream>
+        + Threads
+        + Wait
+        + Clock
+        + Sync
+        + Alloc<A = Global>,
+{
     let mut output = Vec::new(rt.alloc());
     let mut errors = Vec::new(rt.alloc());
     let status = program(
         rt,
+        images,
         rt.alloc(),
         words,
         terminals,
@@ -186,7 +208,11 @@ fn add_words<'a>(words: &mut Vec<&'a str>, image: &'a str, call: &Call) -> Resul
 }
 
 /// These words.
-fn words_of<'a>(alloc: Global, image: &'a str, call: &Call) -> Result<Vec<&'a str>, AllocError> {
+pub(crate) fn words_of<'a>(
+    alloc: Global,
+    image: &'a str,
+    call: &Call,
+) -> Result<Vec<&'a str>, AllocError> {
     let mut words = Vec::new(alloc);
     add_words(&mut words, image, call)?;
     Ok(words)
@@ -202,7 +228,7 @@ fn is_printed(ran: &Ran, text: &str) -> bool {
 }
 
 /// Whether a call ended and printed so.
-fn is_ended(ran: &Ran, call: &Call) -> bool {
+pub(crate) fn is_ended(ran: &Ran, call: &Call) -> bool {
     ran.status.code() == call.2 && is_printed(ran, call.3)
 }
 
@@ -255,6 +281,7 @@ where
     let mut errors = Vec::new(rt.alloc());
     let status = program(
         rt,
+        &mut FileImages::new(rt),
         rt.alloc(),
         words,
         NO_TERMINAL,

@@ -10,6 +10,7 @@ use std::rt::Files;
 use std::sync::{OnceLock, Wait};
 use std::thread::Threads;
 use std::time::Clock;
+use tp_images::FileImages;
 use tp_program::program;
 
 /// Where the program listens for clients, and for control lines where it was asked to.
@@ -77,6 +78,7 @@ where
     };
     let status = program(
         rt,
+        &mut FileImages::new(rt),
         rt.alloc(),
         words,
         NO_TERMINAL,

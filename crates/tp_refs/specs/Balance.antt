@@ -1,4 +1,4 @@
--- Internal: when the counts are those of the references (own, in the manner of the kernel's space maps).
+-- Trusted reading: when the counts are those of the references (own, in the manner of the kernel's space maps).
 use Rattle.std.specs.Prelude.{◌≡◌, ℕ, zero, suc, ◌+◌, ◌<◌, ◌≤◌, ◌==◌, ◌^◌, List, [], ◌∷◌, length, if◌then◌else◌}
 use Rattle.tp_refs.specs.Store.{Store, count_of, kept_of, node_at, children, MayName}
 

@@ -1,4 +1,4 @@
--- Internal: the nodes and the counts of a pool as data, with one row of numbers for all references: metadata block b is b, and
+-- Trusted reading: the nodes and the counts of a pool as data, with one row of numbers for all references: metadata block b is b, and
 -- data block p is the number of metadata blocks plus p (own).
 use Rattle.std.specs.Prelude.{◌≡◌, ◌≢◌, ℕ, zero, suc, ◌+◌, ◌<◌, List, [], ◌∷◌, map, slice_index, slice_index_or, set}
 use Rattle.tp_layout.specs.Node.{NodeValue}

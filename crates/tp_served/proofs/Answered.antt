@@ -125,7 +125,7 @@ module _ {M : Type 0} (geometry : M → Geometry) (stands : M → DiskState → 
           line = is;
           disk_is = under;
           called = called_under geometry stands marks room changed left old new was is went Close answer answered called;
-          answered = answers_under geometry stands marks room changed left old new was is went Close answer answered;
+          answered = answers_under geometry stands marks room changed left old new was is went Close answer flushes answered;
           flushes = flushes_under geometry stands marks room changed left old new was is went Close answer called.cause flushes;
         }
 

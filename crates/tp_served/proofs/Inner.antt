@@ -1,6 +1,6 @@
 -- What is said of a call in words of the cache, said in words of the disk under it.
 use Rattle.std.proofs.Common.{◌≡◌, ◌⊎◌, inl, inr, ℕ, zero, suc, ◌+◌, ◌-◌, ◌*◌, ◌<◌, ◌≤◌, Bool, true, false, List, [], ◌∷◌, ◌++◌, length, take, refl, sym, ◌∙◌, ap, subst, arith, Some, Result, Ok, Err}
-use Rattle.std.proofs.lemmas.Bool.{cases_lt}
+use Rattle.std.proofs.lemmas.Bool.{cases_lt, true≢false}
 use Rattle.std.proofs.lemmas.List.{length-append, length-map}
 use Rattle.std.specs.Prelude.{◌%◌, IsSome, IsTrue, MatchResult, if◌then◌else◌}
 use Rattle.tp_model.specs.declared.mode.Mode.{Mode}
@@ -9,7 +9,7 @@ use Rattle.tp_model.specs.declared.refusal.Refusal.{Refusal}
 use Rattle.tp_model.specs.Geometry.{Geometry, data_sector}
 use Rattle.tp_model.specs.Sectors.{Sector, sector_at}
 use Rattle.tp_model.specs.Pool.{PlainPool}
-use Rattle.tp_model.specs.Calls.{Answer, Call, Done, HasCause, Refused, commits, is_flush, is_silent, most_flushes, refusal_of}
+use Rattle.tp_model.specs.Calls.{Answer, Call, Read, Write, Trim, WriteZeroes, Flush, CreateThin, CreateSnap, Delete, SetTransactionId, Grow, Hold, LetGo, Status, ThinStatus, NextId, VolumeBlocks, Close, HeldRead, ReserveMetadataSnap, ReleaseMetadataSnap, Done, HasCause, Refused, commits, is_flush, is_silent, is_writing, most_flushes, refusal_of}
 use Rattle.tp_model.specs.PoolStops.{During, Event, GivenBy, MayReopen, Nothing, StopsWithin, keeps, reopened}
 use Rattle.tp_model.specs.Clauses.{Called, Flushes, GoesOn, IsAnswered, IsQuiet, IsOpened, Meets, View, found_now, found_since}
 use Rattle.tp_model.specs.Disk.{Cell, DiskState, MayLeave, cell_at, newest, seen}
@@ -205,7 +205,7 @@ module _ {M : Type 0} {geometry : M → Geometry} (old new : Cached M) (was : Is
   same_under same =
       let failures : to.outer.failures ≡ from.outer.failures = ap (λ (d : DiskState). d.failures) same in
       let flushes : to.outer.flushes ≡ from.outer.flushes = ap (λ (d : DiskState). d.flushes) same in
-      let rests : moment to.inner ≡ moment from.inner = since.along.still (ap (λ (d : DiskState). moment d) same) failures in
+      let rests : moment to.inner ≡ moment from.inner = since.along.still (ap (λ (d : DiskState). moment d) same) flushes in
       let most = since.flushed.no_more in
       let least = since.flushed.no_fewer in
       let flushed : to.inner.flushes ≡ from.inner.flushes = omega (arith, flushes, most, least) in
@@ -218,6 +218,31 @@ module _ {M : Type 0} {geometry : M → Geometry} (old new : Cached M) (was : Is
 
   pub flushes_exact : (n : ℕ) → to.outer.failures ≡ from.outer.failures → to.outer.flushes ≡ from.outer.flushes + n → to.inner.flushes ≡ from.inner.flushes + n
   flushes_exact n none h = let most = since.flushed.no_more in let least = since.flushed.but_failed in omega (arith, none, h, most, least)
+
+-- a call that is no writing one flushes nothing
+reads_flush_not : (m : Mode) (call : Call) → is_writing call ≡ false → most_flushes m call ≡ 0
+reads_flush_not mode.ReadOnly call writes = refl
+reads_flush_not mode.Failed call writes = refl
+reads_flush_not mode.Writable (Read id sector count) writes = refl
+reads_flush_not mode.Writable (Write id sector sectors fua) writes = absurd (true≢false writes)
+reads_flush_not mode.Writable (Trim id sector count fua) writes = absurd (true≢false writes)
+reads_flush_not mode.Writable (WriteZeroes id sector count no_hole fua) writes = absurd (true≢false writes)
+reads_flush_not mode.Writable Flush writes = absurd (true≢false writes)
+reads_flush_not mode.Writable (CreateThin id) writes = absurd (true≢false writes)
+reads_flush_not mode.Writable (CreateSnap id origin) writes = absurd (true≢false writes)
+reads_flush_not mode.Writable (Delete id) writes = absurd (true≢false writes)
+reads_flush_not mode.Writable (SetTransactionId current next) writes = absurd (true≢false writes)
+reads_flush_not mode.Writable (Grow id blocks) writes = absurd (true≢false writes)
+reads_flush_not mode.Writable (Hold id) writes = refl
+reads_flush_not mode.Writable (LetGo id) writes = refl
+reads_flush_not mode.Writable Status writes = refl
+reads_flush_not mode.Writable (ThinStatus id) writes = refl
+reads_flush_not mode.Writable (NextId first) writes = refl
+reads_flush_not mode.Writable (VolumeBlocks id) writes = refl
+reads_flush_not mode.Writable Close writes = absurd (true≢false writes)
+reads_flush_not mode.Writable (HeldRead id sector count) writes = refl
+reads_flush_not mode.Writable ReserveMetadataSnap writes = absurd (true≢false writes)
+reads_flush_not mode.Writable ReleaseMetadataSnap writes = absurd (true≢false writes)
 
 module _ {M : Type 0} (geometry : M → Geometry) (stands : M → DiskState → Contents → Contents → Type 0) (marks : M → List Bool) (room : M → ℕ) (changed : M → Bool)
     (left : LeftLaw geometry stands marks room changed) (old new : Cached M) (was : IsKnown geometry old) (is : IsLine new.cache.line) (since : Since old.cache new.cache) (call : Call) (answer : Answer) where
@@ -235,11 +260,18 @@ module _ {M : Type 0} (geometry : M → Geometry) (stands : M → DiskState → 
       record {
         failures = failures_to old new was is since ∙ q.failures ∙ sym (failures_from old new was is since);
         flushes = omega (arith, f, no_more, no_fewer);
-        moment = since.along.still q.moment q.failures;
+        moment = since.along.still q.moment f;
       }
 
-  pub answers_under : IsAnswered On (on_cache old) (on_cache new) call answer → IsAnswered In old new call answer
-  answers_under a = record { may = a.may; mode = a.mode; silent = λ yes. quiet (a.silent yes) }
+  -- a call that is no writing one does not flush, so the disk under the cache is at rest where the cache is
+  reads_under : IsAnswered On (on_cache old) (on_cache new) call answer → Flushes On (on_cache old) (on_cache new) call answer → is_writing call ≡ false
+      → moment new.cache.line.inner ≡ moment old.cache.line.inner
+  reads_under a f writes =
+      let none = reads_flush_not old.besides.mode call writes in
+      since.along.still (a.reads writes) (omega (arith, f.no_fewer, f.most, none))
+
+  pub answers_under : Flushes On (on_cache old) (on_cache new) call answer → IsAnswered On (on_cache old) (on_cache new) call answer → IsAnswered In old new call answer
+  answers_under f a = record { may = a.may; mode = a.mode; reads = reads_under a f; silent = λ yes. quiet (a.silent yes) }
 
   pub flushes_under : HasCause old.cache.line.outer.failures answer new.cache.line.outer.failures → Flushes On (on_cache old) (on_cache new) call answer → Flushes In old new call answer
   flushes_under cause f = record {
@@ -317,7 +349,7 @@ module _ {M : Type 0} (geometry : M → Geometry) (stands : M → DiskState → 
     holds = m.holds;
     more = m.more;
     told = m.told;
-    answered = answers_under m.answered;
+    answered = answers_under m.flushes m.answered;
     flushes = flushes_under m.called.cause m.flushes;
     called = called_under m.answered m.called;
   }

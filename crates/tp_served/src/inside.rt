@@ -79,6 +79,16 @@ impl<D: Disk, M: Metadata> Inside<D, M> {
     }
 }
 
+impl<D: Disk, M: Metadata + Drop> Inside<D, M> {
+    /// The disk as it is now, without what the cache keeps.
+    pub(crate) fn into_disk(self) -> D
+        ensures { D.state result ≡ disk_of self }
+    {
+        let Inside { cache, besides: _ } = self;
+        cache.into_inner()
+    }
+}
+
 impl<D: SharedDisk, M: Metadata> Inside<D, M> {
     /// A shared read, of the cache as it stands: nothing of it moves, so no moment is picked.
     pub(crate) fn read_shared(&self, id: DevId, sector: u64, out: &mut [u8]) -> bool

@@ -122,6 +122,13 @@ impl<D: Disk + Drop, M: Metadata + Drop> Served<ReadCache<D>, M> {
         (answer, disk.into_inner())
     }
 
+    /// Hands the disk back as it is now, as a stop would leave it: nothing is written and nothing flushed, and what is not committed is lost.
+    pub fn into_disk(self) -> D
+        ensures { D.state result ≡ disk_of self }
+    {
+        self.into_under().into_inner()
+    }
+
     /// The disk under the caches.
     pub fn disk(&self) -> &D
         ensures { D.state result.now ≡ disk_of self.now }

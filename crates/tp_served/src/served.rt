@@ -279,6 +279,14 @@ impl<D: Disk + Drop, M: Metadata + Drop> Served<D, M> {
         lent.close()
     }
 
+    /// The disk under the cache of changed blocks, as it is now.
+    pub(crate) fn into_under(self) -> D
+        ensures { D.state result ≡ disk_of self }
+    {
+        let Served { lent } = self;
+        lent.into_disk()
+    }
+
     /// The sizes of the pool.
     pub fn geometry(&self) -> Geometry
         ensures { result ≡ M.geometry self.now.besides.metadata }

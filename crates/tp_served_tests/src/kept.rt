@@ -93,6 +93,19 @@ fn nodes_kept_until_commit(rt: HostRuntime) -> Result<(), Fail> {
     Ok(())
 }
 
+/// What two reads of a block call that has no data block, one behind the other.
+fn calls_of_reads(pool: &mut MemServed) -> Result<[Tally; 2], Refusal> {
+    Ok([reading(pool)?, reading(pool)?])
+}
+
+/// The first read of a pool that holds nothing yet brings its nodes into memory, and the second calls no disk.
+#[test]
+fn nodes_are_read_once(rt: HostRuntime) -> Result<(), Fail> {
+    let [first, second] = told_of_reopened(rt.alloc(), 2048, MANY, calls_of_reads)??;
+    assert_eq!(rt; (first.metadata_reads > 0, second), (true, Tally::NONE));
+    Ok(())
+}
+
 /// Makes volume 0. What a first write of 1 MiB from this sector of it on calls.
 fn first_write(alloc: Global, pool: &mut MemServed, sector: u64) -> Result<Tally, Refusal> {
     create_thin(pool, DevId::new(VOLUME))?;

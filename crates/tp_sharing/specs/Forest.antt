@@ -1,4 +1,4 @@
--- Internal: the trees of the volumes below the device tree, and which virtual blocks share a data block (own, in the manner of the kernel's
+-- Trusted reading: the trees of the volumes below the device tree, and which virtual blocks share a data block (own, in the manner of the kernel's
 -- thin-provisioning.rst: "internal snapshots").
 use Rattle.std.specs.Prelude.{◌≡◌, ℕ, zero, suc, ◌-◌, ◌<◌, ◌≤◌, ◌^◌, ◌↔◌, ◌||◌, List, [], ◌++◌, length, slice_index, Option, Some, IsTrue}
 use Rattle.std.specs.Option.{option_map}

@@ -1,4 +1,4 @@
--- Internal: how many metadata blocks the trees use (own).
+-- Trusted reading: how many metadata blocks the trees use (own).
 use Rattle.std.specs.Prelude.{◌≡◌, ℕ, ◌+◌, ◌-◌, ◌/◌, ◌^◌, ◌<◌, ◌≤◌, nat_lt, List, [], ◌∷◌, ◌++◌, length, map, Some, sum_by}
 use Rattle.std.specs.List.{AllByRecursion, count_by, range_with_len}
 use Rattle.tp_layout.specs.declared.entry.Entry.{Entry}

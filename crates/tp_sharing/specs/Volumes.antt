@@ -1,4 +1,4 @@
--- Internal: what the trees stand for as lists, for the layers above: the devices, their virtual blocks, and the data blocks of these (own).
+-- Trusted reading: what the trees stand for as lists, for the layers above: the devices, their virtual blocks, and the data blocks of these (own).
 use Rattle.std.specs.Prelude.{◌≡◌, ℕ, zero, suc, ◌+◌, ◌-◌, ◌<◌, ◌≤◌, ◌==◌, ◌||◌, ◌^◌, nat_lt, if◌then◌else◌, List, [], ◌∷◌, ◌++◌, length, map, Option, None, Some, ◌↔◌, ⊤, IsTrue}
 use Rattle.std.specs.Option.{option_map}
 use Rattle.std.specs.List.{count_by, range_with_len}

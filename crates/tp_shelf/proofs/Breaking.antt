@@ -27,6 +27,7 @@ module _ {D : Type 0} (geometry : D → Geometry) (held : D → List Holding) (f
     answered = record {
       may = subst (λ b. MayAnswer (mode_if b) call answer) (sym was) may;
       mode = ap mode_if is ∙ (mode ∙ ap (λ b. mode_after (mode_if b) call answer) (sym was));
+      reads = λ no. refl;
       silent = λ yes. record { failures = refl; flushes = refl; moment = refl };
     };
     flushes = record {

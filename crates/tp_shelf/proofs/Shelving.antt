@@ -17,7 +17,7 @@ module _ {D : Type 0} (geometry : D → Geometry) (held : D → List Holding) (f
     holds = holds;
     more = λ id before after. refl;
     told = λ id blocks is tells before. let own = told id blocks is tells in omega (arith, own);
-    answered = record { may = may; mode = sym mode; silent = λ yes. record { failures = refl; flushes = same; moment = refl } };
+    answered = record { may = may; mode = sym mode; reads = λ no. refl; silent = λ yes. record { failures = refl; flushes = same; moment = refl } };
     flushes = record {
       no_fewer = omega (arith, same);
       most = omega (arith, same);
@@ -41,7 +41,7 @@ module _ {D : Type 0} (geometry : D → Geometry) (held : D → List Holding) (f
     holds = ap holds_of same;
     more = λ id before after. refl;
     told = λ id blocks is tells before. absurd cc;
-    answered = record { may = refl; mode = refl; silent = λ yes. absurd cc };
+    answered = record { may = refl; mode = refl; reads = λ no. refl; silent = λ yes. absurd cc };
     flushes = record {
       no_fewer = omega (arith, more);
       most = omega (arith, more);

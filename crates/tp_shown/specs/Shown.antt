@@ -1,4 +1,4 @@
--- Internal: what a plain pool with the contents of a commit shows, in words of lists and of the image (own).
+-- Trusted reading: what a plain pool with the contents of a commit shows, in words of lists and of the image (own).
 use Rattle.std.specs.Prelude.{◌≡◌, ◌≢◌, ◌⊎◌, ℕ, zero, suc, ◌+◌, ◌-◌, ◌*◌, ◌/◌, ◌%◌, ◌<◌, ◌≤◌, ◌&&◌, Bool, IsTrue, true, false, List, length, map, slice_get, Option, None, Some, IsSome, is_some}
 use Rattle.std.specs.Option.{option_map_or}
 use Rattle.std.specs.List.{count_by, range_with_len}

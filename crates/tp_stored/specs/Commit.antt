@@ -1,4 +1,4 @@
--- Internal: what the image of a commit has: a superblock, the counts of its area, and the nodes that they name (own layout).
+-- Trusted reading: what the image of a commit has: a superblock, the counts of its area, and the nodes that they name (own layout).
 use Rattle.std.specs.Prelude.{◌≡◌, ℕ, ◌+◌, ◌<◌, ◌≤◌, ◌%◌, ◌^◌, List, [], ◌∷◌, ◌++◌, drop, length, nat_lt, take, Ok, Some, ⊤}
 use Rattle.std.specs.List.{count_by, range_with_len}
 use Rattle.tp_model.specs.Geometry.{Geometry, IsWithinLimits, fixed_part, sectors_of_image}

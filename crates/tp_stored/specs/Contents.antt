@@ -1,4 +1,4 @@
--- Internal: what a commit says of a pool, and the pools that an image with it stands for (own).
+-- Trusted reading: what a commit says of a pool, and the pools that an image with it stands for (own).
 use Rattle.std.specs.Prelude.{◌≡◌, ℕ, ◌*◌, ◌<◌, ◌≤◌, Bool, List, length, if◌then◌else◌}
 use Rattle.std.specs.Option.{option_map}
 use Rattle.std.specs.FinMap.{empty}

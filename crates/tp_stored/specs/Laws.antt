@@ -1,4 +1,4 @@
--- Internal: laws of what a commit stores (own).
+-- Trusted reading: laws of what a commit stores (own).
 use Rattle.std.specs.Prelude.{◌≡◌, ◌↔◌, ℕ, ◌+◌, ◌<◌, ◌≤◌, List, Contains, slice_index}
 use Rattle.tp_model.specs.Geometry.{Geometry}
 use Rattle.tp_model.specs.Sectors.{Sector}

@@ -1,4 +1,4 @@
--- Internal: when nodes and counts as data are those of the blocks (own).
+-- Trusted reading: when nodes and counts as data are those of the blocks (own).
 use Rattle.std.specs.Prelude.{◌≡◌, ℕ, ◌<◌, ◌≤◌, List, ◌∷◌, ◌++◌, length, nat_lt, if◌then◌else◌}
 use Rattle.tp_model.specs.Sectors.{Sector}
 use Rattle.tp_model.specs.Disk.{DiskState, seen}

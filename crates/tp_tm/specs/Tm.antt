@@ -1,4 +1,4 @@
--- Internal: the counts of both parts of a pool, now and as the last commit kept them (own).
+-- Trusted reading: the counts of both parts of a pool, now and as the last commit kept them (own).
 use Rattle.std.specs.Prelude.{◌≡◌, ℕ, ◌≤◌, ◌++◌, List, length, set, slice_index}
 use Rattle.tp_model.specs.Geometry.{Geometry}
 use Rattle.tp_layout.specs.declared.counts.Part.{Part}

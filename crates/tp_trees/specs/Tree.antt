@@ -1,4 +1,4 @@
--- Internal: a tree in the store, and its content.
+-- Trusted reading: a tree in the store, and its content.
 use Rattle.std.specs.Prelude.{◌≡◌, ℕ, zero, suc, ◌+◌, ◌-◌, ◌<◌, ◌≤◌, List, [], ◌∷◌, ◌++◌, length, nat_lt, slice_index_or, Bool, ◌==◌, ◌||◌, if◌then◌else◌}
 use Rattle.tp_layout.specs.Entries.{Ascend, first_key, rank_of}
 use Rattle.tp_layout.specs.declared.entry.Entry.{Entry}

@@ -1,4 +1,4 @@
--- A read-only pool of which nothing is told but its geometry: no stop of it is opened, and it shows no plain pool.
+-- Internal: a read-only pool of which nothing is told but its geometry: no stop of it is opened, and it shows no plain pool.
 use Rattle.std.specs.Prelude.{false}
 use Rattle.std.specs.FinMap.{empty}
 use Rattle.tp_model.specs.declared.mode.Mode.TheVariants.{ReadOnly}

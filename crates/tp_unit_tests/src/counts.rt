@@ -544,6 +544,59 @@ fn full_runs_are_passed_over(rt: HostRuntime) -> Result<(), Fail> {
     Ok(())
 }
 
+/// As many data blocks as a pool has at most: 1024 runs.
+const MOST: u64 = 1_048_576;
+
+/// Counts of so many that are all named.
+fn all_named(alloc: Global) -> Result<Counts, Refusal> {
+    let geometry = Geometry::new(128, 16, 4096, MOST)?;
+    let Ok(mut counts) = Counts::new(alloc, geometry, Part::Data) else {
+        return Err(Refusal::Memory);
+    };
+    for block in 0..MOST {
+        take(&mut counts, block, 1);
+    }
+    Ok(counts)
+}
+
+/// Gives a block up, looks for a free one, and takes the first again: whether that was the one.
+fn is_found_again(counts: &mut Counts, block: u64) -> bool {
+    drop_one(counts, block);
+    let found = counts.find_free();
+    take(counts, block, 1);
+    found == Some(block)
+}
+
+/// Whether each of so many turns finds these blocks, one behind the other.
+fn are_found_again(counts: &mut Counts, blocks: &[u64], turns: u32) -> bool {
+    for _ in 0..turns {
+        for block in blocks {
+            if !is_found_again(counts, *block) {
+                return false;
+            }
+        }
+    }
+    true
+}
+
+/// A look begins where the last one ended. It takes a second; where each began at the first block it would be minutes.
+#[test]
+fn a_look_begins_where_the_last_one_ended(rt: HostRuntime) -> Result<(), Fail> {
+    let mut counts = all_named(rt.alloc())?;
+    let found = are_found_again(&mut counts, &[MOST - 1], 60_000_000);
+    assert!(rt; found);
+    Ok(())
+}
+
+/// Of a run in which no block is free a look is at one block. It takes a second; where it was at sixteen after sixteen of them it would be minutes.
+#[test]
+fn a_full_run_is_one_step(rt: HostRuntime) -> Result<(), Fail> {
+    let mut counts = all_named(rt.alloc())?;
+    let found = are_found_again(&mut counts, &[0, MOST - 1], 400_000);
+    assert!(rt; found);
+    Ok(())
+}
+
 /// What `find_free` says of so many blocks that are all named but this one.
 fn found_among_named(alloc: Global, blocks: u64, free: u64) -> Result<Option<u64>, Refusal> {
     let mut counts = data_counts(alloc, blocks)?;

@@ -14,7 +14,7 @@ use Rattle.tp_model.specs.Status.{pool_line}
 use Rattle.tp_model.specs.Disk.{DiskState}
 use Rattle.tp_model.proofs.Maps.{get_insert, get_remove, same_nat_map}
 use Rattle.tp_stored.specs.Contents.{Contents}
-use Rattle.tp_pool.specs.Held.{Held, PoolCalled, UsesUnheld, shows}
+use Rattle.tp_pool.specs.Held.{Held, PoolCalled, shows}
 use Rattle.tp_users.specs.Users.{CostsFew}
 use Rattle.tp_users.proofs.Plain.{done_makes, is_refused, not_refused}
 
@@ -84,12 +84,12 @@ module _ {M : Type 0} (geometry : M → Geometry) (stands : M → DiskState → 
 
   pub costs : (s : PlainPool) (id origin : ℕ) (old mid new : Held M) (before between behind : List ℕ) → id < 2 ^ 24 → shows geometry stands old s
       → PoolCalled geometry stands old old Status (Line before)
-      → PoolCalled geometry stands old mid (CreateSnap id origin) Done → UsesUnheld geometry stands old mid 3
+      → PoolCalled geometry stands old mid (CreateSnap id origin) Done
       → PoolCalled geometry stands mid mid Status (Line between)
-      → PoolCalled geometry stands mid new (Delete id) Done → UsesUnheld geometry stands mid new 0
+      → PoolCalled geometry stands mid new (Delete id) Done
       → PoolCalled geometry stands new new Status (Line behind)
       → CostsFew s id origin before between behind
-  costs s id origin old mid new before between behind low shown first snap three second removal none third =
+  costs s id origin old mid new before between behind low shown first snap second removal third =
       let m = snap.called.meets s shown in
       let t = m.1 in
       let taken : Makes s (CreateSnap id origin) t = done_makes s (CreateSnap id origin) m.0 t m.2 in
@@ -98,16 +98,16 @@ module _ {M : Type 0} (geometry : M → Geometry) (stands : M → DiskState → 
       let u = w.1 in
       let gone : Makes t (Delete id) u = done_makes t (Delete id) w.0 u w.2 in
       let volumes : remove t.volumes id ≡ s.volumes =
-      ap (λ (p : PlainPool). remove p.volumes id) taken ∙ removed_again s.volumes id (volume_of s origin) absent in
+      ap (λ (p : PlainPool). remove p.volumes id) taken.is ∙ removed_again s.volumes id (volume_of s origin) absent in
       let same : u ≡ record s { meta_used = u.meta_used } =
-      gone ∙ (λ i. record (taken i) { volumes = volumes i; meta_used = u.meta_used }) in
-      let unheld : s.held_root ≡ 0 → t.held_root ≡ 0 = λ free. ap (λ (p : PlainPool). p.held_root) taken ∙ free in
+      gone.is ∙ (λ i. record (taken.is i) { volumes = volumes i; meta_used = u.meta_used }) in
+      let unheld : s.held_root ≡ 0 → t.held_root ≡ 0 = λ free. ap (λ (p : PlainPool). p.held_root) taken.is ∙ free in
       record {
         more = t.meta_used;
         left = u.meta_used;
         before_is = line_is old s before shown first;
-        between_is = line_is mid t between m.3 second ∙ ap pool_line taken;
+        between_is = line_is mid t between m.3 second ∙ ap pool_line taken.is;
         behind_is = line_is new u behind w.3 third ∙ ap pool_line same;
-        few = three s t shown m.3;
-        none = λ free. let fewer : u.meta_used ≤ t.meta_used + 0 = none t u m.3 w.3 (unheld free) in omega (arith, fewer);
+        few = taken.taken;
+        none = λ free. gone.taken (unheld free);
       }

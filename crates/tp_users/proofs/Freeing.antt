@@ -159,7 +159,7 @@ module _ (id meta_used sector : ℕ) (xs ys : List Sector) (s1 s2 s3 : PlainPool
 
   free : (after : PlainPool) → Makes s3 ReleaseMetadataSnap after → used after + blocks_touched s3 id sector (length xs) ≤ used s3
   free after is =
-      let left : used after ≡ used (without s3 (copy_id id)) = ap used is ∙ ap (λ (vs : FinMap nat_cmp Volume). used (record s3 { volumes = vs })) volumes_left in
+      let left : used after ≡ used (without s3 (copy_id id)) = ap used is.is ∙ ap (λ (vs : FinMap nat_cmp Volume). used (record s3 { volumes = vs })) volumes_left in
       let fewer : count_by touched (range_with_len 0 16) ≤ count_by (is_exclusive s3 (copy_id id)) (range_with_len 0 16)
       = count_less touched (is_exclusive s3 (copy_id id)) (range_with_len 0 16) (λ k t. (Decides-is_exclusive s3 (copy_id id) k).1 (own k t)) in
       let back = used_without s3 (copy_id id) 16 in

@@ -45,7 +45,7 @@ pub blank_shown : (old new : Held Meta) (g : Geometry) (id : ℕ) → g ≡ user
 blank_shown old new g id is was called =
     let s = empty_pool users_geometry in
     let m = called.called.meets s (subst (λ (x : Geometry). Shows old (empty_pool x)) is was) in
-    (m.1, (m.1.meta_used, done_makes s (CreateThin id) m.0 m.1 m.2), m.3)
+    (m.1, (m.1.meta_used, (done_makes s (CreateThin id) m.0 m.1 m.2).is), m.3)
 
 -- no call is refused for want of metadata room while the bound leaves it
 abbrev pub RoomLasts : Type 0

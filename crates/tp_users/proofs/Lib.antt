@@ -14,3 +14,4 @@ mod Blanks
 mod Growth
 mod Copies
 mod Freeing
+mod Leading

@@ -64,22 +64,22 @@ sectors_at o = option_map_or (λ v. v.sectors) o []
 module _ (origin copy sector : ℕ) (bytes : List ℕ) (s q : PlainPool) (b : Bears origin sector bytes s) (other : copy ≢ origin) (low : copy < 2 ^ 24) (is : Makes s (CreateSnap copy origin) q) where
   at_copy : get q.volumes copy ≡ Some (volume_of s origin)
   at_copy =
-      ap (λ (p : PlainPool). get p.volumes copy) is ∙ get_insert s.volumes copy (volume_of s origin) copy
+      ap (λ (p : PlainPool). get p.volumes copy) is.is ∙ get_insert s.volumes copy (volume_of s origin) copy
       ∙ ap (λ (t : Bool). cond t (Some (volume_of s origin)) (get s.volumes copy)) (eq-eqb copy copy refl)
 
   at_origin : get q.volumes origin ≡ get s.volumes origin
   at_origin =
-      ap (λ (p : PlainPool). get p.volumes origin) is ∙ get_insert s.volumes copy (volume_of s origin) origin
+      ap (λ (p : PlainPool). get p.volumes origin) is.is ∙ get_insert s.volumes copy (volume_of s origin) origin
       ∙ ap (λ (t : Bool). cond t (Some (volume_of s origin)) (get s.volumes origin)) (ne_eqb origin copy (λ e. other (sym e)))
 
   sizes_are : q.geometry ≡ s.geometry
-  sizes_are = ap (λ (p : PlainPool). p.geometry) is
+  sizes_are = ap (λ (p : PlainPool). p.geometry) is.is
 
   works_are : q.mode ≡ s.mode
-  works_are = ap (λ (p : PlainPool). p.mode) is
+  works_are = ap (λ (p : PlainPool). p.mode) is.is
 
   clean_are : q.needs_check ≡ s.needs_check
-  clean_are = ap (λ (p : PlainPool). p.needs_check) is
+  clean_are = ap (λ (p : PlainPool). p.needs_check) is.is
 
   pub origin_bears : Bears origin sector bytes q
   origin_bears =

@@ -58,7 +58,7 @@ from_step id s after answer step =
     let held : (not (s.held_root == 0) && short_of) ≡ true → s.held_root ≢ 0 = held_if_short s.held_root (s.held_root == 0) short_of (eq-eqb s.held_root 0) in
     elim (by_tests (is_failed s.mode) (is_read_only s.mode) (not (exists s id)) (nat_lt 0 (hold_count s.holds id)) (not (s.held_root == 0) && short_of) s after answer
     ((answer ≡ reply s (Delete id)) × Makes s (Delete id) after) held step) [
-      | inl h ↦ inr (inr (after.meta_used, h.1))
+      | inl h ↦ inr (inr (after.meta_used, h.1.is))
       | inr (inl e) ↦ inl e
       | inr (inr w) ↦ inr (inl w)
     ]
@@ -152,10 +152,10 @@ room_behind : (s q : PlainPool) (id other sector : ℕ) (xs : List Sector) → M
     → s.geometry.data_blocks + own_blocks s id < used s + blocks_touched s other sector (length xs)
 room_behind s q id other sector xs is there full =
     let call = Write other sector xs false in
-    let at : get q.volumes other ≡ cond (other == id) None (get s.volumes other) = ap (λ (p : PlainPool). get p.volumes other) is ∙ get_remove s.volumes id other in
+    let at : get q.volumes other ≡ cond (other == id) None (get s.volumes other) = ap (λ (p : PlainPool). get p.volumes other) is.is ∙ get_remove s.volumes id other in
     let listed : is_some (get q.volumes other) ≡ true = (and_parts (is_now other) (is_some (get q.volumes other)) there).1 in
     let volume : get q.volumes other ≡ get s.volumes other = at ∙ another_is (other == id) (get s.volumes other) (sym (ap is_some at) ∙ listed) in
-    let sizes : q.geometry ≡ s.geometry = ap (λ (p : PlainPool). p.geometry) is in
+    let sizes : q.geometry ≡ s.geometry = ap (λ (p : PlainPool). p.geometry) is.is in
     let long : length (volume_sectors q other) ≡ length (volume_sectors s other) = ap (λ (o : Option Volume). length (option_map_or (λ v. v.sectors) o [])) volume in
     let touched : blocks_touched q other sector (length xs) ≡ blocks_touched s other sector (length xs)
     = λ i. count_by (touches (sizes i) sector (length xs)) (range_with_len 0 (long i / (sizes i).block_sectors)) in
@@ -163,7 +163,7 @@ room_behind s q id other sector xs is there full =
     let needed : need q call other ≤ blocks_touched q other sector (length xs)
     = count_less (λ k. is_owning (effect_at q call other k) && not (is_exclusive q other k)) (touches q.geometry sector (length xs)) blocks (need_is_touched q other sector xs) in
     let short : q.geometry.data_blocks < used q + need q call other = leb-false (used q + need q call other) q.geometry.data_blocks full in
-    let rest : used q ≡ used (without s id) = ap used is in
+    let rest : used q ≡ used (without s id) = ap used is.is in
     let back : used (without s id) + own_blocks s id ≤ used s = used_without s id (length (volume_sectors s id) / s.geometry.block_sectors) in
     let most : q.geometry.data_blocks ≡ s.geometry.data_blocks = ap (λ (g : Geometry). g.data_blocks) sizes in
     omega (arith, touched, needed, short, rest, back, most)

@@ -5,6 +5,7 @@ use Rattle.tp_model.specs.Geometry.{Geometry}
 use Rattle.tp_model.specs.Sectors.{Sector}
 use Rattle.tp_model.specs.Pool.{PlainPool}
 use Rattle.tp_model.specs.Calls.{Answer, Call}
+use Rattle.tp_model.specs.Clauses.{Called}
 use Rattle.tp_model.specs.Disk.{DiskState}
 use Rattle.tp_model.specs.DiskStops.{AfterStop, LeavesOnly, StoppedSince, moment}
 use Rattle.tp_image.specs.Fresh.{empty_pool}
@@ -13,6 +14,7 @@ use Rattle.tp_image.specs.Stands.{StandsFor}
 use Rattle.tp_stored.specs.Contents.{Contents}
 use Rattle.tp_pool.specs.Flushes.{PoolClosed}
 use Rattle.tp_pool.specs.Held.{Held, IsPool, PoolCalled, moment_of, shows}
+use Rattle.tp_served.specs.Served.{Cached, IsClosed, IsKnown, cached, disk_of, on_cache}
 
 -- the slots say that there is no pool
 abbrev pub SaysNoPool : List Sector → Type 0
@@ -34,3 +36,11 @@ module _ {M : Type 0} (geometry : M → Geometry) (stands : M → DiskState → 
         → PoolClosed geometry stands marks room changed old disk answer → StoppedSince (moment_of old) disk image → IsLeft image
     in_format : (old new : DiskState) (g made : Geometry) (s : PlainPool) → LeavesOnly old new (IsFormatted g s made) → StoppedSince (moment old) new image
         → (SaysNoPool image → ⊥) → IsLeft image
+
+  -- The same of a pool on caches: what a stop may leave of the disk under them.
+  pub data IsLeftUnder (image : List Sector) : Type 0 where
+    under_rest : (c : Cached M) (s : PlainPool) → IsKnown geometry c → shows geometry stands (on_cache c) s → AfterStop (disk_of c).cells image → IsLeftUnder image
+    under_call : (old new : Cached M) (s : PlainPool) (call : Call) (answer : Answer) → shows geometry stands (on_cache old) s
+        → Called (cached geometry stands marks room changed) old new call answer → StoppedSince (moment (disk_of old)) (disk_of new) image → IsLeftUnder image
+    under_close : (old : Cached M) (disk : DiskState) (s : PlainPool) (answer : Answer) → shows geometry stands (on_cache old) s
+        → IsClosed geometry stands marks room changed old disk answer → StoppedSince (moment (disk_of old)) disk image → IsLeftUnder image

@@ -1,3 +1,4 @@
 pub mod Users
 pub mod First
 pub mod Left
+pub mod Lives

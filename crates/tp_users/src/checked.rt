@@ -9,7 +9,7 @@ ghost use Rattle.tp_check.specs.Errors.{is_fault};
 ghost use Rattle.tp_check.specs.declared.error.CheckError.{CheckError};
 ghost use Rattle.tp_meta.specs.Standing.{StandsFor, geometry_of};
 ghost use Rattle.tp_pool.specs.Held.{shows};
-ghost use Rattle.tp_users.specs.Left.{IsLeft};
+ghost use Rattle.tp_users.specs.Left.{IsLeft, IsLeftUnder};
 ghost use Rattle.tp_users.specs.Users.{IsOutside, StandsForOne};
 
 use std::alloc::Global;
@@ -29,6 +29,14 @@ pub fn stops_leave_clean_images<M: Metadata>()
     commits_are_clean();
 }
 
+/// The same of a pool on caches: each image that a stop may leave of the disk under them is clean.
+pub fn stops_under_caches_leave_clean_images<M: Metadata>()
+    ensures { (image : List Sector) → IsLeftUnder M.geometry M.stands M.marks M.room M.changed image → IsClean image }
+{
+    stops_leave_pools::<M>();
+    commits_are_clean();
+}
+
 /// Checks what a stop may have left of a pool: it is clean, or the check could not be made, for want of memory or since the disk failed.
 pub fn check_left<M: Metadata, D: Disk>(alloc: Global, disk: &mut D) -> Result<(), CheckError>
     ensures answers { IsTrue (D.state disk.old).is_honest → IsLeft M.geometry M.stands M.marks M.room M.changed (seen (D.state disk.old).cells)
@@ -36,6 +44,16 @@ pub fn check_left<M: Metadata, D: Disk>(alloc: Global, disk: &mut D) -> Result<(
     ensures cause { FaultHasCause (is_fault result) (D.state disk.old) (D.state disk.new) }
 {
     stops_leave_clean_images::<M>();
+    check(alloc, disk)
+}
+
+/// Checks what a stop may have left of the disk under a pool on caches: it is clean, or the check could not be made.
+pub fn check_left_under<M: Metadata, D: Disk>(alloc: Global, disk: &mut D) -> Result<(), CheckError>
+    ensures answers { IsTrue (D.state disk.old).is_honest → IsLeftUnder M.geometry M.stands M.marks M.room M.changed (seen (D.state disk.old).cells)
+        → IfErr result (λ e. (e ≡ CheckError.Fault) ⊎ (e ≡ CheckError.Memory)) }
+    ensures cause { FaultHasCause (is_fault result) (D.state disk.old) (D.state disk.new) }
+{
+    stops_under_caches_leave_clean_images::<M>();
     check(alloc, disk)
 }
 

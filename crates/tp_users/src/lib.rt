@@ -9,6 +9,7 @@ mod found;
 mod grown;
 mod held;
 mod kept;
+mod lives;
 mod out_of_room;
 mod parted;
 mod refused;
@@ -20,12 +21,16 @@ mod spared;
 mod zeroed;
 
 pub use blank::blank_pool;
-pub use checked::{check_left, check_stopped, check_then_open, stops_leave_clean_images};
+pub use checked::{
+    check_left, check_left_under, check_stopped, check_then_open, stops_leave_clean_images,
+    stops_under_caches_leave_clean_images,
+};
 pub use first::{first_session_is_answered, serve_first};
 pub use found::{held_volume_is_there, kept_state_is_found_alone};
 pub use grown::grown_blocks_read_zero;
 pub use held::{held_mapping_keeps_its_bytes, released_blocks_are_free};
 pub use kept::{closed_bytes_are_read, flushed_bytes_are_read};
+pub use lives::{hub_leaves_a_clean_image, hub_lives_twice};
 pub use out_of_room::{short_pool_is_used_again, stop_short_pool};
 pub use parted::snapshot_keeps_its_bytes;
 pub use refused::refused_write_is_nothing;

@@ -1,13 +1,16 @@
 use Rattle.std.proofs.Common.{◌≡◌, ◌<◌, [], length}
 use Rattle.tp_hub.specs.Told.{HasRoom}
-use Rattle.tp_lines.proofs.Playing.{Reads}
+use Rattle.tp_lines.specs.Plays.{PlaysLine, ends_last}
+use Rattle.tp_lines.specs.ReadLines.{Leads}
+use Rattle.tp_lines.specs.declared.play.Stopped.TheVariants.{Script}
+use Rattle.tp_lines.proofs.Doing.{SoFar}
 use Rattle.tp_lines.proofs.play.play_all.Given as goal
 
 abbrev pub invariant-loop-turn : goal.invariant-loop-turn
 invariant-loop-turn g l = record {
-  some : 0 < length l.piece;
+  some : 0 < length l.piece.items;
   room : length l.bytes ≡ 8192;
   empty : l.out.list ≡ [];
   fits : HasRoom l.out;
-  so_far : Reads g.D.Desk.asks l.initial.place.line l.initial.place.played (g.R.Read.remaining l.initial.script) (g.R.Read.remaining l.script) l.initial.desk l.desk (g.W.Write.contents l.initial.output) (g.W.Write.contents l.output) l.place.line l.place.played;
+  so_far : Leads g.D.Desk.asks (SoFar PlaysLine Script ends_last l.initial.place.line l.initial.place.played l.turn l.place.line l.place.played) l.initial.desk l.desk (g.S.Stream.calls l.initial.stream) (g.S.Stream.calls l.stream);
 }

@@ -1,6 +1,8 @@
 use Rattle.std.proofs.Common.{◌≡◌, [], length, take}
+use Rattle.std.specs.Prelude.{Ok}
 use Rattle.tp_hub.specs.Told.{HasRoom}
-use Rattle.tp_lines.specs.Plays.{Played}
+use Rattle.tp_lines.specs.Plays.{PlaysLine}
+use Rattle.tp_lines.specs.ReadLines.{AreDone, Leads, left_from, lines_from}
 use Rattle.tp_lines.proofs.play.play_bytes.Given as goal
 
 abbrev pub invariant-loop-byte : goal.invariant-loop-byte
@@ -8,5 +10,6 @@ invariant-loop-byte g l = record {
   room : length l.bytes ≡ 8192;
   empty : l.out.list ≡ [];
   fits : HasRoom l.out;
-  so_far : Played g.D.Desk.asks l.initial.place.line (take l.byte-index l.piece) l.initial.place.played l.initial.desk l.desk (g.W.Write.contents l.initial.output) (g.W.Write.contents l.output) l.place.line l.place.played;
+  left : l.place.line ≡ left_from l.initial.place.line (take l.byte-index l.piece);
+  so_far : Leads g.D.Desk.asks (λ asks did. AreDone PlaysLine (lines_from l.initial.place.line (take l.byte-index l.piece)) l.initial.place.played asks did l.place.played (Ok (tt {0}))) l.initial.desk l.desk (g.S.Stream.calls l.initial.stream) (g.S.Stream.calls l.stream);
 }

@@ -6,4 +6,4 @@ use Rattle.tp_lines.proofs.text.tell_marks.Given as goal
 
 -- what was written, and what is left, are the whole
 abbrev pub invariant-loop-mark : goal.invariant-loop-mark
-invariant-loop-mark g l = Telling (g.W.Write.contents l.initial.output) (g.W.Write.contents l.output) l.at (drop l.mark-index l.marks) l.bytes (text_in (told l.marks l.bytes))
+invariant-loop-mark g l = Telling (g.S.Stream.calls l.initial.stream) (g.S.Stream.calls l.stream) l.at (drop l.mark-index l.marks) l.bytes (text_in (told l.marks l.bytes))

@@ -27,7 +27,7 @@ returns-in_err-store-clause-any_moment g c last kept s may =
     let old = g.D.Disk.state c.args.disk.now in
     let d = g.D.Disk.state c.write_store.new.disk in
     let done = c.in_ok-write_store.ensures in
-    let has = counted c.args.tm.now c.args.stale.now area c.of.result.now c.changed_in-changed.result c.joined-marks.result (g.D.Disk.state c.args.disk.now) last next kept s may c.of.ensures c.changed_in-changed.ensures c.joined-marks.ensures done.counts in
+    let has = counted c.args.tm.now c.args.stale.now area c.of.result.now c.changed_in-changed.result c.joined-marks.result (g.D.Disk.state c.args.disk.now) last next kept s may c.of.ensures c.changed_in-changed.ensures.same c.joined-marks.ensures.both done.counts in
     let small : next.transaction_id < 2 ^ 64 = omega arith in
     let whole : sectors_of_image t.geometry ≤ length (seen d.cells) = omega (arith, c.requires, done.ran.same_disk.size, seen_size d (g.met.D.Disk.well_formed c.write_store.new.disk)) in
     let run = done.any_moment last kept may.left may.kept_is may.geometry (other_area last.sequence next.sequence area may.follows c.slot-area.ensures) in
@@ -50,7 +50,7 @@ returns-clause-any_moment g c last kept s may =
     let old = g.D.Disk.state c.args.disk.now in
     let d = g.D.Disk.state c.write_store.new.disk in
     let done = c.in_ok-write_store.ensures in
-    let has = counted c.args.tm.now c.args.stale.now area c.of.result.now c.changed_in-changed.result c.joined-marks.result (g.D.Disk.state c.args.disk.now) last next kept s may c.of.ensures c.changed_in-changed.ensures c.joined-marks.ensures done.counts in
+    let has = counted c.args.tm.now c.args.stale.now area c.of.result.now c.changed_in-changed.result c.joined-marks.result (g.D.Disk.state c.args.disk.now) last next kept s may c.of.ensures c.changed_in-changed.ensures.same c.joined-marks.ensures.both done.counts in
     let small : next.transaction_id < 2 ^ 64 = omega arith in
     let whole : sectors_of_image t.geometry ≤ length (seen d.cells) = omega (arith, c.requires, done.ran.same_disk.size, seen_size d (g.met.D.Disk.well_formed c.write_store.new.disk)) in
     let run = done.any_moment last kept may.left may.kept_is may.geometry (other_area last.sequence next.sequence area may.follows c.slot-area.ensures) in
@@ -64,7 +64,7 @@ returns-clause-stored g c last kept s may =
     let old = g.D.Disk.state c.args.disk.now in
     let d = g.D.Disk.state c.write_store.new.disk in
     let done = c.in_ok-write_store.ensures in
-    let has = counted c.args.tm.now c.args.stale.now area c.of.result.now c.changed_in-changed.result c.joined-marks.result (g.D.Disk.state c.args.disk.now) last next kept s may c.of.ensures c.changed_in-changed.ensures c.joined-marks.ensures done.counts in
+    let has = counted c.args.tm.now c.args.stale.now area c.of.result.now c.changed_in-changed.result c.joined-marks.result (g.D.Disk.state c.args.disk.now) last next kept s may c.of.ensures c.changed_in-changed.ensures.same c.joined-marks.ensures.both done.counts in
     let small : next.transaction_id < 2 ^ 64 = omega arith in
     let whole : sectors_of_image t.geometry ≤ length (seen d.cells) = omega (arith, c.requires, done.ran.same_disk.size, seen_size d (g.met.D.Disk.well_formed c.write_store.new.disk)) in
     let run = done.any_moment last kept may.left may.kept_is may.geometry (other_area last.sequence next.sequence area may.follows c.slot-area.ensures) in
@@ -80,7 +80,7 @@ returns-clause-holds g c last kept s may =
     let d = g.D.Disk.state c.write_store.new.disk in
     let e = g.D.Disk.state c.store.new.disk in
     let done = c.in_ok-write_store.ensures in
-    let has = counted c.args.tm.now c.args.stale.now area c.of.result.now c.changed_in-changed.result c.joined-marks.result (g.D.Disk.state c.args.disk.now) last next kept s may c.of.ensures c.changed_in-changed.ensures c.joined-marks.ensures done.counts in
+    let has = counted c.args.tm.now c.args.stale.now area c.of.result.now c.changed_in-changed.result c.joined-marks.result (g.D.Disk.state c.args.disk.now) last next kept s may c.of.ensures c.changed_in-changed.ensures.same c.joined-marks.ensures.both done.counts in
     let small : next.transaction_id < 2 ^ 64 = omega arith in
     let whole : sectors_of_image t.geometry ≤ length (seen d.cells) = omega (arith, c.requires, done.ran.same_disk.size, seen_size d (g.met.D.Disk.well_formed c.write_store.new.disk)) in
     let run = done.any_moment last kept may.left may.kept_is may.geometry (other_area last.sequence next.sequence area may.follows c.slot-area.ensures) in
@@ -137,8 +137,8 @@ returns-clause-current g c last kept s may =
     let done = c.in_ok-write_store.ensures in
     let fixed = named_fixed t last kept (seen old.cells) (may.left (seen old.cells) (AfterStop-seen old.cells)) may.kept_is may.geometry in
     let out = store_seen next d e done.ran.settled c.store.ensures.outside in
-    next_current t c.args.stale.now c.kept_in.new.self area c.changed_in-changed.result (seen old.cells) (seen e.cells) may.current c.changed_in-changed.ensures
+    next_current t c.args.stale.now c.kept_in.new.self area c.changed_in-changed.result (seen old.cells) (seen e.cells) may.current c.changed_in-changed.ensures.same
     (λ part. HoldsCounts-outside t.geometry part area (now_of t part) out (inr (omega (arith, (counts_fixed t.geometry part area).0)))
-    (counted t c.args.stale.now area c.of.result.now c.changed_in-changed.result c.joined-marks.result old last next kept s may c.of.ensures c.changed_in-changed.ensures c.joined-marks.ensures done.counts part))
+    (counted t c.args.stale.now area c.of.result.now c.changed_in-changed.result c.joined-marks.result old last next kept s may c.of.ensures c.changed_in-changed.ensures.same c.joined-marks.ensures.both done.counts part))
     (λ other differ. SameArea-then t.geometry other (seen old.cells) (seen d.cells) (seen e.cells) (done.beside fixed other differ) (super_outside t.geometry next other (seen d.cells) (seen e.cells) out))
     c.kept_in.ensures.others c.keep.new.self (c.keep.ensures.kept ∙ ap kept_now done.unchanged)

@@ -1,5 +1,5 @@
-use Rattle.std.proofs.Common.{◌||◌, false, get_or, refl}
-use Rattle.tp_meta.proofs.Areas.{joins_all, joins_more, joins_none}
+use Rattle.std.proofs.Common.{◌||◌, false, get_or, refl, arith}
+use Rattle.tp_meta.proofs.Areas.{joins_all, joins_more, joins_none, joins_only}
 use Rattle.tp_meta.proofs.stale.either.Goals as goal
 
 pub loop-j-init : goal.loop-j-init
@@ -12,5 +12,8 @@ loop-j-preserved c =
     let j = c.loop-j.j in
     joins_more first second j c.loop-j.marks (get_or first j false || get_or second j false) c.loop-j.invariant c.loop-j-test.true c.told-first c.told-second refl
 
-pub returns : goal.returns
-returns c = joins_all c.args.first.now c.args.second.now c.loop-j.j c.loop-j.marks c.loop-j.invariant
+pub returns-clause-both : goal.returns-clause-both
+returns-clause-both c = joins_all c.args.first.now c.args.second.now c.loop-j.j c.loop-j.marks c.loop-j.invariant
+
+pub returns-clause-only : goal.returns-clause-only
+returns-clause-only c = joins_only c.args.first.now c.args.second.now c.loop-j.j c.loop-j.marks c.loop-j.invariant (omega (arith, c.loop-j-test.false)) c.told-first

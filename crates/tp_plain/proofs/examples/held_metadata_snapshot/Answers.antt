@@ -1,4 +1,4 @@
-use Rattle.tp_plain.proofs.ExampleSteps.{reserves, reserved_line, writes_since, read_since, held_since, used_since, not_in_place, releases, used_released}
+use Rattle.tp_plain.proofs.ExampleSteps.{reserves, reserved_line, writes_since, read_since, held_since, used_since, not_in_place, copy_is_left, releases, used_released}
 use Rattle.tp_plain.proofs.examples.held_metadata_snapshot.Goals as goal
 
 pub returns-clause-reserves : goal.returns-clause-reserves
@@ -21,6 +21,9 @@ returns-clause-both_used c = used_since
 
 pub returns-clause-not_in_place : goal.returns-clause-not_in_place
 returns-clause-not_in_place c = not_in_place
+
+pub returns-clause-left : goal.returns-clause-left
+returns-clause-left c = copy_is_left
 
 pub returns-clause-releases : goal.returns-clause-releases
 returns-clause-releases c = releases

@@ -1,7 +1,15 @@
 use denote.Param.Send.{sendable}
-use Rattle.tp_program.proofs.First.{unheld}
+use Rattle.std.proofs.Common.{Err, ap, inl, inr}
+use Rattle.tp_program.proofs.Deeds.{done_on}
 use Rattle.tp_program.proofs.clients.serve_image.Goals as goal
 
--- nobody holds a volume of a pool that was opened
-pub serve_pool_on-requires : goal.serve_pool_on-requires
-serve_pool_on-requires g c = (search sendable depth 20, (search sendable depth 20, unheld c.in_ok-pool.pool.besides.holders c.in_ok-pool.ensures.holders))
+pub serve_disk-disk-requires : goal.serve_disk-disk-requires
+serve_disk-disk-requires g c =
+    let out = c.in-Ok.ensures in
+    (search sendable depth 20, (search sendable depth 20, (search sendable depth 20, (search sendable depth 20, out.handed_out))))
+
+pub returns-in-Ok : goal.returns-in-Ok
+returns-in-Ok g c = inr (done_on _ c.in-Ok.ensures c.close.ensures c.serve_disk-disk.ensures)
+
+pub returns-in-Err : goal.returns-in-Err
+returns-in-Err g c = inl (c.in-Err.ensures, ap Err c.unopened.ensures)

@@ -1,21 +1,15 @@
-use Rattle.std.proofs.Common.{ℕ, ap, ◌∙◌}
+use Rattle.std.proofs.Common.{ℕ, ap, refl, sym, ◌∙◌}
 use Rattle.std.specs.FinMap.{insert}
 use Rattle.tp_model.specs.Geometry.{Geometry}
-use Rattle.tp_model.specs.Pool.{hold_total}
-use Rattle.tp_model.specs.Calls.{CreateThin, new_volume}
+use Rattle.tp_model.specs.Calls.{CreateThin, Done, new_volume}
 use Rattle.tp_model.specs.Disk.{DiskState}
 use Rattle.tp_image.specs.Fresh.{empty_pool}
-use Rattle.tp_model.proofs.Running.{starts}
-use Rattle.tp_meta.specs.Standing.{StandsFor, changed_of, geometry_of, marks_of, room_of}
-use Rattle.tp_meta.specs.Framing.{stands_bounded, stands_one, stands_trees, stands_within}
-use Rattle.tp_pool.proofs.Ranges.{law_within}
-use Rattle.tp_served.specs.Served.{cached, laws as pool_laws}
+use Rattle.tp_model.proofs.PoolStopLaws.{MayReopen-same}
+use Rattle.tp_model.proofs.Running.{reopened_after}
 use Rattle.tp_program.specs.First.{first_pool}
-use Rattle.tp_program.proofs.First.{done_makes, no_holds, unheld}
+use Rattle.tp_program.proofs.First.{done_makes, unheld}
+use Rattle.tp_program.proofs.Living.{said_laws}
 use Rattle.tp_program.proofs.fresh.fresh_pool.Goals as goal
-
-pub returns-clause-holders : goal.returns-clause-holders
-returns-clause-holders c = ap hold_total c.in_ok-create_thin.ensures.holds ∙ no_holds c.in-Ok-format.pool.besides.holders c.in-Ok-format.ensures.holders
 
 pub returns-clause-empty : goal.returns-clause-empty
 returns-clause-empty c = c.in_ok-create_thin.ensures.holds ∙ unheld c.in-Ok-format.pool.besides.holders c.in-Ok-format.ensures.holders
@@ -31,6 +25,12 @@ returns-clause-shows c =
     let makes = done_makes s (CreateThin id) met.0 met.1 met.2 in
     let named = ap (λ (n : ℕ). record s { volumes = insert s.volumes n (new_volume g); meta_used = met.1.meta_used }) c.new-3.ensures in
     let sized = ap (λ (k : Geometry). first_pool k met.1.meta_used) c.in_ok-geometry.ensures.good in
-    let laws = pool_laws geometry_of StandsFor marks_of room_of changed_of (λ m disk now kept p st has. stands_trees m disk now kept p st has) (law_within stands_within)
-    (λ m disk now kept st. stands_bounded m disk now kept st) (λ m disk now kept next last st then. stands_one m disk now kept next last st then) in
-    (met.1, (met.1.meta_used, makes ∙ named ∙ sized), starts (cached geometry_of StandsFor marks_of room_of changed_of) laws c.create_thin.new.self met.1 met.3 (λ image left. call.opens s shown image (laws.wider c.create_thin.new.self _ _ image call.time.later left)))
+    let later = call.time.later in (
+      met.1,
+      (met.1.meta_used, makes.is ∙ named ∙ sized),
+      record {
+        shown = met.3;
+        opens = λ image left. call.opens s shown image (said_laws.wider c.create_thin.new.self _ _ image later left);
+        left = λ S found. let stops = met.4 in MayReopen-same met.0 met.1 S _ (sym (reopened_after s (CreateThin id) Done met.0 met.1 met.2)) (stops.kept refl S found);
+      },
+    )

@@ -1,10 +1,19 @@
-use Rattle.std.proofs.Common.{inr, Result, subst, sym}
-use Rattle.tp_model.specs.declared.refusal.Refusal.{Refusal}
-use Rattle.tp_program.specs.Images.{IsChecked}
+use Rattle.std.proofs.Common.{◌≡◌, List, ◌∷◌, ap, inl, inr, refl, ◌∙◌, Err}
+use Rattle.tp_images.specs.Deeds.{Closes, Deed}
 use Rattle.tp_program.proofs.images.check_image.Goals as goal
 
-pub returns : goal.returns
-returns g c =
-    let told = g.W.Write.contents in
-    subst (λ (r : Result (Unit {0}) Refusal). IsChecked (told c.args.output.now) (told c.tell_check-told.new.output) r) (sym c.because.ensures)
-    (inr (c.in-Ok.disk, c.tell_check-told.new.disk, c.in-Ok.ensures, c.tell_check-told.ensures))
+pub returns-in-Ok : goal.returns-in-Ok
+returns-in-Ok g c =
+    let out = c.in-Ok.ensures in
+    let after = g.I.Disk.Disk.state c.check_on-disk.result.0 in
+    inr (record {
+      before = g.I.Disk.Disk.state c.in-Ok.disk;
+      after = after;
+      deeds = c.close.ensures ∙ ap (λ (l : List Deed). Closes c.args.name.now after ∷ l) out.deeds;
+      handed_out = out.handed_out;
+      lasts = out.lasts;
+      does = c.check_on-disk.ensures;
+    })
+
+pub returns-in-Err : goal.returns-in-Err
+returns-in-Err g c = inl (c.in-Err.ensures, ap Err c.unopened.ensures, refl)

@@ -1,19 +1,22 @@
-use Rattle.std.proofs.Common.{rules, inl, inr, refl, Result, subst, sym}
-use Rattle.std.proofs.lemmas.Result.{err_from_is_err_and}
-use Rattle.tp_model.specs.declared.refusal.Refusal.{Refusal}
-use Rattle.tp_program.specs.declared.failure.Failure.{Failure}
-use Rattle.tp_program.specs.Failures.{number_of}
-use Rattle.tp_program.specs.Images.{IsStatusTold}
+use Rattle.std.proofs.Common.{◌≡◌, List, ◌∷◌, ap, inl, inr, refl, ◌∙◌, Err}
+use Rattle.tp_images.specs.Deeds.{Closes, Deed}
 use Rattle.tp_program.proofs.images.status_of_image.Goals as goal
 
-pub returns : goal.returns
-returns g c =
-    let told = g.W.Write.contents in
-    subst (λ (r : Result (Unit {0}) Refusal). IsStatusTold c.args.id (told c.args.output.now) (told c.tell_status-told.new.output) r) (sym c.because.ensures)
-    (inr (c.in_ok-pool.pool, c.tell_status-told.new.pool, c.in_ok-pool.ensures, c.tell_status-told.ensures))
+pub tell_status_on-disk-requires : goal.tell_status_on-disk-requires
+tell_status_on-disk-requires g c = let out = c.in-Ok.ensures in out.handed_out
 
-pub returns-in_err-pool : goal.returns-in_err-pool
-returns-in_err-pool g c =
-    let p = err_from_is_err_and c.from_residual.result c.from_residual.ensures.1 in
-    let told = g.W.Write.contents in
-    subst (λ (r : Result (Unit {0}) Failure). IsStatusTold c.args.id (told c.args.output.now) (told c.args.output.now) (number_of r)) (sym p.1) (inl (p.0.refusal, refl, search rules))
+pub returns-in-Ok : goal.returns-in-Ok
+returns-in-Ok g c =
+    let out = c.in-Ok.ensures in
+    let after = g.I.Disk.Disk.state c.tell_status_on-disk.result.0 in
+    inr (record {
+      before = g.I.Disk.Disk.state c.in-Ok.disk;
+      after = after;
+      deeds = c.close.ensures ∙ ap (λ (l : List Deed). Closes c.args.name.now after ∷ l) out.deeds;
+      handed_out = out.handed_out;
+      lasts = out.lasts;
+      does = c.tell_status_on-disk.ensures;
+    })
+
+pub returns-in-Err : goal.returns-in-Err
+returns-in-Err g c = inl (c.in-Err.ensures, ap Err c.unopened.ensures, refl)

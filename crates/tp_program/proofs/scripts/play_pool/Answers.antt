@@ -1,23 +1,21 @@
-use Rattle.tp_hub.specs.Serve.{HubRuns}
-use Rattle.tp_meta.specs.Standing.{StandsFor, changed_of, geometry_of, marks_of, room_of}
-use Rattle.tp_served.specs.Served.{cached}
-use Rattle.tp_program.proofs.Playing.{script_so}
+use Rattle.std.proofs.Common.{None, Some}
+use Rattle.tp_program.specs.Lives.{closing_of}
+use Rattle.tp_program.specs.Scripts.{is_bad}
+use Rattle.tp_program.proofs.Living.{lived}
+use Rattle.tp_program.proofs.Playing.{map_bool}
 use Rattle.tp_program.proofs.scripts.play_pool.Goals as goal
 
 pub returns : goal.returns
 returns g c =
-    let left = g.R.Read.remaining in
-    let told = g.W.Write.contents in
-    let play = c.play_script-result in (
-      c.new.result,
-      play.new.desk.hub,
-      play.result.result,
-      play.result.played,
-      told play.new.output,
-      c.new.ensures.pool,
-      c.new.ensures.sessions,
-      script_so (HubRuns (cached geometry_of StandsFor marks_of room_of changed_of)) (λ t. t.hub) (left c.args.script.now) (left play.new.script) _ play.new.desk (told c.args.output.now) (told play.new.output)
-          play.result.played play.result.result play.ensures,
-      c.flush.ensures.bytes,
-      c.end_script.ensures,
+    let played = c.play_hub-hub in
+    let asks = played.ensures.0 in
+    let after = g.D.Disk.state c.end_script.result.0 in (
+      asks,
+      played.result.1.played,
+      played.result.1.result,
+      played.ensures.2,
+      map_bool (is_bad played.result.1.result) _ _ _ _
+          (λ e. (e.0, lived c.new.result played.result.0 asks None after played.ensures.1 e.1 c.args.pool c.new.ensures.pool c.new.ensures.sessions))
+          (λ e. (e.0, e.1, lived c.new.result played.result.0 asks (Some (closing_of e.0)) after played.ensures.1 e.2 c.args.pool c.new.ensures.pool c.new.ensures.sessions))
+          c.end_script.ensures,
     )

@@ -1,6 +1,5 @@
-use Rattle.std.proofs.Common.{◌∙◌, ap, sym, subst, arith}
+use Rattle.std.proofs.Common.{ap, sym, subst, arith}
 use Rattle.tp_model.specs.Disk.{DiskState, IsWellFormed}
-use Rattle.tp_disk.proofs.Claim.{no_file_is_claimed}
 use Rattle.tp_disk.proofs.Unclaimed.{zeros_well}
 use Rattle.tp_disk.proofs.file.FileDisk.over.Goals as goal
 
@@ -8,6 +7,6 @@ pub invariant_of-result : goal.invariant_of-result
 invariant_of-result c = record {
   is_no_stream = c.requires;
   size_is = ap (λ (d : DiskState). d.size) c.note.ensures;
-  unclaimed = ap (λ (d : DiskState). d.is_honest) c.note.ensures ∙ sym no_file_is_claimed;
+  unclaimed = ap (λ (d : DiskState). d.is_honest) c.note.ensures;
   well_formed = subst (λ (d : DiskState). IsWellFormed d.size d.cells) (sym c.note.ensures) (zeros_well c.args.size (omega arith));
 }

@@ -1,6 +1,6 @@
 use Rattle.std.proofs.Common.{rules}
 use Rattle.tp_disk.specs.File.{file_state}
-use Rattle.tp_disk.proofs.Claim.{unclaimed_promises}
+use Rattle.tp_disk.proofs.Unclaimed.{unclaimed_promises}
 use Rattle.tp_disk.proofs.file.FileDiskDisk.read.Goals as goal
 
 pub returns-then-ok-clause-bytes : goal.returns-then-ok-clause-bytes

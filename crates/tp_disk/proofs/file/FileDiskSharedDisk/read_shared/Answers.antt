@@ -1,5 +1,5 @@
 use Rattle.tp_disk.specs.File.{file_state}
-use Rattle.tp_disk.proofs.Claim.{unclaimed_promises}
+use Rattle.tp_disk.proofs.Unclaimed.{unclaimed_promises}
 use Rattle.tp_disk.proofs.file.FileDiskSharedDisk.read_shared.Goals as goal
 
 pub returns : goal.returns

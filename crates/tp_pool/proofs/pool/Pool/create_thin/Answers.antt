@@ -5,8 +5,6 @@ use Rattle.tp_model.specs.Calls.{CreateThin, Refused, exists, has_metadata_room,
 use Rattle.tp_pool.proofs.Create.{tests_are}
 use Rattle.tp_pool.specs.Held.{Held}
 use Rattle.tp_pool.proofs.Calling.{Laws, called_failed}
-use Rattle.tp_pool.specs.Messages.{CountsBlocks}
-use Rattle.tp_pool.proofs.Behind.{settled_uses, uses_always}
 use Rattle.tp_pool.proofs.Answering.{failed_answers, settled_answers}
 use Rattle.tp_pool.proofs.Flushing.{flushed_failed, settled_flushes}
 use Rattle.tp_model.specs.declared.refusal.Refusal.TheVariants.{Failed}
@@ -38,9 +36,3 @@ returns-clause-flushes g c =
     let t = c.try_create-answer in
     settled_flushes g.M.Metadata.geometry g.M.Metadata.stands g.M.Metadata.marks g.M.Metadata.room g.M.Metadata.changed (CreateThin c.args.id) c.args.self.now t.new.self c.settle.new.self t.result c.settle.result refl refl
     c.settle.ensures.same c.settle.ensures.ok c.settle.ensures.err t.ensures.flushes t.ensures.changes
-
-pub returns-clause-used : goal.returns-clause-used
-returns-clause-used g c =
-    let t = c.try_create-answer in
-    settled_uses g.M.Metadata.geometry g.M.Metadata.stands c.args.self.now t.new.self c.settle.new.self 8 t.result c.settle.result c.settle.ensures.same c.settle.ensures.ok
-    (uses_always g.M.Metadata.geometry g.M.Metadata.stands (CountsBlocks None) (λ root. tt) c.args.self.now t.new.self 8 t.result t.ensures.used)

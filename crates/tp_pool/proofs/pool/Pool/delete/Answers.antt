@@ -4,7 +4,6 @@ use Rattle.tp_model.specs.Calls.{Delete, Refused, exists, is_failed, is_read_onl
 use Rattle.tp_model.specs.Pool.{hold_count}
 use Rattle.tp_pool.specs.Held.{Held}
 use Rattle.tp_pool.proofs.Calling.{Laws, called_failed, settled}
-use Rattle.tp_pool.proofs.Behind.{settled_unheld}
 use Rattle.tp_pool.proofs.Deleting.{deletion_tests, is_short, never_short}
 use Rattle.tp_pool.proofs.Answering.{failed_answers, settled_answers}
 use Rattle.tp_pool.proofs.Flushing.{flushed_failed, settled_flushes}
@@ -37,11 +36,6 @@ returns-clause-flushes g c =
     let t = c.try_delete-answer in
     settled_flushes g.M.Metadata.geometry g.M.Metadata.stands g.M.Metadata.marks g.M.Metadata.room g.M.Metadata.changed (Delete c.args.id) c.args.self.now t.new.self c.settle.new.self t.result c.settle.result refl refl
     c.settle.ensures.same c.settle.ensures.ok c.settle.ensures.err t.ensures.flushes t.ensures.changes
-
-pub returns-clause-used : goal.returns-clause-used
-returns-clause-used g c =
-    let t = c.try_delete-answer in
-    settled_unheld g.M.Metadata.geometry g.M.Metadata.stands c.args.self.now t.new.self c.settle.new.self 0 t.result c.settle.result c.settle.ensures.same c.settle.ensures.ok t.ensures.used
 
 pub returns-clause-room : goal.returns-clause-room
 returns-clause-room g c is s shown none =

@@ -8,6 +8,7 @@ use Rattle.tp_model.specs.Sectors.{sectors_of}
 use Rattle.tp_model.specs.Pool.{copy_id}
 use Rattle.tp_model.specs.Calls.{Gave, HeldRead, Refused, has_copy, is_failed}
 use Rattle.tp_model.specs.Clauses.{EndsInVolume}
+use Rattle.tp_model.specs.DiskStops.{moment}
 use Rattle.tp_model.specs.Disk.{DiskState}
 use Rattle.tp_sharing.specs.Volumes.{device_of}
 use Rattle.tp_stored.specs.Contents.{Contents}
@@ -116,7 +117,7 @@ returns-then-not-holds_root-clause-answered g c =
     let call = HeldRead c.args.id c.args.sector n in
     let works : is_failed was.mode ≡ false = sym c.is_failed.ensures ∙ c.if-is_failed.false in
     subst (λ (h : Held g.row.M.Denot). Answered M.geometry M.stands h h call (Refused NoHeldRoot)) e
-    (held_misses M.geometry M.stands c.args.id c.args.sector n was was works refl NoHeldRoot (inl refl))
+    (held_misses M.geometry M.stands c.args.id c.args.sector n was was works refl refl NoHeldRoot (inl refl))
 
 pub returns-in_err-is_there-clause-answered : goal.returns-in_err-is_there-clause-answered
 returns-in_err-is_there-clause-answered g c =
@@ -134,7 +135,7 @@ returns-in_err-is_there-clause-answered g c =
     let x = refusal_of error in
     let out = c.read_range.new.out in
     exit_is (λ (r : Result (Unit {0}) Refusal). MatchResult r (λ u. Answered M.geometry M.stands old new call (Gave (sectors_of out))) (λ reason. Answered M.geometry M.stands old new call (Refused reason)))
-    c.from_residual.result x p.0 p.1 (sym p.2) (held_misses M.geometry M.stands c.args.id c.args.sector n old new works same x (copy_missed x (refused_so error)))
+    c.from_residual.result x p.0 p.1 (sym p.2) (held_misses M.geometry M.stands c.args.id c.args.sector n old new works same (ap moment c.in_err-is_there.ensures.looked.state ∙ ap (λ (h : Held g.row.M.Denot). moment h.disk) e) x (copy_missed x (refused_so error)))
 
 pub returns-then-not-is_there-clause-answered : goal.returns-then-not-is_there-clause-answered
 returns-then-not-is_there-clause-answered g c =
@@ -147,7 +148,7 @@ returns-then-not-is_there-clause-answered g c =
     let works : is_failed old.mode ≡ false = sym (ap (λ (h : Held g.row.M.Denot). is_failed h.mode) e) ∙ sym c.is_failed.ensures ∙ c.if-is_failed.false in
     let same = ap (λ (h : Held g.row.M.Denot). h.mode) e in
     let new : Held g.row.M.Denot = record was { disk = g.D.Disk.state c.read_range.new.disk } in
-    held_misses M.geometry M.stands c.args.id c.args.sector n old new works same NoSuchDevice (inr (inl refl))
+    held_misses M.geometry M.stands c.args.id c.args.sector n old new works same (ap moment c.in_ok-is_there.ensures.looked.state ∙ ap (λ (h : Held g.row.M.Denot). moment h.disk) e) NoSuchDevice (inr (inl refl))
 
 pub returns-clause-answered : goal.returns-clause-answered
 returns-clause-answered g c =
@@ -160,7 +161,7 @@ returns-clause-answered g c =
     let works : is_failed old.mode ≡ false = sym (ap (λ (h : Held g.row.M.Denot). is_failed h.mode) e) ∙ sym c.is_failed.ensures ∙ c.if-is_failed.false in
     let same = ap (λ (h : Held g.row.M.Denot). h.mode) e in
     let new : Held g.row.M.Denot = record was { disk = g.D.Disk.state c.read_range.new.disk } in
-    held_gives M.geometry M.stands c.args.id c.args.sector n old new works same (sectors_of c.read_range.new.out)
+    held_gives M.geometry M.stands c.args.id c.args.sector n old new works same (ap moment c.in_ok-is_there.ensures.looked.state ∙ ap (λ (h : Held g.row.M.Denot). moment h.disk) e) (sectors_of c.read_range.new.out)
 
 pub returns-then-is_failed-clause-flushes : goal.returns-then-is_failed-clause-flushes
 returns-then-is_failed-clause-flushes g c =

@@ -3,6 +3,7 @@ use Rattle.std.specs.Prelude.{Result}
 use Rattle.std.proofs.lemmas.Result.{err_from_is_err_and}
 use Rattle.tp_model.specs.declared.refusal.Refusal.{Refusal}
 use Rattle.tp_model.specs.declared.refusal.Refusal.TheVariants.{Failed, NoSuchDevice}
+use Rattle.tp_model.specs.DiskStops.{moment}
 use Rattle.tp_model.specs.Calls.{Done, Hold, Refused, exists, first_failed, is_failed}
 use Rattle.tp_counts.specs.declared.error.StoreError.{StoreError}
 use Rattle.tp_counts.specs.StoreErrors.{refusal_of}
@@ -79,19 +80,19 @@ returns-in_err-blocks-clause-answered g c =
     let x = refusal_of c.in_err-blocks.field-0.0 in
     let old = c.args.self.now in
     exit_is (λ (r : Result (Unit {0}) Refusal). AnswersSo g.M.Metadata.geometry g.M.Metadata.stands old c.size.new.self (Hold c.args.id) r) c.from_residual.result x p.0 p.1 (sym p.2)
-    (missed g.M.Metadata.geometry g.M.Metadata.stands (Hold c.args.id) (hold_looks_up c.args.id) old c.size.new.self works (ap (λ (h : Held g.row.M.Denot). h.mode) c.in_err-blocks.ensures.held) x (missed_by x (refused_so c.in_err-blocks.field-0.0)))
+    (missed g.M.Metadata.geometry g.M.Metadata.stands (Hold c.args.id) (hold_looks_up c.args.id) old c.size.new.self works (ap (λ (h : Held g.row.M.Denot). h.mode) c.in_err-blocks.ensures.held) (ap (λ (h : Held g.row.M.Denot). moment h.disk) c.in_err-blocks.ensures.held) x (missed_by x (refused_so c.in_err-blocks.field-0.0)))
 
 pub returns-in_default-clause-answered : goal.returns-in_default-clause-answered
 returns-in_default-clause-answered g c =
     let works : is_failed c.args.self.now.mode ≡ false = sym (ap (λ (h : Held g.row.M.Denot). is_failed h.mode) c.self.view_is) ∙ sym c.is_failed.ensures ∙ c.if-is_failed.false in
-    missed g.M.Metadata.geometry g.M.Metadata.stands (Hold c.args.id) (hold_looks_up c.args.id) c.args.self.now c.size.new.self works (ap (λ (h : Held g.row.M.Denot). h.mode) c.in_ok-blocks.ensures.held) NoSuchDevice (inl refl)
+    missed g.M.Metadata.geometry g.M.Metadata.stands (Hold c.args.id) (hold_looks_up c.args.id) c.args.self.now c.size.new.self works (ap (λ (h : Held g.row.M.Denot). h.mode) c.in_ok-blocks.ensures.held) (ap (λ (h : Held g.row.M.Denot). moment h.disk) c.in_ok-blocks.ensures.held) NoSuchDevice (inl refl)
 
 pub returns-clause-answered : goal.returns-clause-answered
 returns-clause-answered g c =
     let works : is_failed c.args.self.now.mode ≡ false = sym (ap (λ (h : Held g.row.M.Denot). is_failed h.mode) c.self.view_is) ∙ sym c.is_failed.ensures ∙ c.if-is_failed.false in
     let e = c.self-2.view_is ∙ c.in_ok-blocks.ensures.held in
     let new : Held g.row.M.Denot = record { disk = g.D.Disk.state c.self-2.inside.disk; metadata = c.self-2.inside.metadata; holders = c.push.new.self.items; mode = c.self-2.inside.mode } in
-    looked_up g.M.Metadata.geometry g.M.Metadata.stands (Hold c.args.id) (hold_looks_up c.args.id) c.args.self.now new works (ap (λ (h : Held g.row.M.Denot). h.mode) e) (Ok tt) tt
+    looked_up g.M.Metadata.geometry g.M.Metadata.stands (Hold c.args.id) (hold_looks_up c.args.id) c.args.self.now new works (ap (λ (h : Held g.row.M.Denot). h.mode) e) (ap (λ (h : Held g.row.M.Denot). moment h.disk) e) (Ok tt) tt
 
 pub returns-then-is_failed-clause-flushes : goal.returns-then-is_failed-clause-flushes
 returns-then-is_failed-clause-flushes g c =

@@ -7,6 +7,7 @@ use Rattle.tp_counts.specs.declared.error.StoreError.{StoreError}
 use Rattle.tp_counts.specs.StoreErrors.{refusal_of}
 use Rattle.tp_counts.proofs.Refusing.{damaged_so, err_is, refused_so}
 use Rattle.tp_model.specs.Calls.{Found, NextId, Refused, first_failed, is_failed}
+use Rattle.tp_model.specs.DiskStops.{moment}
 use Rattle.tp_model.specs.Disk.{DiskState}
 use Rattle.tp_pool.specs.Held.{Held, PoolCalled, PoolRefused}
 use Rattle.tp_pool.proofs.Answering.{failed_answers}
@@ -56,7 +57,7 @@ returns-in_err-next_id-clause-answered g c =
     let works : is_failed old.mode ≡ false = sym (ap (λ (h : Held g.row.M.Denot). is_failed h.mode) e) ∙ sym c.is_failed.ensures ∙ c.if-is_failed.false in
     let p = err_from_is_err_and c.from_residual.result c.from_residual.ensures.1 in
     let x = c.in_err-next_id.field-0.0 in
-    rw (p.1, p.2) (next_answers M.geometry M.stands c.args.from old new works (ap (λ (h : Held g.row.M.Denot). h.mode) e) (Err (refusal_of x)) (refused_so x))
+    rw (p.1, p.2) (next_answers M.geometry M.stands c.args.from old new works (ap (λ (h : Held g.row.M.Denot). h.mode) e) (ap moment c.in_err-next_id.ensures.state ∙ ap (λ (h : Held g.row.M.Denot). moment h.disk) e) (Err (refusal_of x)) (refused_so x))
 
 pub returns-in_err-next_id-clause-flushes : goal.returns-in_err-next_id-clause-flushes
 returns-in_err-next_id-clause-flushes g c =
@@ -90,7 +91,7 @@ returns-clause-answered g c =
     let e = c.self.view_is in
     let old = c.args.self.now in
     let works : is_failed old.mode ≡ false = sym (ap (λ (h : Held g.row.M.Denot). is_failed h.mode) e) ∙ sym c.is_failed.ensures ∙ c.if-is_failed.false in
-    next_answers M.geometry M.stands c.args.from old new works (ap (λ (h : Held g.row.M.Denot). h.mode) e) (Ok c.in_ok-next_id.field-0) tt
+    next_answers M.geometry M.stands c.args.from old new works (ap (λ (h : Held g.row.M.Denot). h.mode) e) (ap moment c.in_ok-next_id.ensures.state ∙ ap (λ (h : Held g.row.M.Denot). moment h.disk) e) (Ok c.in_ok-next_id.field-0) tt
 
 pub returns-clause-flushes : goal.returns-clause-flushes
 returns-clause-flushes g c =

@@ -18,6 +18,7 @@ use Rattle.tp_pool.proofs.Calling.{Laws, called_failed}
 use Rattle.tp_pool.proofs.Serving.{exit_is, is_some_to, no_device, none_there, read_by, read_refused}
 use Rattle.tp_pool.proofs.Answering.{Answered, failed_answers, missed, missed_by, read_answers, read_looks_up}
 use Rattle.tp_pool.proofs.Flushing.{Flushed, failure_commits, flushed_failed, flushed_read, read_flushes}
+use Rattle.tp_model.specs.DiskStops.{moment}
 use Rattle.tp_model.specs.Disk.{DiskState}
 use Rattle.tp_pool.proofs.pool.Pool.read.Goals as goal
 
@@ -97,7 +98,7 @@ returns-in_err-is_there-clause-answered g c =
     let x = refusal_of c.in_err-is_there.field-0.0 in
     exit_is (λ (r : Result (Unit {0}) Refusal). MatchResult r (λ u. Answered M.geometry M.stands old new call (Gave (sectors_of c.read_range.new.out)))
     (λ reason. Answered M.geometry M.stands old new call (Refused reason))) c.from_residual.result x p.0 p.1 (sym p.2)
-    (missed M.geometry M.stands call (read_looks_up c.args.id c.args.sector (length c.args.out.now / 512)) old new works (ap (λ (h : Held g.row.M.Denot). h.mode) e) x (missed_by x (refused_so c.in_err-is_there.field-0.0)))
+    (missed M.geometry M.stands call (read_looks_up c.args.id c.args.sector (length c.args.out.now / 512)) old new works (ap (λ (h : Held g.row.M.Denot). h.mode) e) (ap moment c.in_err-is_there.ensures.looked.state ∙ ap (λ (h : Held g.row.M.Denot). moment h.disk) e) x (missed_by x (refused_so c.in_err-is_there.field-0.0)))
 
 pub returns-then-not-is_there-clause-answered : goal.returns-then-not-is_there-clause-answered
 returns-then-not-is_there-clause-answered g c =
@@ -108,7 +109,7 @@ returns-then-not-is_there-clause-answered g c =
     let old = c.args.self.now in
     let call = Read c.args.id c.args.sector (length c.args.out.now / 512) in
     let works : is_failed old.mode ≡ false = sym (ap (λ (h : Held g.row.M.Denot). is_failed h.mode) e) ∙ sym c.is_failed.ensures ∙ c.if-is_failed.false in
-    missed M.geometry M.stands call (read_looks_up c.args.id c.args.sector (length c.args.out.now / 512)) old new works (ap (λ (h : Held g.row.M.Denot). h.mode) e) NoSuchDevice (inl refl)
+    missed M.geometry M.stands call (read_looks_up c.args.id c.args.sector (length c.args.out.now / 512)) old new works (ap (λ (h : Held g.row.M.Denot). h.mode) e) (ap moment c.in_ok-is_there.ensures.looked.state ∙ ap (λ (h : Held g.row.M.Denot). moment h.disk) e) NoSuchDevice (inl refl)
 
 pub returns-clause-answered : goal.returns-clause-answered
 returns-clause-answered g c =
@@ -119,7 +120,7 @@ returns-clause-answered g c =
     let old = c.args.self.now in
     let call = Read c.args.id c.args.sector (length c.args.out.now / 512) in
     let works : is_failed old.mode ≡ false = sym (ap (λ (h : Held g.row.M.Denot). is_failed h.mode) e) ∙ sym c.is_failed.ensures ∙ c.if-is_failed.false in
-    read_answers M.geometry M.stands c.args.id c.args.sector (length c.args.out.now / 512) (sectors_of c.read_range.new.out) old new works (ap (λ (h : Held g.row.M.Denot). h.mode) e) (Ok tt) tt
+    read_answers M.geometry M.stands c.args.id c.args.sector (length c.args.out.now / 512) (sectors_of c.read_range.new.out) old new works (ap (λ (h : Held g.row.M.Denot). h.mode) e) (ap moment c.in_ok-is_there.ensures.looked.state ∙ ap (λ (h : Held g.row.M.Denot). moment h.disk) e) (Ok tt) tt
 
 pub returns-then-is_failed-clause-flushes : goal.returns-then-is_failed-clause-flushes
 returns-then-is_failed-clause-flushes g c =

@@ -3,7 +3,6 @@ use Rattle.tp_model.specs.Calls.{Refused, ReleaseMetadataSnap, is_failed, is_rea
 use Rattle.tp_model.specs.declared.refusal.Refusal.TheVariants.{Failed}
 use Rattle.tp_pool.specs.Held.{Held}
 use Rattle.tp_pool.proofs.Answering.{failed_answers, settled_answers}
-use Rattle.tp_pool.proofs.Behind.{settled_uses}
 use Rattle.tp_pool.proofs.Calling.{Laws, called_failed}
 use Rattle.tp_pool.proofs.Flushing.{flushed_failed, settled_flushes}
 use Rattle.tp_pool.proofs.Reserving.{release_never_short, release_tests}
@@ -40,12 +39,6 @@ returns-clause-flushes g c =
     let t = c.try_release-answer in
     settled_flushes M.geometry M.stands M.marks M.room M.changed ReleaseMetadataSnap c.args.self.now t.new.self c.settle.new.self t.result c.settle.result refl refl
     c.settle.ensures.same c.settle.ensures.ok c.settle.ensures.err t.ensures.flushes t.ensures.changes
-
-pub returns-clause-used : goal.returns-clause-used
-returns-clause-used g c =
-    let M = g.M.Metadata in
-    let t = c.try_release-answer in
-    settled_uses M.geometry M.stands c.args.self.now t.new.self c.settle.new.self 0 t.result c.settle.result c.settle.ensures.same c.settle.ensures.ok t.ensures.used
 
 pub returns-clause-room : goal.returns-clause-room
 returns-clause-room g c = release_never_short g.M.Metadata.geometry g.M.Metadata.stands c.args.self.now c.settle.new.self c.settle.result (returns-clause-answered g c)

@@ -10,8 +10,7 @@ use Rattle.tp_model.specs.Calls.{Call, is_read_only}
 use Rattle.tp_pool.specs.Held.{Held, IsTried, LacksRoom, PoolRefused, PoolTried, failed_by}
 use Rattle.tp_pool.specs.Messages.{create_call}
 use Rattle.tp_pool.proofs.Calling.{Laws}
-use Rattle.tp_pool.proofs.Behind.{short_uses}
-use Rattle.tp_pool.proofs.Creating.{IsReady, create_failed, create_read_only_called, create_refused, create_tested, create_then_kept, create_unreclaimed, create_uses, ready}
+use Rattle.tp_pool.proofs.Creating.{IsReady, create_failed, create_read_only_called, create_refused, create_tested, create_then_kept, create_unreclaimed, ready}
 use Rattle.tp_pool.proofs.Serving.{exit_is}
 use Rattle.tp_pool.proofs.Answering.{create_exit, create_kept, create_read_only, create_short, failure_refuses, new_commits}
 use Rattle.tp_pool.proofs.Putting.{writable_is}
@@ -141,7 +140,7 @@ returns-clause-called g c =
     create_then_kept laws c.args.id c.args.origin.now c.args.self.now old tested c.lacks_metadata.result c.lacks_metadata.ensures c.if-lacks_metadata.false
     c.reclaim.new.metadata (g.D.Disk.state c.reclaim.new.disk) c.reclaim.ensures.geometry c.reclaim.ensures.time c.in_ok-reclaim.ensures.cause c.reclaim.ensures.left c.in_ok-reclaim.ensures.done
     c.add.new.metadata (g.D.Disk.state c.add.new.disk) c.add.ensures.altered.changing
-    c.in_ok-add.ensures.altered.ran c.in_ok-reclaim.ensures.room c.in_ok-add.ensures.altered.made
+    c.in_ok-add.ensures.altered.ran c.in_ok-reclaim.ensures.room c.in_ok-add.ensures.altered.made c.in_ok-add.ensures.used
     c.keep.new.metadata (g.D.Disk.state c.keep.new.disk) c.keep.ensures.geometry c.keep.ensures.ran.time c.keep.ensures.left
     c.keep.result c.keep.ensures.kept c.keep.ensures.only c.keep.ensures.ran.cause
 
@@ -314,30 +313,3 @@ returns-in_err-add-clause-changes g c =
 pub returns-clause-changes : goal.returns-clause-changes
 returns-clause-changes g c =
     changed_kept g.M.Metadata.changed c.args.self.now.metadata c.keep.new.metadata (create_call c.args.id c.args.origin.now) c.keep.result c.keep.ensures.unchanged c.keep.ensures.only
-
-pub returns-clause-used : goal.returns-clause-used
-returns-clause-used g c =
-    let met = g.met.M.Metadata in
-    let laws : Laws g.M.Metadata.geometry g.M.Metadata.stands g.M.Metadata.marks g.M.Metadata.room =
-    record { within = met.within; honest = met.honest; left = met.left; frame = met.frame } in
-    let old : Held g.row.M.Denot =
-    record {
-      disk = g.D.Disk.state c.self-2.inside.disk;
-      metadata = c.self-2.inside.metadata;
-      holders = c.self-2.inside.holders.items;
-      mode = c.self-2.inside.mode;
-    } in
-    let view : old ≡ c.args.self.now = c.self-2.view_is ∙ c.in_ok-test_new.ensures.held in
-    let writes : is_read_only c.args.self.now.mode ≡ false =
-    sym (ap (λ (h : Held g.row.M.Denot). is_read_only h.mode) c.self.view_is) ∙ sym c.is_read_only.ensures ∙ c.if-is_read_only.false in
-    let tested : IsReady g.M.Metadata.stands c.args.id c.args.origin.now c.args.self.now old =
-    ready g.M.Metadata.stands c.args.id c.args.origin.now c.args.self.now old view c.requires.works writes ((search rules), c.test_new.ensures.low) c.in_ok-test_new.ensures.told in
-    create_uses laws c.args.id c.args.origin.now c.args.self.now old tested c.lacks_metadata.result c.lacks_metadata.ensures c.if-lacks_metadata.false
-    c.reclaim.new.metadata (g.D.Disk.state c.reclaim.new.disk) c.reclaim.ensures.geometry c.reclaim.ensures.time c.in_ok-reclaim.ensures.cause c.reclaim.ensures.left c.in_ok-reclaim.ensures.done
-    c.add.new.metadata (g.D.Disk.state c.add.new.disk) c.add.ensures.altered.changing
-    c.in_ok-add.ensures.altered.ran c.in_ok-reclaim.ensures.room c.in_ok-add.ensures.altered.made
-    met.counted c.in_ok-add.ensures.used
-    c.keep.new.metadata (g.D.Disk.state c.keep.new.disk) c.keep.result c.keep.ensures.kept
-
-pub returns-then-lacks_metadata-clause-used : goal.returns-then-lacks_metadata-clause-used
-returns-then-lacks_metadata-clause-used g c = short_uses _ c.test_new.new.self c.refuse_for_room.new.self c.refuse_for_room.result c.refuse_for_room.ensures.ends

@@ -9,8 +9,7 @@ use Rattle.tp_counts.proofs.Refusing.{damaged_so, refused_so}
 use Rattle.tp_model.specs.Calls.{Call, Delete, is_read_only}
 use Rattle.tp_pool.specs.Held.{Held, IsTried, LacksRoom, PoolRefused, PoolTried, failed_by}
 use Rattle.tp_pool.proofs.Calling.{Laws}
-use Rattle.tp_pool.proofs.Behind.{short_uses}
-use Rattle.tp_pool.proofs.Deleting.{IsDeletable, deletable, delete_before, delete_behind, delete_failed, delete_kept, delete_read_only, delete_read_only_called, delete_refused, delete_short, delete_tested, delete_then_kept, delete_unreclaimed, delete_uses, failure_deletes_nothing, old_commits, removal_flushed_short, removal_refused}
+use Rattle.tp_pool.proofs.Deleting.{IsDeletable, deletable, delete_before, delete_behind, delete_failed, delete_kept, delete_read_only, delete_read_only_called, delete_refused, delete_short, delete_tested, delete_then_kept, delete_unreclaimed, failure_deletes_nothing, old_commits, removal_flushed_short, removal_refused}
 use Rattle.tp_pool.proofs.Serving.{exit_is}
 use Rattle.tp_pool.proofs.Putting.{writable_is}
 use Rattle.tp_pool.proofs.Flushing.{changed_failed, changed_kept, changed_nothing, changed_read, changed_short, counted_nothing}
@@ -250,28 +249,6 @@ pub returns-clause-changes : goal.returns-clause-changes
 returns-clause-changes g c =
     changed_kept g.M.Metadata.changed c.args.self.now.metadata c.keep.new.metadata (Delete c.args.id) c.keep.result c.keep.ensures.unchanged c.keep.ensures.only
 
-pub returns-clause-used : goal.returns-clause-used
-returns-clause-used g c =
-    let met = g.met.M.Metadata in
-    let laws : Laws g.M.Metadata.geometry g.M.Metadata.stands g.M.Metadata.marks g.M.Metadata.room =
-    record { within = met.within; honest = met.honest; left = met.left; frame = met.frame } in
-    let old : Held g.row.M.Denot =
-    record {
-      disk = g.D.Disk.state c.self-2.inside.disk;
-      metadata = c.self-2.inside.metadata;
-      holders = c.self-2.inside.holders.items;
-      mode = c.self-2.inside.mode;
-    } in
-    let view : old ≡ c.args.self.now = c.self-2.view_is ∙ c.in_ok-test_old.ensures.held in
-    let writes : is_read_only c.args.self.now.mode ≡ false =
-    sym (ap (λ (h : Held g.row.M.Denot). is_read_only h.mode) c.self.view_is) ∙ sym c.is_read_only.ensures ∙ c.if-is_read_only.false in
-    let tested : IsDeletable g.M.Metadata.stands c.args.id c.args.self.now old =
-    deletable g.M.Metadata.stands c.args.id c.args.self.now old view c.requires.works writes (search rules) c.in_ok-test_old.ensures.told in
-    delete_uses laws c.args.id c.args.self.now old tested c.lacks_for_removal.result c.lacks_for_removal.ensures c.if-lacks_for_removal.false c.reclaim_metadata.new.metadata (g.D.Disk.state c.reclaim_metadata.new.disk) c.reclaim_metadata.ensures.geometry c.reclaim_metadata.ensures.time c.in_ok-reclaim_metadata.ensures.cause c.reclaim_metadata.ensures.left
-    c.in_ok-reclaim_metadata.ensures.done c.delete.new.self (g.D.Disk.state c.delete.new.disk) c.delete.ensures.changing c.in_ok-delete.ensures.ran
-    (λ now kept st there. (c.in_ok-delete.ensures.made now kept st there).0)
-    met.counted c.keep.new.metadata (g.D.Disk.state c.keep.new.disk) c.keep.result c.keep.ensures.kept
-
 pub returns-then-lacks_for_removal-clause-called : goal.returns-then-lacks_for_removal-clause-called
 returns-then-lacks_for_removal-clause-called g c =
     let met = g.met.M.Metadata in
@@ -327,6 +304,3 @@ pub returns-then-lacks_for_removal-clause-changes : goal.returns-then-lacks_for_
 returns-then-lacks_for_removal-clause-changes g c =
     changed_short g.M.Metadata.changed (Delete c.args.id) c.test_old.new.self
     c.refuse_for_room.new.self c.args.self.now.metadata c.refuse_for_room.result c.refuse_for_room.ensures.ends c.refuse_for_room.ensures.unchanged
-
-pub returns-then-lacks_for_removal-clause-used : goal.returns-then-lacks_for_removal-clause-used
-returns-then-lacks_for_removal-clause-used g c = short_uses _ c.test_old.new.self c.refuse_for_room.new.self c.refuse_for_room.result c.refuse_for_room.ensures.ends

@@ -7,7 +7,7 @@ use Rattle.tp_counts.proofs.Refusing.{damaged_so, refused_so}
 use Rattle.tp_model.specs.Calls.{Call, Grow, is_read_only}
 use Rattle.tp_pool.specs.Held.{Held, LacksRoom, PoolRefused, PoolTried, failed_by}
 use Rattle.tp_pool.proofs.Calling.{Laws}
-use Rattle.tp_pool.proofs.Growing.{IsGrowable, enlarge_ran, grow_before, grow_behind, grow_failed, grow_flushed_short, grow_read_only_called, grow_refused, grow_tested, grow_then_kept, grow_unreclaimed, grow_uses, growable}
+use Rattle.tp_pool.proofs.Growing.{IsGrowable, enlarge_ran, grow_before, grow_behind, grow_failed, grow_flushed_short, grow_read_only_called, grow_refused, grow_tested, grow_then_kept, grow_unreclaimed, growable}
 use Rattle.tp_pool.proofs.Serving.{exit_is}
 use Rattle.tp_pool.proofs.pool.Pool.try_grow.Goals as goal
 
@@ -140,7 +140,7 @@ returns-clause-called g c =
     grow_then_kept laws id blocks present sizes.0 sizes.1 start old ready c.lacks_metadata.result c.lacks_metadata.ensures c.if-lacks_metadata.false
     c.reclaim.new.metadata (g.D.Disk.state c.reclaim.new.disk) c.reclaim.ensures.geometry c.reclaim.ensures.time c.in_ok-reclaim.ensures.cause c.reclaim.ensures.left c.in_ok-reclaim.ensures.done
     c.enlarge.new.metadata (g.D.Disk.state c.enlarge.new.disk) (Ok tt) c.in_ok-enlarge.ensures.same c.in_ok-enlarge.ensures.altered
-    refl c.in_ok-reclaim.ensures.room
+    refl c.in_ok-reclaim.ensures.room c.in_ok-enlarge.ensures.used
     c.keep.new.metadata (g.D.Disk.state c.keep.new.disk) c.keep.ensures.geometry c.keep.ensures.ran.time c.keep.ensures.left
     c.keep.result c.keep.ensures.kept c.keep.ensures.only c.keep.ensures.ran.cause
 
@@ -238,29 +238,3 @@ returns-clause-flushes g c =
     let ran = enlarge_ran laws id present blocks sizes.0 sizes.1 c.reclaim.new.metadata (g.D.Disk.state c.reclaim.new.disk) c.enlarge.new.metadata (g.D.Disk.state c.enlarge.new.disk) (Ok tt) c.in_ok-enlarge.ensures.same c.in_ok-enlarge.ensures.altered in
     grow_behind laws id blocks present sizes.0 sizes.1 start old ready c.lacks_metadata.result c.lacks_metadata.ensures c.if-lacks_metadata.false c.reclaim.new.metadata (g.D.Disk.state c.reclaim.new.disk) c.reclaim.ensures.flushes c.reclaim.ensures.idle
     (g.D.Disk.state c.enlarge.new.disk) (g.D.Disk.state c.keep.new.disk) ran.flushes c.keep.ensures.ran.flushes
-
-pub returns-clause-used : goal.returns-clause-used
-returns-clause-used g c =
-    let M = g.M.Metadata in
-    let met = g.met.M.Metadata in
-    let laws : Laws M.geometry M.stands M.marks M.room = record { within = met.within; honest = met.honest; left = met.left; frame = met.frame } in
-    let writes : is_read_only c.args.self.now.mode ≡ false = sym (ap (λ (h : Held g.row.M.Denot). is_read_only h.mode) c.self.view_is) ∙ sym c.is_read_only.ensures ∙ c.if-is_read_only.false in
-    let id = c.args.id in
-    let blocks = c.args.blocks in
-    let present = c.in_ok-present.present in
-    let sizes = c.in_ok-present.ensures.more in
-    let start = c.args.self.now in
-    let old : Held g.row.M.Denot =
-    record {
-      disk = g.D.Disk.state c.self-2.inside.disk;
-      metadata = c.self-2.inside.metadata;
-      holders = c.self-2.inside.holders.items;
-      mode = c.self-2.inside.mode;
-    } in
-    let ready : IsGrowable M.geometry M.stands id blocks present start old =
-    growable M.geometry M.stands id blocks present start old (c.self-2.view_is ∙ c.in_ok-present.ensures.held) c.requires.works writes (search rules) c.in_ok-present.ensures.told in
-    grow_uses laws id blocks present sizes.0 sizes.1 start old ready c.lacks_metadata.result c.lacks_metadata.ensures c.if-lacks_metadata.false
-    c.reclaim.new.metadata (g.D.Disk.state c.reclaim.new.disk) c.reclaim.ensures.geometry c.reclaim.ensures.time c.in_ok-reclaim.ensures.cause c.reclaim.ensures.left c.in_ok-reclaim.ensures.done
-    c.enlarge.new.metadata (g.D.Disk.state c.enlarge.new.disk) (Ok tt) c.in_ok-enlarge.ensures.same c.in_ok-enlarge.ensures.altered
-    refl c.in_ok-reclaim.ensures.room met.counted c.in_ok-enlarge.ensures.used
-    c.keep.new.metadata (g.D.Disk.state c.keep.new.disk) c.keep.result c.keep.ensures.kept

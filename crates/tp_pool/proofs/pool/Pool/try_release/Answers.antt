@@ -9,7 +9,7 @@ use Rattle.tp_counts.proofs.Refusing.{damaged_so, refused_so}
 use Rattle.tp_model.specs.Calls.{Refused, ReleaseMetadataSnap, is_failed, is_read_only}
 use Rattle.tp_stored.specs.Contents.{Contents}
 use Rattle.tp_pool.specs.Flushes.{HasFlushed}
-use Rattle.tp_pool.specs.Held.{Held, IsTried, PoolCalled, PoolRefused, PoolTried, UsesAtMost, failed_by}
+use Rattle.tp_pool.specs.Held.{Held, IsTried, PoolCalled, PoolRefused, PoolTried, failed_by}
 use Rattle.std.specs.Prelude.{OnOk}
 use Rattle.tp_pool.proofs.Calling.{Laws}
 use Rattle.tp_pool.proofs.Flushing.{changed_failed, changed_kept, counted_nothing}
@@ -17,7 +17,7 @@ use Rattle.tp_pool.proofs.Putting.{writable_is}
 use Rattle.tp_pool.proofs.Reserving.{release_accepted, release_missing, release_read_only_called, release_snapped, release_snaps}
 use Rattle.tp_pool.proofs.Rooms.{a_root, no_root}
 use Rattle.tp_pool.proofs.Serving.{exit_is}
-use Rattle.tp_pool.proofs.Snapping.{snap_broken, snap_fails, snap_flushed, snap_kept, snap_read_only, snap_refused, snap_then_kept, snap_uses}
+use Rattle.tp_pool.proofs.Snapping.{snap_broken, snap_fails, snap_flushed, snap_kept, snap_read_only, snap_refused, snap_then_kept}
 use Rattle.tp_pool.proofs.pool.Pool.try_release.Goals as goal
 
 pub returns-then-is_read_only-clause-called : goal.returns-then-is_read_only-clause-called
@@ -76,25 +76,6 @@ returns-clause-called g c =
     subst (λ (h : Held g.row.M.Denot). PoolTried M.geometry M.stands h new ReleaseMetadataSnap c.keep.result) c.self.view_is
     (snap_then_kept laws ReleaseMetadataSnap release_snaps old works c.release.new.self last altered.ran.geometry altered.ran.time altered.changing altered.ran.cause accepted snapped
     c.keep.new.metadata (g.D.Disk.state c.keep.new.disk) c.keep.ensures.geometry c.keep.ensures.ran.time c.keep.ensures.left c.keep.result c.keep.ensures.kept c.keep.ensures.only c.keep.ensures.ran.cause)
-
-pub returns-clause-used : goal.returns-clause-used
-returns-clause-used g c =
-    let M = g.M.Metadata in
-    let met = g.met.M.Metadata in
-    let laws : Laws M.geometry M.stands M.marks M.room = record { within = met.within; honest = met.honest; left = met.left; frame = met.frame } in
-    let old : Held g.row.M.Denot = record { disk = g.D.Disk.state c.self.inside.disk; metadata = c.self.inside.metadata; holders = c.self.inside.holders.items; mode = c.self.inside.mode } in
-    let writes : is_read_only old.mode ≡ false = sym c.is_read_only.ensures ∙ c.if-is_read_only.false in
-    let works = writable_is old.mode (ap (λ (h : Held g.row.M.Denot). is_failed h.mode) c.self.view_is ∙ c.requires.works) writes in
-    let some : (now kept : Contents) → M.stands old.metadata old.disk now kept → 0 < now.held_root =
-    λ now kept st. a_root now.held_root (sym (c.holds_root.ensures old.disk now kept st) ∙ c.if-not-holds_root.false) in
-    let altered = c.in_ok-release.ensures.altered in
-    let last = g.D.Disk.state c.release.new.disk in
-    let accepted = release_accepted laws old works some in
-    let snapped = release_snapped laws old works some c.release.new.self last altered.ran.geometry altered.ran.time altered.changing altered.made in
-    let new : Held g.row.M.Denot = record old { disk = g.D.Disk.state c.keep.new.disk; metadata = c.keep.new.metadata } in
-    subst (λ (h : Held g.row.M.Denot). OnOk c.keep.result (UsesAtMost M.geometry M.stands h new 0)) c.self.view_is
-    (snap_uses laws ReleaseMetadataSnap release_snaps old works c.release.new.self last altered.ran.geometry altered.ran.time altered.changing altered.ran.cause accepted snapped
-    met.counted c.keep.new.metadata (g.D.Disk.state c.keep.new.disk) c.keep.result c.keep.ensures.kept)
 
 pub returns-then-is_read_only-clause-tried : goal.returns-then-is_read_only-clause-tried
 returns-then-is_read_only-clause-tried g c =

@@ -10,16 +10,15 @@ use Rattle.tp_model.specs.Geometry.{Geometry, sectors_of_image}
 use Rattle.tp_model.specs.Calls.{Call, Refused, ReserveMetadataSnap, is_failed, is_read_only}
 use Rattle.tp_stored.specs.Contents.{Contents}
 use Rattle.tp_pool.specs.Flushes.{HasFlushed}
-use Rattle.tp_pool.specs.Held.{Held, IsTried, LacksRoom, PoolCalled, PoolRefused, PoolTried, UsesAtMost, failed_by}
+use Rattle.tp_pool.specs.Held.{Held, IsTried, LacksRoom, PoolCalled, PoolRefused, PoolTried, failed_by}
 use Rattle.std.specs.Prelude.{OnOk}
-use Rattle.tp_pool.proofs.Behind.{short_uses}
 use Rattle.tp_pool.proofs.Calling.{Laws}
 use Rattle.tp_pool.proofs.Flushing.{changed_failed, changed_kept, changed_short, counted_nothing}
 use Rattle.tp_pool.proofs.Putting.{writable_is}
 use Rattle.tp_pool.proofs.Reserving.{reserve_accepted, reserve_exists, reserve_flushed_short, reserve_read_only_called, reserve_refused, reserve_snapped, reserve_snaps}
 use Rattle.tp_pool.proofs.Rooms.{a_root, no_root}
 use Rattle.tp_pool.proofs.Serving.{exit_is}
-use Rattle.tp_pool.proofs.Snapping.{snap_broken, snap_fails, snap_flushed, snap_kept, snap_read_only, snap_refused, snap_short, snap_then_kept, snap_uses}
+use Rattle.tp_pool.proofs.Snapping.{snap_broken, snap_fails, snap_flushed, snap_kept, snap_read_only, snap_refused, snap_short, snap_then_kept}
 use Rattle.tp_pool.proofs.pool.Pool.try_reserve.Goals as goal
 
 pub returns-then-is_read_only-clause-called : goal.returns-then-is_read_only-clause-called
@@ -92,28 +91,6 @@ returns-clause-called g c =
     subst (λ (h : Held g.row.M.Denot). PoolTried M.geometry M.stands h new ReserveMetadataSnap c.keep.result) c.self.view_is
     (snap_then_kept laws ReserveMetadataSnap reserve_snaps old works c.reserve.new.self old.disk altered.ran.geometry altered.ran.time altered.changing altered.ran.cause accepted snapped
     c.keep.new.metadata (g.D.Disk.state c.keep.new.disk) c.keep.ensures.geometry c.keep.ensures.ran.time c.keep.ensures.left c.keep.result c.keep.ensures.kept c.keep.ensures.only c.keep.ensures.ran.cause)
-
-pub returns-clause-used : goal.returns-clause-used
-returns-clause-used g c =
-    let M = g.M.Metadata in
-    let met = g.met.M.Metadata in
-    let laws : Laws M.geometry M.stands M.marks M.room = record { within = met.within; honest = met.honest; left = met.left; frame = met.frame } in
-    let old : Held g.row.M.Denot = record { disk = g.D.Disk.state c.self.inside.disk; metadata = c.self.inside.metadata; holders = c.self.inside.holders.items; mode = c.self.inside.mode } in
-    let writes : is_read_only old.mode ≡ false = sym c.is_read_only.ensures ∙ c.if-is_read_only.false in
-    let works = writable_is old.mode (ap (λ (h : Held g.row.M.Denot). is_failed h.mode) c.self.view_is ∙ c.requires.works) writes in
-    let none : (now kept : Contents) → M.stands old.metadata old.disk now kept → now.held_root ≡ 0 =
-    λ now kept st. no_root now.held_root (sym (c.holds_root.ensures old.disk now kept st) ∙ c.if-holds_root.false) in
-    let altered = c.in_ok-reserve.ensures.altered old.disk in
-    let accepted = reserve_accepted laws old works none c.lacks_metadata.result c.lacks_metadata.ensures c.if-lacks_metadata.false in
-    let snapped = reserve_snapped laws old works none c.reserve.new.self altered.ran.geometry altered.ran.time altered.changing altered.made in
-    let new : Held g.row.M.Denot = record old { disk = g.D.Disk.state c.keep.new.disk; metadata = c.keep.new.metadata } in
-    subst (λ (h : Held g.row.M.Denot). OnOk c.keep.result (UsesAtMost M.geometry M.stands h new 0)) c.self.view_is
-    (snap_uses laws ReserveMetadataSnap reserve_snaps old works c.reserve.new.self old.disk altered.ran.geometry altered.ran.time altered.changing altered.ran.cause accepted snapped
-    met.counted c.keep.new.metadata (g.D.Disk.state c.keep.new.disk) c.keep.result c.keep.ensures.kept)
-
-pub returns-then-lacks_metadata-clause-used : goal.returns-then-lacks_metadata-clause-used
-returns-then-lacks_metadata-clause-used g c =
-    short_uses _ c.args.self.now c.refuse_for_room.new.self c.refuse_for_room.result c.refuse_for_room.ensures.ends
 
 pub returns-then-is_read_only-clause-tried : goal.returns-then-is_read_only-clause-tried
 returns-then-is_read_only-clause-tried g c =

@@ -1,0 +1,4 @@
+pub mod Deeds
+pub mod Files
+pub mod Logs
+pub mod Memory

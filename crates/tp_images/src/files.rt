@@ -1,0 +1,67 @@
+//! Images that are the files of a system.
+ghost use Rattle.std.specs.Prelude.{◌≡◌, []};
+ghost use Rattle.std.specs.List.{All};
+ghost use Rattle.tp_images.specs.Files.{ClaimsNothing};
+
+use crate::images::Images;
+use crate::log::DeedLog;
+use crate::noting::{closed, no_deeds, opened};
+use crate::way::Way;
+use std::fs::{self, File};
+use std::rt::Files;
+use tp_disk::{FileDisk, OpenError};
+
+/// The files of a system, by their paths. That they are honest disks is not claimed, so nothing is said of what they hold.
+#[derive(Drop)]
+pub struct FileImages<'r, R: Files<File = File>> {
+    files: &'r R,
+    log: DeedLog,
+    ghost unclaimed: { All ClaimsNothing log.deeds },
+}
+
+impl<'r, R: Files<File = File>> FileImages<'r, R> {
+    /// The files of this system, none of which was asked for yet.
+    pub fn new(files: &'r R) -> FileImages<'r, R>
+        ensures { result.log.deeds ≡ [] }
+    {
+        FileImages {
+            files,
+            log: no_deeds(),
+        }
+    }
+}
+
+impl<'r, R: Files<File = File>> Images for FileImages<'r, R> {
+    type Disk = FileDisk;
+
+    ghost deeds = { λ images. images.log.deeds };
+
+    fn open(&mut self, name: &str) -> Result<FileDisk, OpenError> {
+        let answer = FileDisk::open(self.files, name);
+        self.log = opened(&self.log, Way::ToWrite, name, &answer);
+        answer
+    }
+
+    fn open_to_read(&mut self, name: &str) -> Result<FileDisk, OpenError> {
+        let answer = FileDisk::open_to_read(self.files, name);
+        self.log = opened(&self.log, Way::ToRead, name, &answer);
+        answer
+    }
+
+    fn create(&mut self, name: &str, sectors: u64) -> Result<FileDisk, OpenError> {
+        let answer = FileDisk::create(self.files, name, sectors);
+        self.log = opened(&self.log, Way::ToMake, name, &answer);
+        answer
+    }
+
+    fn close(&mut self, name: &str, disk: FileDisk) {
+        self.log = closed(&self.log, name, &disk);
+    }
+
+    fn length(&self, name: &str) -> Option<u64> {
+        match fs::metadata(self.files, name) {
+            Ok(found) => Some(found.len()),
+            Err(_) => None,
+        }
+    }
+}

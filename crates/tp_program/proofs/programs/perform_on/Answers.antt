@@ -1,0 +1,17 @@
+use Rattle.std.proofs.Common.{rules, subst, sym}
+use Rattle.tp_words.specs.declared.task.Task.{Task}
+use Rattle.tp_program.specs.Tasks.{DoesOn}
+use Rattle.tp_program.proofs.programs.perform_on.Goals as goal
+
+pub returns-in-Format : goal.returns-in-Format
+returns-in-Format g c =
+    let calls = g.S.Stream.calls in
+    let deeds = g.I.Images.deeds in
+    subst (λ (t : Task). DoesOn c.args.asks t (deeds c.args.images.now) (deeds c.format.new.images) (calls c.args.stream.now) (calls c.format.new.stream) c.plain.result) (sym c.in-Format.is)
+    (c.format.result, c.plain.ensures, c.format.ensures)
+
+pub returns-in-Message : goal.returns-in-Message
+returns-in-Message g c = search rules
+
+pub returns-in-Check : goal.returns-in-Check
+returns-in-Check g c = search rules

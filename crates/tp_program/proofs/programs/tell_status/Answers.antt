@@ -1,0 +1,5 @@
+use Rattle.std.proofs.Common.{rules, inr}
+use Rattle.tp_program.proofs.programs.tell_status.Goals as goal
+
+pub returns-in-Ok : goal.returns-in-Ok
+returns-in-Ok g c = search rules

@@ -1,0 +1,132 @@
+//! The commands over images in memory: behind stops, and with calls of their disks that fail.
+
+use crate::parts::{Call, MADE, NO_TERMINAL, Ran, is_ended, run_in, words_of};
+use std::alloc::{Alloc, Global};
+use std::fs::File;
+use std::net::{Net, TcpListener, TcpStream};
+use std::rt::Files;
+use std::sync::Wait;
+use std::test::Fail;
+use std::thread::Threads;
+use std::time::Clock;
+use tp_images::{Images, MemImages};
+use tp_program::Status;
+
+const IMAGE: &str = "image";
+
+/// What is told of that pool when it is opened again.
+const AGAIN: &[Call] = &[
+    (
+        "status",
+        &[],
+        0,
+        "0 10/2048 0/4 - rw no_discard_passdown error_if_no_space - 512\n",
+    ),
+    ("status", &["0"], 0, "0 -\n"),
+    ("check", &[], 0, "clean\n"),
+];
+
+/// Runs the program with the words of a call, on an image in memory.
+fn run_call<H>(rt: &H, images: &mut MemImages, call: &Call) -> Result<Ran, Fail>
+where
+    H: Files<File = File>
+        + Net<Listener = TcpListener, Stream = TcpStream>
+        + Threads
+        + Wait
+        + Clock
+        + Sync
+        + Alloc<A = Global>,
+{
+    let words = words_of(rt.alloc(), IMAGE, call)?;
+    let mut input: &[u8] = b"";
+    Ok(run_in(rt, images, &words, NO_TERMINAL, &mut input))
+}
+
+/// The first of these calls, one behind the other, that does not end and print so.
+fn first_untold_of<H>(rt: &H, images: &mut MemImages, calls: &[Call]) -> Result<Option<usize>, Fail>
+where
+    H: Files<File = File>
+        + Net<Listener = TcpListener, Stream = TcpStream>
+        + Threads
+        + Wait
+        + Clock
+        + Sync
+        + Alloc<A = Global>,
+{
+    for (i, call) in calls.iter().enumerate() {
+        let ran = run_call(rt, images, call)?;
+        if !is_ended(&ran, call) {
+            return Ok(Some(i));
+        }
+    }
+    Ok(None)
+}
+
+/// What calls tell behind a stop that leaves of each sector its kept value.
+fn told_behind_stop<H>(
+    rt: &H,
+    images: &mut MemImages,
+) -> Result<(Option<usize>, bool, Option<usize>), Fail>
+where
+    H: Files<File = File>
+        + Net<Listener = TcpListener, Stream = TcpStream>
+        + Threads
+        + Wait
+        + Clock
+        + Sync
+        + Alloc<A = Global>,
+{
+    let made = first_untold_of(rt, images, MADE)?;
+    let stopped = images.stop(IMAGE, &[0; 16_384]);
+    Ok((made, stopped, first_untold_of(rt, images, AGAIN)?))
+}
+
+#[test]
+fn what_was_told_is_kept_by_a_stop(rt: HostRuntime) -> Result<(), Fail> {
+    let mut images = MemImages::new(rt.alloc());
+    let told = told_behind_stop(&rt, &mut images)?;
+    assert!(rt; told == (None, true, None));
+    Ok(())
+}
+
+/// How a status ends where the first call of the disk fails, and how it ends behind that.
+fn told_of_failing<H>(rt: &H, images: &mut MemImages) -> Result<(bool, Status, Option<usize>), Fail>
+where
+    H: Files<File = File>
+        + Net<Listener = TcpListener, Stream = TcpStream>
+        + Threads
+        + Wait
+        + Clock
+        + Sync
+        + Alloc<A = Global>,
+{
+    let _ = first_untold_of(rt, images, MADE)?;
+    let armed = images.fail(IMAGE, 1, 1);
+    let failed = run_call(rt, images, &AGAIN[0])?.status;
+    Ok((armed, failed, first_untold_of(rt, images, AGAIN)?))
+}
+
+#[test]
+fn failing_call_is_a_fault(rt: HostRuntime) -> Result<(), Fail> {
+    let mut images = MemImages::new(rt.alloc());
+    let told = told_of_failing(&rt, &mut images)?;
+    assert!(rt; told == (true, Status::Refused, None));
+    Ok(())
+}
+
+#[test]
+fn image_that_is_handed_out_is_in_use(rt: HostRuntime) {
+    let mut images = MemImages::new(rt.alloc());
+    let missing = images.open(IMAGE).is_err();
+    let made = images.create(IMAGE, 8);
+    let in_use = (
+        images.open(IMAGE).is_err(),
+        images.create(IMAGE, 8).is_err(),
+    );
+    let lent = images.length(IMAGE);
+    if let Ok(disk) = made {
+        images.close(IMAGE, disk);
+    }
+    let told = (missing, in_use, lent, images.length(IMAGE));
+    assert_eq!(rt; told, (true, (true, true), None, Some(4096)));
+}
