@@ -29,7 +29,7 @@ module _ {D : Type 0} (geometry : D → Geometry) where
     holds = sym holds;
     more = λ id before after. refl;
     told = λ id blocks is tells held. absurd (omega (arith, held, nobody_holds id));
-    answered = record { may = may; mode = sym mode; silent = λ yes. record { failures = refl; flushes = refl; moment = refl } };
+    answered = record { may = may; mode = sym mode; silent = λ yes. record { failures = refl; flushes = refl; moment = refl }; reads = λ reading. refl };
     flushes = record {
       no_fewer = omega arith;
       most = omega arith;
