@@ -1,4 +1,4 @@
--- Trusted reading: blocks that are held as they were read (own).
+-- Internal: blocks that are held as they were read (own).
 use Rattle.std.specs.Prelude.{◌≡◌, ◌≢◌, ◌⊎◌, ℕ, List, Option, Some, nat_eq}
 use Rattle.std.specs.Map.{lookup}
 

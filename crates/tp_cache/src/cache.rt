@@ -11,6 +11,9 @@ use crate::places::Places;
 use std::alloc::Global;
 use tp_disk::{Disk, Fault, SharedDisk};
 
+/// So many bytes take a device longer than one sync more.
+const MUCH: u64 = 1 << 20;
+
 /// A disk over another one, at which each write seems done at once. A whole block of the metadata, which are the first blocks of
 /// the disk, is kept in memory until the next flush, or until as many are kept as it was given room for; all else goes to the inner disk.
 #[derive(Drop)]
@@ -136,5 +139,16 @@ impl<D: Disk> Disk for NodeCache<D> {
 impl<D: SharedDisk> SharedDisk for NodeCache<D> {
     fn read_shared(&self, at: u64, out: &mut [u8]) -> bool {
         self.core.read_shared(at, out)
+    }
+
+    // Where blocks have changed, a commit writes and flushes them and others that it changes itself, so a sync before it is one more: it pays where much
+    // was written.
+    fn sync_ahead(&self, least: u64) {
+        let least = if self.core.has_changed() {
+            least.max(MUCH)
+        } else {
+            least
+        };
+        self.core.inner().sync_ahead(least);
     }
 }

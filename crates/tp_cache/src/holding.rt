@@ -1,5 +1,5 @@
 //! The cache itself: a table of dirty blocks over a disk.
-ghost use Rattle.std.specs.Prelude.{◌≡◌, ℕ, ◌+◌, ◌*◌, ◌/◌, ◌%◌, ◌<◌, ◌≤◌, ◌^◌, length, replicate, is_ok, IsTrue, MatchResult, OnOk, OnErr, IfNone, IfSome, [], if◌then◌else◌, false};
+ghost use Rattle.std.specs.Prelude.{◌≡◌, ◌↔◌, ℕ, ◌+◌, ◌*◌, ◌/◌, ◌%◌, ◌<◌, ◌≤◌, ◌^◌, length, replicate, is_ok, IsTrue, MatchResult, OnOk, OnErr, IfNone, IfSome, [], if◌then◌else◌, false};
 ghost use Rattle.std.specs.Bool.{OnTrue};
 ghost use Rattle.tp_model.specs.Sectors.{sectors_of, bytes_at};
 ghost use Rattle.tp_model.specs.Disk.{IsWellFormed, cell_at, Writes, after_flush, after_read, after_write, seen};
@@ -99,6 +99,13 @@ impl<D: Disk> Core<D> {
         ensures { D.state result.now ≡ self.now.line.inner }
     {
         &self.disk
+    }
+
+    /// Whether a block is dirty.
+    pub(crate) fn has_changed(&self) -> bool
+        ensures { IsTrue result ↔ 0 < self.now.used }
+    {
+        self.used > 0
     }
 
     pub(crate) fn sectors(&self) -> u64

@@ -1,11 +1,11 @@
 -- The state of a disk of which nothing is claimed stays well formed, and promises nothing of contents.
-use Rattle.std.proofs.Common.{◌≡◌, ℕ, zero, suc, ◌≤◌, ◌^◌, Bool, true, false, List, length, replicate, refl, sym, ◌∙◌, subst, true≢false}
+use Rattle.std.proofs.Common.{◌≡◌, ℕ, zero, suc, ◌≤◌, ◌^◌, Bool, true, false, List, length, replicate, refl, sym, ◌∙◌, ap, subst, true≢false}
 use Rattle.std.proofs.lemmas.List.{length-replicate}
 use Rattle.std.specs.Prelude.{◌%◌, IsTrue}
 use Rattle.std.specs.List.{AllByRecursion}
 use Rattle.tp_model.specs.Sectors.{zero_sector, sectors_of}
-use Rattle.tp_model.specs.Disk.{DiskState, IsSettled, IsWellFormed, settled, after_flush}
-use Rattle.tp_model.proofs.DiskLaws.{IsWellFormed-flushed, IsWellFormed-written, IsWellFormed-settled, whole-sectors_of}
+use Rattle.tp_model.specs.Disk.{DiskState, IsSettled, IsWellFormed, seen, settled, after_flush}
+use Rattle.tp_model.proofs.DiskLaws.{seen-settled, IsWellFormed-flushed, IsWellFormed-written, IsWellFormed-settled, whole-sectors_of}
 use Rattle.tp_disk.specs.HandedOut.{IsHandedOut}
 use Rattle.tp_disk.specs.Shadow.{after_newest, unclaimed}
 
@@ -43,3 +43,16 @@ unclaimed_promises b e h = absurd (true≢false (sym h ∙ e))
 pub unclaimed_is_handed_out : (size : ℕ) (state : DiskState) → state ≡ unclaimed size → IsHandedOut state
 unclaimed_is_handed_out size state e =
     subst IsHandedOut (sym e) (record { past = refl; failures = refl; flushes = refl; settled = λ honest. unclaimed_promises {P = IsSettled (unclaimed size).cells} false refl honest })
+
+-- A disk whose cells were settled at some time is settled: what is seen of them is what they were settled as.
+settled_settled : (image : List (List ℕ)) → IsSettled (settled image)
+settled_settled image = ap settled (sym (seen-settled image))
+
+pub unclaimed_is_settled : (size : ℕ) (state : DiskState) → state ≡ unclaimed size → IsSettled state.cells
+unclaimed_is_settled size state e = subst (λ (d : DiskState). IsSettled d.cells) (sym e) (settled_settled (replicate size zero_sector))
+
+pub flushed_is_settled : (old new : DiskState) → new ≡ after_flush true old → IsSettled new.cells
+flushed_is_settled old new e = subst (λ (d : DiskState). IsSettled d.cells) (sym e) (settled_settled (seen old.cells))
+
+pub unflushed_is_settled : (old new : DiskState) → new ≡ after_flush false old → IsSettled old.cells → IsSettled new.cells
+unflushed_is_settled old new e settled = subst (λ (d : DiskState). IsSettled d.cells) (sym e) settled

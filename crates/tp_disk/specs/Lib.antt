@@ -10,3 +10,4 @@ pub mod Shared
 pub mod Tally
 pub mod Watch
 pub mod Streams
+pub mod Syncs

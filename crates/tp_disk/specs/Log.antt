@@ -1,4 +1,4 @@
--- Trusted reading: the writes that a `MemDisk` holds since its last flush.
+-- Internal: the writes that a `MemDisk` holds since its last flush.
 use Rattle.std.specs.Prelude.{◌≡◌, ℕ, ◌+◌, ◌/◌, ◌%◌, ◌≤◌, List, [], ◌∷◌, length}
 use Rattle.tp_model.specs.Sectors.{sectors_of}
 use Rattle.tp_model.specs.Disk.{Cell, written}

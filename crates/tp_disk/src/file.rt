@@ -1,8 +1,8 @@
 //! A disk over a file. Whether a file gives back what was written is outside of every proof, so such a disk claims nothing of itself: in
 //! its state it is not honest, and no promise on contents speaks of it. What is proved of contents is proved of each honest disk; that files are such is a
 //! premise of those who use them.
-ghost use Rattle.std.specs.Prelude.{◌≡◌, IfOk, false};
-ghost use Rattle.tp_model.specs.Disk.{IsWellFormed};
+ghost use Rattle.std.specs.Prelude.{◌≡◌, ◌<◌, ◌≤◌, ◌-◌, ◌^◌, IfOk, OnOk, is_ok, false};
+ghost use Rattle.tp_model.specs.Disk.{IsSettled, IsWellFormed, after_flush};
 ghost use Rattle.tp_disk.specs.Streams.{IsNoStream};
 
 use crate::disk::MOST_SECTORS;
@@ -11,6 +11,7 @@ use crate::opening::{
     sync_folder,
 };
 use crate::shadow::{Shadow, Step};
+use crate::syncs::{Synced, Syncs};
 use crate::trouble::{DiskCall, Trouble, note_trouble};
 use crate::{Disk, Fault, SharedDisk};
 use std::fs::File;
@@ -25,9 +26,9 @@ const SECTOR: u64 = 512;
 const MOST_WRITTEN: usize = 65_536;
 
 /// A disk over a regular file: sector i is the 512 bytes from byte 512 * i on. Reads and writes are at their places in the
-/// file, with no buffer between, and a flush waits until the system has brought the data to the device. A long write is
-/// made by calls of the system of 64 KiB each. A call that the system cuts short or interrupts goes on; one that it refuses is a `Fault`,
-/// and [`FileDisk::trouble`] tells what the system said of it.
+/// file, with no buffer between, and a flush waits until the system has brought the data to the device, unless nothing was written since the last sync that
+/// did. A long write is made by calls of the system of 64 KiB each. A call that the system cuts short or interrupts goes on; one that it refuses is a `Fault`,
+/// and [`FileDisk::trouble`] tells what the system said of it. Once a sync was refused, each flush fails: the system forgets what it could not write.
 ///
 /// What a killed program wrote may still be in the system's memory alone, where a power cut loses it. So opening waits until all of the file is on the
 /// device: from then on a stop leaves what reads give.
@@ -41,15 +42,26 @@ pub struct FileDisk {
     size: u64,
     shadow: Shadow,
     trouble: Option<Trouble>,
+    /// How many writes there were. It stays at the greatest `u64`.
+    writes: u64,
+    /// How many bytes were written since the last flush.
+    unsynced: u64,
+    /// The last sync that opening or a flush asked for.
+    last: Synced,
+    syncs: Syncs,
     ghost is_no_stream: { IsNoStream file },
     ghost size_is: { shadow.state.size ≡ size },
     ghost unclaimed: { shadow.state.is_honest ≡ false },
     ghost well_formed: { IsWellFormed shadow.state.size shadow.state.cells },
+    ghost no_later: { last.writes ≤ writes },
+    // A write that is not counted would leave a sector that is not kept.
+    ghost counted: { last.writes ≡ writes → writes < 2 ^ 64 - 1 → IsSettled shadow.state.cells },
 }
 
 impl FileDisk {
     ghost use Rattle.tp_disk.specs.File.{file_state};
     ghost use Rattle.tp_disk.specs.HandedOut.{IsHandedOut};
+    ghost use Rattle.tp_disk.specs.Syncs.{writes_of, writes_to};
 
     /// The disk over an existing file. A part of a sector at the end is not counted. Refused where the system refuses, as for a missing file or one that
     /// cannot be synced, where it is no regular file, another open holds its lock, or it would have one of descriptors 0 to 2, and where there are more
@@ -102,6 +114,16 @@ impl FileDisk {
         self.trouble
     }
 
+    /// A sync behind the last write.
+    fn synced(&self) -> io::Result<Synced>
+        ensures { IfOk result (λ synced. writes_of synced ≡ writes_to self.now) }
+    {
+        if self.last.is_behind(self.writes) {
+            return Ok(self.last);
+        }
+        self.syncs.behind(&self.file, self.writes)
+    }
+
     /// The disk over a file of this many sectors, all of which is on the device.
     fn over(file: File, size: u64) -> Result<FileDisk, OpenError>
         requires { IsNoStream file }
@@ -111,7 +133,7 @@ impl FileDisk {
         if size > MOST_SECTORS {
             return Err(OpenError::TooLarge);
         }
-        OpenStep::Sync.tried(file.sync_all())?;
+        let last = OpenStep::Sync.tried(Synced::at_opening(&file))?;
         let mut shadow = Shadow::new();
         shadow.note(&Step::Unclaimed { sectors: size }, &[]);
         Ok(FileDisk {
@@ -119,6 +141,10 @@ impl FileDisk {
             size,
             shadow,
             trouble: None,
+            writes: 0,
+            unsynced: 0,
+            last,
+            syncs: Syncs::none(),
         })
     }
 }
@@ -134,6 +160,7 @@ fn write_pieces(file: &File, mut at: u64, bytes: &[u8]) -> io::Result<()> {
 
 impl Disk for FileDisk {
     ghost use Rattle.tp_disk.specs.File.{file_state};
+    ghost use Rattle.tp_disk.specs.Syncs.{IsSynced, writes_to};
 
     ghost state = { file_state };
 
@@ -152,6 +179,8 @@ impl Disk for FileDisk {
     }
 
     fn write(&mut self, at: u64, bytes: &[u8]) -> Result<(), Fault> {
+        self.writes = self.writes.saturating_add(1);
+        self.unsynced = self.unsynced.saturating_add(bytes.len() as u64);
         let done = write_pieces(&self.file, SECTOR * at, bytes);
         let ok = done.is_ok();
         note_trouble(&mut self.trouble, DiskCall::Write { at }, done);
@@ -159,17 +188,36 @@ impl Disk for FileDisk {
         if ok { Ok(()) } else { Err(Fault) }
     }
 
-    fn flush(&mut self) -> Result<(), Fault> {
-        let done = self.file.sync_data();
-        let ok = done.is_ok();
-        note_trouble(&mut self.trouble, DiskCall::Flush, done);
-        self.shadow.note(&Step::Flush { ok }, &[]);
-        if ok { Ok(()) } else { Err(Fault) }
+    /// It makes no call of the system where the file was synced behind its last write.
+    fn flush(&mut self) -> Result<(), Fault>
+        ensures state { file_state self.new ≡ after_flush (is_ok result) (file_state self.old) }
+        ensures synced { OnOk result (IsSynced self.new) }
+        ensures writes { writes_to self.new ≡ writes_to self.old }
+    {
+        match self.synced() {
+            Ok(synced) => {
+                self.last = synced;
+                self.unsynced = 0;
+                self.shadow.note(&Step::Flush { ok: true }, &[]);
+                Ok(())
+            }
+            Err(error) => {
+                note_trouble(&mut self.trouble, DiskCall::Flush, Err(error));
+                self.shadow.note(&Step::Flush { ok: false }, &[]);
+                Err(Fault)
+            }
+        }
     }
 }
 
 impl SharedDisk for FileDisk {
     fn read_shared(&self, at: u64, out: &mut [u8]) -> bool {
         self.file.read_exact_at(out, SECTOR * at).is_ok()
+    }
+
+    fn sync_ahead(&self, least: u64) {
+        if self.unsynced >= least && !self.last.is_behind(self.writes) {
+            self.syncs.ahead(&self.file, self.writes);
+        }
     }
 }

@@ -13,6 +13,7 @@ mod memory;
 mod opening;
 mod shadow;
 mod shared;
+mod syncs;
 mod tally;
 mod trouble;
 mod watch;

@@ -266,6 +266,9 @@ impl SharedDisk for MemDisk {
         out.copy_from_slice(newest);
         true
     }
+
+    /// There is no device.
+    fn sync_ahead(&self, _least: u64) {}
 }
 
 impl Disk for MemDisk {

@@ -1,6 +1,6 @@
 //! How a file is opened, before it is a disk.
 
-ghost use Rattle.std.specs.Prelude.{IfOk};
+ghost use Rattle.std.specs.Prelude.{◌≡◌, IfOk, Ok};
 ghost use Rattle.tp_disk.specs.Streams.{IsNoStream};
 
 use std::fmt::{self, Display, Formatter};
@@ -44,7 +44,9 @@ pub enum OpenError {
 
 impl OpenStep {
     /// What the system answered to this step, as an answer of opening.
-    pub(crate) fn tried<T: Drop>(self, answer: io::Result<T>) -> Result<T, OpenError> {
+    pub(crate) fn tried<T: Drop>(self, answer: io::Result<T>) -> Result<T, OpenError>
+        ensures { IfOk result (λ value. answer ≡ Ok value) }
+    {
         match answer {
             Ok(value) => Ok(value),
             Err(error) => Err(OpenError::System { step: self, error }),

@@ -16,6 +16,10 @@ pub trait SharedDisk: Disk {
         requires within { at + length out.old / 512 ≤ (Self.state self.now).size }
         ensures { IsTrue result → IsTrue (Self.state self.now).is_honest
             → out.new ≡ bytes_at (seen (Self.state self.now).cells) at (length out.old / 512) };
+
+    /// Brings to the device what was written so far, where that is at least so many bytes, while others read, so that a `flush` behind it has less to wait
+    /// for. It is no flush: nothing is promised of it, and what fails of it the next `flush` tells.
+    fn sync_ahead(&self, least: u64);
 }
 
 /// A disk as one of those sees it who look at it at once. What cannot be looked at so, and each write and flush, is a `Fault`, of which the disk

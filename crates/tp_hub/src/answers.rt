@@ -90,7 +90,7 @@ impl Answers {
     }
 
     /// Adds a status line.
-    pub(crate) fn tell(&mut self, line: &[u8])
+    pub fn tell(&mut self, line: &[u8])
         requires bytes { length (all_sent self.old.list) + length line.now ≤ self.old.room }
         requires marks { length self.old.list < self.old.marks }
         ensures { Grows self.old self.new (Lines line.now ∷ []) }
@@ -102,7 +102,7 @@ impl Answers {
     }
 
     /// Adds an answer without bytes.
-    pub(crate) fn note(&mut self, mark: Mark)
+    pub fn note(&mut self, mark: Mark)
         requires marks { length self.old.list < self.old.marks }
         requires plain { len_of mark ≡ 0 }
         ensures { Grows self.old self.new (told (mark ∷ []) []) }

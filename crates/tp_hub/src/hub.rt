@@ -114,6 +114,12 @@ impl<V: SharedVolumes> Hub<V> {
     {
         ask_place(&self.sessions, &self.pool, number, piece, out)
     }
+
+    /// Brings to the device what events so far wrote, while READs are taken beside it, so that a FLUSH behind it has less to wait for. It answers nobody, and
+    /// nothing is promised of it.
+    pub fn sync_ahead(&self) {
+        self.pool.sync_ahead();
+    }
 }
 
 impl<V: Managed> Hub<V> {

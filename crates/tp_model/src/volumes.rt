@@ -114,4 +114,8 @@ pub trait SharedVolumes: Volumes {
         requires range { EndsInVolume Self.view self.now id (sector + length out.old / 512) }
         requires most { length out.old / 512 ≤ 2048 }
         ensures { IsTrue result → Meets Self.view self.now self.now (Read id sector (length out.old / 512)) (Gave (sectors_of out.new)) };
+
+    /// Brings to the device what calls so far wrote to the disk, while others read, so that a flush behind it has less to wait for. It is no flush: nothing
+    /// is promised of it, and what fails of it the next flush tells.
+    fn sync_ahead(&self);
 }

@@ -91,4 +91,9 @@ impl<D: SharedDisk, M: Metadata> Pool<D, M> {
             out,
         )
     }
+
+    /// Brings to the device what was written to its disk so far, for a flush that comes next, while others read.
+    pub fn sync_ahead(&self) {
+        self.disk.sync_ahead(0);
+    }
 }

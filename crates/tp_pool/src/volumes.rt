@@ -67,4 +67,8 @@ impl<D: SharedDisk, M: Metadata> SharedVolumes for Pool<D, M> {
     fn read_shared(&self, id: DevId, sector: u64, out: &mut [u8]) -> bool {
         self.read_shared(id, sector, out)
     }
+
+    fn sync_ahead(&self) {
+        self.sync_ahead();
+    }
 }

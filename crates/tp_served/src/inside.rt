@@ -100,6 +100,11 @@ impl<D: SharedDisk, M: Metadata> Inside<D, M> {
         self.facts();
         self.besides.read_shared(&self.cache, id, sector, out)
     }
+
+    /// A sync ahead, of the cache as it stands.
+    pub(crate) fn sync_ahead(&self) {
+        self.cache.sync_ahead(0);
+    }
 }
 
 /// The parts of a pool on a cache since some moment.

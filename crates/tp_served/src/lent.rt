@@ -343,4 +343,8 @@ impl<D: SharedDisk, M: Metadata> Lent<D, M> {
     {
         self.inside.as_ref().unwrap().read_shared(id, sector, out)
     }
+
+    pub(crate) fn sync_ahead(&self) {
+        self.inside.as_ref().unwrap().sync_ahead();
+    }
 }

@@ -329,4 +329,10 @@ impl<D: SharedDisk, M: Metadata> Served<D, M> {
     {
         self.lent.read_shared(id, sector, out)
     }
+
+    /// Brings to the device what was written so far, for a flush that comes next, while others read. Where metadata has changed it does so only where that is a MiB
+    /// or more: a commit brings little data and its metadata by the same two syncs.
+    pub fn sync_ahead(&self) {
+        self.lent.sync_ahead();
+    }
 }

@@ -67,4 +67,8 @@ impl<D: SharedDisk + Drop, M: Metadata + Drop> SharedVolumes for Served<D, M> {
     fn read_shared(&self, id: DevId, sector: u64, out: &mut [u8]) -> bool {
         self.read_shared(id, sector, out)
     }
+
+    fn sync_ahead(&self) {
+        self.sync_ahead();
+    }
 }

@@ -107,4 +107,8 @@ impl<D: SharedDisk> SharedDisk for TalliedDisk<D> {
     fn read_shared(&self, at: u64, out: &mut [u8]) -> bool {
         self.disk.read_shared(at, out)
     }
+
+    fn sync_ahead(&self, least: u64) {
+        self.disk.sync_ahead(least);
+    }
 }

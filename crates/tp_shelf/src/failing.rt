@@ -120,6 +120,8 @@ impl SharedVolumes for FailingShelf {
     fn read_shared(&self, _id: DevId, _sector: u64, _out: &mut [u8]) -> bool {
         false
     }
+
+    fn sync_ahead(&self) {}
 }
 
 impl Managed for FailingShelf {

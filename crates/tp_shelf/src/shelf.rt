@@ -16,7 +16,7 @@ use tp_msg::{LineBuffer, Managed, PoolStatus, VolumeStatus, print_status, print_
 /// The bytes of a volume: 16 blocks of 128 sectors.
 pub const VOLUME: usize = 1048576;
 
-/// How many shared reads have come, for how many each waits, and whether one waited in vain.
+/// How many shared reads and syncs have come, for how many each waits, and whether one waited in vain.
 #[derive(Drop)]
 struct Company {
     wanted: u64,
@@ -229,6 +229,11 @@ impl SharedVolumes for Shelf {
         self.company.join();
         copy_out(&self.bytes, place(id, sector), out);
         true
+    }
+
+    /// It comes and stays as a shared read does.
+    fn sync_ahead(&self) {
+        self.company.join();
     }
 }
 
