@@ -2,7 +2,7 @@
 use Rattle.std.specs.Prelude.{◌≡◌, ◌<◌, length}
 use Rattle.tp_hub.specs.Streams.{GivesSome}
 use Rattle.tp_crowd.specs.Framing.{Framed, given, passed}
-use Rattle.tp_crowd.specs.declared.ahead.Fetched.{Fetched}
+use Rattle.tp_crowd.specs.declared.fetching.Fetched.{Fetched}
 
 -- a buffer with room, and what was read stands in it; the frames are followed over that
 abbrev pub IsFetched : Framed → Fetched → Type 0

@@ -1,3 +1,4 @@
 pub mod Fetches
 pub mod Framing
 pub mod Locked
+pub mod Ruling

@@ -1,18 +1,17 @@
 //! Reads of a client's stream that another thread makes while what was read before them is asked.
 
-ghost use Rattle.std.specs.Prelude.{◌≡◌, ◌<◌, None, length, IfOk, IfSome};
+ghost use Rattle.std.specs.Prelude.{◌≡◌, ◌<◌, None, length, IfOk, IfSome, IsSomeAnd, IsTrue};
+ghost use Rattle.std.proofs.Props.{props};
 ghost use Rattle.tp_hub.specs.Streams.{GivesSome};
-ghost use Rattle.tp_crowd.specs.Fetches.{IsFetched};
 ghost use Rattle.tp_crowd.specs.Framing.{given, passed};
 
+use crate::fetching::{Fetching, TakenBack};
 use crate::frames::Frames;
 use crate::polled::Polled;
-use crate::sockets::read_frames;
 use std::alloc::{AllocError, Global};
-use std::net::TcpStream;
+use std::mem;
 use std::sync::atomic::{AtomicUsize, Ordering};
-use std::thread::{Promise, PromisedHandle, Threads};
-use std::{mem, thread};
+use std::thread::Threads;
 use tp_hub::Received;
 
 /// The clients of a listener, as far as their [`Socket`](crate::Socket)s have to know of one another: how many there are.
@@ -45,47 +44,20 @@ impl Crew {
     }
 }
 
-/// What a read in a thread of its own brought: to the front of a buffer of its own.
-#[derive(Drop)]
-struct Fetched {
-    bytes: Vec<u8>,
-    frames: Frames,
-    received: Received,
-}
-
-/// What is known of it: that its buffer has room, the bytes that were read, and that the frames are followed on from where they stood before.
-#[derive(Drop)]
-pub(crate) struct Behind {
-    frames: Frames,
-}
-
-impl Promise<Fetched> for Behind {
-    ghost use Rattle.tp_crowd.specs.Fetches.{IsFetched};
-
-    ghost kept_by = { λ behind fetched. IsFetched behind.frames fetched };
-}
-
-/// Reads from a stream that waits.
-fn fetch(mut stream: TcpStream, mut frames: Frames, mut bytes: Vec<u8>) -> Fetched
-    requires { 0 < length bytes.items }
-    ensures { IsFetched frames result }
-{
-    let received = read_frames(&mut stream, &mut frames, bytes.as_mut_slice());
-    Fetched {
-        bytes,
-        frames,
-        received,
-    }
-}
-
 /// The reads ahead of one client, of which one at most is under way. While it is, nobody else reads the stream, and calls of it wait.
+///
+/// Who wants what it brings waits for no thread that has not begun: the read is taken back, and no other one is started before that thread has come and gone.
+/// So on a machine whose processors are all taken there are few reads ahead, and more again when there is one for them.
 pub(crate) struct Ahead<'c, R: Threads> {
     rt: &'c R,
     alloc: Global,
     crew: &'c Crew,
     /// The buffer of the next read ahead, empty before the first one.
     spare: Vec<u8>,
-    under_way: Option<PromisedHandle<Fetched, Behind>>,
+    under_way: Option<Fetching>,
+    /// One that was taken back, while its thread has not been joined.
+    late: Option<TakenBack>,
+    ghost alone: { IfSome late (λ _. under_way ≡ None) } by { Prim.hlevel props },
 }
 
 /// A buffer of so many bytes: the spare one, if there is any.
@@ -111,7 +83,24 @@ impl<'c, R: Threads> Ahead<'c, R> {
             crew,
             spare: Vec::new(alloc),
             under_way: None,
+            late: None,
         }
+    }
+
+    /// Joins a thread that came too late, if it has ended, and tells whether there is none any more.
+    fn is_rid_of_late(&mut self) -> bool
+        ensures none { IsTrue result → self.new.late ≡ None }
+        ensures same { self.new.under_way ≡ self.old.under_way }
+    {
+        let Some(late) = self.late.take() else {
+            return true;
+        };
+        if !late.has_ended() {
+            self.late = Some(late);
+            return false;
+        }
+        self.spare = late.join(self.rt);
+        true
     }
 
     /// Starts a read behind the last one, where the client has sent more and there is a processor for it. Where there is no memory or no thread for it none
@@ -119,9 +108,9 @@ impl<'c, R: Threads> Ahead<'c, R> {
     pub(crate) fn start(&mut self, stream: &mut Polled, frames: Frames, len: usize)
         requires room { 0 < len }
         requires alone { self.old.under_way ≡ None }
-        ensures { IfSome self.new.under_way (λ h. h.promise.frames ≡ frames) }
+        ensures { IfSome self.new.under_way (λ f. f.handle.promise.frames ≡ frames) }
     {
-        if !self.crew.is_small() || !stream.has_more() {
+        if !self.is_rid_of_late() || !self.crew.is_small() || !stream.has_more() {
             return;
         }
         let Some(stream) = stream.another() else {
@@ -130,32 +119,32 @@ impl<'c, R: Threads> Ahead<'c, R> {
         let Ok(bytes) = take_buffer(self.alloc, &mut self.spare, len) else {
             return;
         };
-        let behind = Behind {
-            frames: frames.copy(),
-        };
-        let read = move || -> Fetched
-            requires { 0 < length bytes.items }
-            ensures { IsFetched frames result }
-        { fetch(stream, frames, bytes) };
-        self.under_way = thread::spawn_with(self.rt, behind, read).ok();
+        self.under_way = Fetching::start(self.rt, self.alloc, stream, frames, bytes);
     }
 
-    /// What the read that is under way brings, if there is one: its buffer takes the place of the other one. Where that is not as long any more, the read has
-    /// failed.
+    /// What the read that is under way brings, if there is one and its thread has begun: its buffer takes the place of the other one. Where that is not as long
+    /// any more, the read has failed. Where its thread has not begun it is taken back.
     pub(crate) fn finish(&mut self, frames: &mut Frames, buffer: &mut Vec<u8>) -> Option<Received>
         requires room { 0 < length buffer.old.items }
-        requires same { IfSome self.old.under_way (λ h. h.promise.frames ≡ frames.old) }
+        requires same { IfSome self.old.under_way (λ f. f.handle.promise.frames ≡ frames.old) }
         ensures some { IfSome result (λ received. GivesSome received (length buffer.new.items)) }
         ensures follows { IfSome result (λ received. frames.new ≡ passed frames.old (given received buffer.new.items)) }
         ensures kept { result ≡ None → frames.new ≡ frames.old }
         ensures len { length buffer.new.items ≡ length buffer.old.items }
         ensures over { self.new.under_way ≡ None }
-        ensures none { result ≡ None → self.old.under_way ≡ None }
+        ensures none { result ≡ None → IfSome self.old.under_way (λ f. IsSomeAnd self.new.late (λ taken. taken.fetching ≡ f)) }
     {
-        let Some(handle) = self.under_way.take() else {
+        let Some(fetching) = self.under_way.take() else {
             return None;
         };
-        let fetched = handle.join(self.rt);
+        let fetching = match fetching.take_back() {
+            Ok(taken) => {
+                self.late = Some(taken);
+                return None;
+            }
+            Err(fetching) => fetching,
+        };
+        let fetched = fetching.join(self.rt);
         if fetched.bytes.len() != buffer.len() {
             return Some(Received::Broken);
         }
@@ -172,11 +161,15 @@ impl<'c, R: Threads> Ahead<'c, R> {
             crew,
             spare: _,
             under_way,
+            late,
         } = self;
         crew.leave();
-        if let Some(handle) = under_way {
+        if let Some(fetching) = under_way {
             stream.shut_down();
-            handle.join(rt);
+            fetching.join(rt);
+        }
+        if let Some(taken) = late {
+            taken.join(rt);
         }
     }
 }

@@ -164,6 +164,17 @@ fn is_for_now(error: &io::Error) -> bool {
     )
 }
 
+/// Bounds the calls of a control client's stream in time, where the system lets it.
+pub(crate) fn is_bounded(stream: &TcpStream) -> bool {
+    let _ = stream.set_nodelay(true);
+    stream
+        .set_read_timeout(Some(Duration::from_millis(PAUSE)))
+        .is_ok()
+        && stream
+            .set_write_timeout(Some(Duration::from_millis(PATIENCE)))
+            .is_ok()
+}
+
 /// Answers the lines of one control client. It is dropped where no call of it can be bounded in time.
 fn attend_stream<R, V, A, K>(
     rt: &R,
@@ -178,19 +189,9 @@ where
     A: Alarm,
     K: Start<V>,
 {
-    if stream
-        .set_read_timeout(Some(Duration::from_millis(PAUSE)))
-        .is_err()
-    {
+    if !is_bounded(stream) {
         return;
     }
-    if stream
-        .set_write_timeout(Some(Duration::from_millis(PATIENCE)))
-        .is_err()
-    {
-        return;
-    }
-    let _ = stream.set_nodelay(true);
     let mut watched = Watched::new(stream, are_gone);
     answer_lines(rt, alloc, hub, &mut watched);
 }
@@ -218,7 +219,7 @@ where
 /// A control client's stream, which is at its end when the others are gone. A read that waited too long counts as interrupted: it is made again, behind
 /// another look.
 #[derive(Drop)]
-struct Watched<'a> {
+pub(crate) struct Watched<'a> {
     log: Log,
     stream: &'a TcpStream,
     are_gone: &'a AtomicBool,
@@ -226,7 +227,7 @@ struct Watched<'a> {
 
 impl<'a> Watched<'a> {
     /// No call of it was made yet.
-    fn new(stream: &'a TcpStream, are_gone: &'a AtomicBool) -> Watched<'a> {
+    pub(crate) fn new(stream: &'a TcpStream, are_gone: &'a AtomicBool) -> Watched<'a> {
         Watched {
             log: Log::new(),
             stream,

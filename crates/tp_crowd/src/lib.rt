@@ -3,7 +3,7 @@
 //! [`serve_all`] takes streams as they come, and carries each on a thread of its own over one hub behind a lock, which is taken for one ask at a time, and
 //! shared by READs. An [`Alarm`] is told when the pool behind it fails.
 //! [`serve_listener`] takes them from a listener, as [`Socket`]s, and closes it behind the last one; [`serve_listener_with_control`] answers control lines
-//! from another listener beside them.
+//! from another listener beside them. [`serve_until_stopped`] takes them without end, 64 at a time, from TCP addresses and socket files ([`Door`]).
 //!
 //! All that a client is told, and all that becomes of the pool, is said in `tp_hub`, which knows no threads.
 #![tactic(auto)]
@@ -11,18 +11,27 @@
 mod ahead;
 mod control;
 mod crowd;
+mod door;
+mod fetching;
 mod frames;
+mod gate;
+mod guest;
 mod listening;
 mod locked;
+mod order;
 mod polled;
+mod ruling;
 mod since;
 mod sockets;
+mod staying;
 mod turns;
 
 pub use ahead::Crew;
 pub use control::serve_listener_with_control;
 pub use crowd::{Served, serve_all};
+pub use door::Door;
 pub use listening::serve_listener;
 pub use locked::{Alarm, HubLock, LockedDesk};
 pub use since::Start;
 pub use sockets::Socket;
+pub use staying::{Stayed, serve_until_stopped};

@@ -9,19 +9,23 @@ ghost use Rattle.tp_hub.specs.Serve.{HubRuns};
 ghost use Rattle.tp_crowd.specs.Framing.{IsRead};
 ghost use Rattle.tp_crowd.specs.Locked.{IsFrom, SomeRuns};
 
+use crate::order::{Order, Purpose};
 use crate::since::{Since, Start};
-use crate::turns::turn_len;
+use crate::turns::{is_to_keep, turn_len};
 use nbd_session::begins_with_read;
 use std::alloc::Global;
-use std::sync::atomic::{AtomicBool, Ordering};
-use std::sync::{RwLock, RwLockReadGuard, RwLockWriteGuard, Wait};
+use std::sync::atomic::{AtomicBool, AtomicU64, Ordering};
+use std::sync::{MutexGuard, RwLock, RwLockReadGuard, RwLockWriteGuard, Wait};
 use std::thread;
 use tp_hub::{Answers, Desk, Event, Hub, Ran};
 use tp_model::{Mode, SharedVolumes, Volumes};
 use tp_msg::Managed;
 
-/// So often one who waits for the lock tries it before it sleeps.
-const TRIES: u32 = 4000;
+/// So often one whose turn it is lets READs that wait go first: about as long as it takes to wake them.
+const TRIES_BEHIND_READS: u32 = 200;
+
+/// So often one whose turn it is tries to have the hub alone between READs, before it keeps further ones away.
+const TRIES_BETWEEN_READS: u32 = 100;
 
 /// What is to be told while a pool serves.
 pub trait Alarm {
@@ -31,11 +35,17 @@ pub trait Alarm {
 
 /// A hub behind a lock, which one ask has alone, or READs share, and an alarm of its pool. No lock is poisoned, and taking it does not fail.
 ///
+/// Who wants the hub alone has its turn first, one behind another: READs come between two of them, and go on while the one whose turn it is waits for the
+/// device.
+///
 /// What is known of the hub each time that somebody has it: it came of the one that was put behind the lock, of which `K` says which it was, by asks one
 /// behind another.
 #[derive(Drop)]
 pub struct HubLock<'a, V: Volumes, A: Alarm, K: Start<V>> {
     hub: RwLock<Since<V, K>>,
+    order: Order,
+    /// How many READs wait for the hub.
+    waiting: AtomicU64,
     alarm: &'a A,
     has_sounded: AtomicBool,
 }
@@ -49,6 +59,8 @@ impl<'a, V: Volumes, A: Alarm, K: Start<V>> HubLock<'a, V, A, K> {
     {
         HubLock {
             hub: RwLock::new(Since::new(hub)),
+            order: Order::new(),
+            waiting: AtomicU64::new(0),
             alarm,
             has_sounded: AtomicBool::new(false),
         }
@@ -60,6 +72,8 @@ impl<'a, V: Volumes, A: Alarm, K: Start<V>> HubLock<'a, V, A, K> {
     {
         let HubLock {
             hub,
+            order: _,
+            waiting: _,
             alarm: _,
             has_sounded: _,
         } = self;
@@ -75,18 +89,46 @@ impl<'a, V: Volumes, A: Alarm, K: Start<V>> HubLock<'a, V, A, K> {
 
     /// The hub, shared.
     fn shared<R: Wait>(&self, rt: &R) -> RwLockReadGuard<'_, Since<V, K>> {
-        self.hub.read(rt)
+        if let Some(guard) = self.hub.try_read() {
+            return guard;
+        }
+        self.waiting.fetch_add(1, Ordering::SeqCst);
+        let guard = self.hub.read(rt);
+        self.waiting.fetch_sub(1, Ordering::SeqCst);
+        guard
     }
 
-    /// The hub alone. To be woken takes time in which nobody has it, so who waits tries again and again for a while, and lets others run in between.
-    fn alone<R: Wait>(&self, rt: &R) -> RwLockWriteGuard<'_, Since<V, K>> {
-        for _ in 0..TRIES {
+    /// Lets READs that wait go first, as long as it takes to wake them.
+    fn let_reads_go(&self) {
+        for _ in 0..TRIES_BEHIND_READS {
+            if self.waiting.load(Ordering::SeqCst) == 0 {
+                return;
+            }
+            thread::yield_now();
+        }
+    }
+
+    /// The hub alone, for the one whose turn it is.
+    fn alone<R: Wait>(
+        &self,
+        rt: &R,
+        _turn: &MutexGuard<'_, ()>,
+    ) -> RwLockWriteGuard<'_, Since<V, K>> {
+        self.let_reads_go();
+        for _ in 0..TRIES_BETWEEN_READS {
             if let Some(guard) = self.hub.try_write() {
                 return guard;
             }
             thread::yield_now();
         }
         self.hub.write(rt)
+    }
+}
+
+impl<'a, V: SharedVolumes, A: Alarm, K: Start<V>> HubLock<'a, V, A, K> {
+    /// Brings to the device what was written so far, while READs go on. All others wait for their turn meanwhile, so nothing is written.
+    fn sync_ahead<R: Wait>(&self, rt: &R, _turn: &MutexGuard<'_, ()>) {
+        self.shared(rt).sync_ahead();
     }
 }
 
@@ -122,8 +164,17 @@ fn ask_and_look<V: Managed, K: Start<V>>(
     (ran, hub.mode() == Mode::Failed)
 }
 
-/// Asks a hub behind a lock alone. The alarm sounds when the lock is let go.
-fn ask_alone<R: Wait, V: Managed, A: Alarm, K: Start<V>>(
+/// What an event wants the hub alone for, by its text alone: a message keeps what was written, and so does a piece that begins with such a request.
+fn purpose_of(event: &Event<'_>) -> Purpose {
+    match *event {
+        Event::Bytes(_, piece) if is_to_keep(piece) => Purpose::Keep,
+        Event::Message(_) => Purpose::Keep,
+        _ => Purpose::Change,
+    }
+}
+
+/// Asks a hub behind a lock alone. What was written before is on the device already where the event is to keep it. The alarm sounds when the lock is let go.
+fn ask_alone<R: Wait, V: Managed + SharedVolumes, A: Alarm, K: Start<V>>(
     rt: &R,
     alloc: Global,
     hub: &HubLock<'_, V, A, K>,
@@ -133,9 +184,18 @@ fn ask_alone<R: Wait, V: Managed, A: Alarm, K: Start<V>>(
     requires { session_of event < 64 }
     ensures { IsAsked (λ took answers. SomeRuns V.view took answers) (incoming event.entry) result.events result.bytes out.old out.new }
 {
-    let mut guard = hub.alone(rt);
+    let purpose = purpose_of(&event);
+    let turn = hub.order.turn(rt, purpose);
+    let device = hub.order.begin(rt, purpose, &turn);
+    if purpose == Purpose::Keep {
+        hub.sync_ahead(rt, &turn);
+    }
+    let mut guard = hub.alone(rt, &turn);
     let (ran, is_failed) = ask_and_look(alloc, &mut guard, event, out);
     drop(guard);
+    hub.order.end(purpose, &turn);
+    drop(turn);
+    drop(device);
     if is_failed {
         hub.sound();
     }

@@ -103,4 +103,9 @@ impl<V: SharedVolumes, K: Start<V>> Since<V, K> {
     {
         self.hub.ask_shared(number, piece, out)
     }
+
+    /// Brings to the device what asks so far wrote.
+    pub(crate) fn sync_ahead(&self) {
+        self.hub.sync_ahead();
+    }
 }

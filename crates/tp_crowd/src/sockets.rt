@@ -32,14 +32,15 @@ const LONG_TO_ASK: usize = 262_144;
 /// Who reads waits awake for some tens of microseconds before its thread sleeps, as long as its client has asked again within such a time of late.
 ///
 /// While a long WRITE is asked, what its client has sent behind it is read by a thread of its own, as long as the clients are few: for at most half as many
-/// clients as there are processors. That read is told, as any other, when its bytes are handed out.
+/// clients as there are processors. That read is told, as any other, when its bytes are handed out. Where that thread has not begun when the next read is
+/// wanted, that one is made here.
 pub struct Socket<'c, R: Threads> {
     log: Log,
     frames: Frames,
     stream: Polled,
     ahead: Ahead<'c, R>,
     ghost follows: { frames ≡ passed at_first (given_in log.calls) },
-    ghost beside: { IfSome ahead.under_way (λ h. h.promise.frames ≡ frames) } by { Prim.hlevel props },
+    ghost beside: { IfSome ahead.under_way (λ f. f.handle.promise.frames ≡ frames) } by { Prim.hlevel props },
 }
 
 impl<'c, R: Threads> Socket<'c, R> {
@@ -75,7 +76,7 @@ fn read<R: Threads>(
     buffer: &mut Vec<u8>,
 ) -> Received
     requires room { 0 < length buffer.old.items }
-    requires beside { IfSome ahead.old.under_way (λ h. h.promise.frames ≡ frames.old) }
+    requires beside { IfSome ahead.old.under_way (λ f. f.handle.promise.frames ≡ frames.old) }
     ensures some { GivesSome result (length buffer.new.items) }
     ensures len { length buffer.new.items ≡ length buffer.old.items }
     ensures follows { frames.new ≡ passed frames.old (given result buffer.new.items) }

@@ -1,11 +1,11 @@
 //! How much of what a client sent is asked at once.
 
-ghost use Rattle.std.specs.Prelude.{◌≡◌, ◌<◌, ◌≤◌, length};
-ghost use Rattle.tp_crowd.specs.Framing.{first_end, turn_of};
+ghost use Rattle.std.specs.Prelude.{◌≡◌, ◌<◌, ◌≤◌, length, slice_index_or};
+ghost use Rattle.tp_crowd.specs.Framing.{first_end, is_to_keep, more_of, turn_of};
 
 use nbd_wire::{Kind, REQUEST_MAGIC, wanted};
 
-/// At most so many requests of a client are made before others may have the hub: each may flush the disk.
+/// At most so many requests of a client are made before others may have the hub.
 const MOST_REQUESTS: u32 = 16;
 
 /// How many bytes stand at the front of some that end with the first request, or before.
@@ -15,6 +15,33 @@ fn first_len(bytes: &[u8]) -> usize
     ensures some { 0 < length bytes.now → 0 < result }
 {
     wanted(Kind::Requests, bytes).min(bytes.len())
+}
+
+/// One of some bytes, or 0 behind their end.
+fn byte_at(bytes: &[u8], i: usize) -> u8
+    ensures { result ≡ slice_index_or bytes.now i 0 }
+{
+    if i < bytes.len() { bytes[i] } else { 0 }
+}
+
+/// Whether a request is to keep what was written, as a FLUSH is, and one with FUA, by its flags and its type.
+pub(crate) fn is_to_keep(request: &[u8]) -> bool
+    ensures { result ≡ is_to_keep request.now }
+{
+    byte_at(request, 5) % 2 == 1 || (byte_at(request, 6) == 0 && byte_at(request, 7) == 3)
+}
+
+/// How many bytes stand at the front of those behind a turn so far that belong to it too. A request that keeps what was written begins a turn, so that what
+/// was written before is brought to the device before it has the hub.
+fn more_len(at: usize, rest: &[u8]) -> usize
+    ensures more { result ≡ more_of at rest.now }
+    ensures most { result ≤ length rest.now }
+    ensures some { at ≡ 0 → 0 < length rest.now → 0 < result }
+{
+    if at > 0 && is_to_keep(rest) {
+        return 0;
+    }
+    first_len(rest)
 }
 
 /// How many bytes of a piece are asked at once: those of its first requests, or all where it begins with none.
@@ -28,7 +55,7 @@ pub(crate) fn turn_len(piece: &[u8]) -> usize
     }
     let mut at = 0;
     for turn in 0..MOST_REQUESTS {
-        at += first_len(&piece[at..]);
+        at += more_len(at, &piece[at..]);
     }
     at
 }

@@ -111,21 +111,26 @@ fn comes_to_its_end(stream: &TcpStream) -> bool {
     false
 }
 
-/// Accepts a client, reads until so many bytes came, and tells whether what follows them is read without being asked for.
+/// Accepts a client, reads until so many bytes came, and tells whether what follows them is read without being asked for, and then given behind them.
 fn accept_and_look<R: Threads>(
     rt: &R,
     alloc: Global,
     crew: &Crew,
     listener: &TcpListener,
+    text: &[u8],
     count: usize,
 ) -> io::Result<bool> {
     let (stream, _) = listener.accept()?;
     let other = stream.try_clone()?;
     let mut socket = Socket::new(rt, alloc, crew, stream);
-    let read = read_until(alloc, &mut socket, count);
+    let first = read_until(alloc, &mut socket, count);
     let is_read_ahead = comes_to_its_end(&other);
+    let rest = read_until(alloc, &mut socket, text.len());
     socket.close();
-    Ok(read?.len() == count && is_read_ahead)
+    let mut read = first?;
+    let is_first = read.len() == count;
+    read.extend_from_slice(&rest?)?;
+    Ok(is_first && is_read_ahead && read.as_slice() == text)
 }
 
 /// The same of the second of two clients, of which the first one is gone by then.
@@ -133,12 +138,13 @@ fn accept_two_and_look<R: Threads>(
     rt: &R,
     alloc: Global,
     listener: &TcpListener,
+    text: &[u8],
     count: usize,
 ) -> io::Result<bool> {
     let crew = Crew::new(2);
     let (first, _) = listener.accept()?;
     Socket::new(rt, alloc, &crew, first).close();
-    accept_and_look(rt, alloc, &crew, listener, count)
+    accept_and_look(rt, alloc, &crew, listener, text, count)
 }
 
 /// A client that comes and goes, and then one that sends this, and nothing behind it.
@@ -150,7 +156,7 @@ where
     send_and_wait(rt, address, text, true)
 }
 
-/// Whether all of this is sent, and what follows its first bytes is read ahead of them.
+/// Whether all of this is sent, and what follows its first bytes is read ahead, and given behind them.
 fn told_of_what_follows<H>(rt: &H, text: &[u8], count: usize) -> io::Result<(bool, bool)>
 where
     H: Net<Listener = TcpListener, Stream = TcpStream> + Threads + Sync + Alloc<A = Global>,
@@ -159,7 +165,7 @@ where
     let (sent, is_read_ahead) = join(
         rt,
         || come_and_send(rt, address, text),
-        || accept_two_and_look(rt, rt.alloc(), &listener, count),
+        || accept_two_and_look(rt, rt.alloc(), &listener, text, count),
     );
     Ok((sent.is_ok(), is_read_ahead?))
 }

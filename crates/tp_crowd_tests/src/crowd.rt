@@ -1,7 +1,9 @@
 //! Two clients at once, and none.
 
 use crate::served::{Kept, Left, served_all};
-use crate::talk::{ANSWERED_GO, ANSWERED_READ, ANSWERED_WRITE, GO, READ, write};
+use crate::talk::{
+    ANSWERED_FLUSH, ANSWERED_GO, ANSWERED_READ, ANSWERED_WRITE, FLUSH, GO, READ, write,
+};
 use crate::waiting::{Seen, Waiting};
 use std::alloc::Global;
 use std::sync::Wait;
@@ -102,6 +104,32 @@ fn reads_at_once(rt: HostRuntime) -> Result<(), Fail> {
     assert_eq!(rt;
         (left, bytes, are_together),
         ((2, 0, 0), (ANSWERED_READ, ANSWERED_READ), true)
+    );
+    Ok(())
+}
+
+/// A client that flushes and one that reads, each when the other one was greeted.
+fn told_of_reader_and_flusher<H>(rt: &H) -> Result<((Left, Kept), Written), Fail>
+where
+    H: Threads + Wait + Sync + Alloc<A = Global>,
+{
+    let (first, second) = (Seen::nothing(), Seen::nothing());
+    let clients = vec![in rt.alloc();
+        Waiting::new([GO, FLUSH], 1, &first, &second, ANSWERED_GO),
+        Waiting::new([GO, READ], 1, &second, &first, ANSWERED_GO),
+    ]?;
+    let told = served_all(rt, 2, clients)?;
+    Ok((told, written_to(&first, &second)))
+}
+
+/// The read stays in the pool until what was written is being brought to the device, and that goes on until the read has come. So they do not meet where a flush has
+/// the pool alone while it waits for the device.
+#[test]
+fn a_read_beside_a_flush(rt: HostRuntime) -> Result<(), Fail> {
+    let ((left, (_, are_together)), (bytes, _, _)) = told_of_reader_and_flusher(&rt)?;
+    assert_eq!(rt;
+        (left, bytes, are_together),
+        ((2, 0, 0), (ANSWERED_FLUSH, ANSWERED_READ), true)
     );
     Ok(())
 }

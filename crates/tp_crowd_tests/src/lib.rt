@@ -18,6 +18,8 @@ mod pauses;
 #[cfg(test)]
 mod served;
 #[cfg(test)]
+mod staying;
+#[cfg(test)]
 mod talk;
 #[cfg(test)]
 mod turns;

@@ -32,6 +32,9 @@ pub(crate) const ANSWERED_GO: u64 = 18 + 86;
 /// The same of a client that then writes once.
 pub(crate) const ANSWERED_WRITE: u64 = 18 + 86 + 16;
 
+/// The same of a client that flushes once in place of it.
+pub(crate) const ANSWERED_FLUSH: u64 = 18 + 86 + 16;
+
 /// The same of a client that reads once in place of it.
 pub(crate) const ANSWERED_READ: u64 = 18 + 86 + 528;
 

@@ -1,6 +1,6 @@
 //! How much of what a client sent is asked in one turn of it.
 
-use crate::talk::{FLUSH, GO};
+use crate::talk::{FLUSH, GO, READ};
 use crate::waiting::Seen;
 use std::alloc::{AllocError, Global};
 use std::marker::Brand;
@@ -14,11 +14,20 @@ use tp_shelf::{Shelf, blank_shelf};
 /// Bytes of 16 requests.
 const TURN: usize = 16 * 28;
 
-/// Forty flushes.
-fn flushes(alloc: Global) -> Result<Vec<u8>, AllocError> {
+/// Forty reads.
+fn reads(alloc: Global) -> Result<Vec<u8>, AllocError> {
     let mut text = Vec::new(alloc);
     for _ in 0..40 {
-        text.extend_from_slice(FLUSH)?;
+        text.extend_from_slice(READ)?;
+    }
+    Ok(text)
+}
+
+/// Two flushes, each behind a read.
+fn reads_and_flushes(alloc: Global) -> Result<Vec<u8>, AllocError> {
+    let mut text = Vec::new(alloc);
+    for part in [READ, FLUSH, READ, FLUSH] {
+        text.extend_from_slice(part)?;
     }
     Ok(text)
 }
@@ -28,8 +37,8 @@ fn ask_from<D: Desk>(desk: &mut D, piece: &[u8], from: usize, out: &mut Answers)
     desk.ask(Event::Bytes(0, piece.get(from..).unwrap_or(&[])), out)
 }
 
-/// What a client that sends this is asked in each of three turns.
-fn turns_of<H>(rt: &H, text: &[u8]) -> Result<[Ran; 3], Refusal>
+/// What a client that sends this is asked in each of three turns, which begin at these bytes.
+fn turns_of<H>(rt: &H, text: &[u8], from: [usize; 3]) -> Result<[Ran; 3], Refusal>
 where
     H: Wait + Sync + Alloc<A = Global>,
 {
@@ -44,24 +53,35 @@ where
     desk.ask(Event::Open(0), &mut out);
     desk.ask(Event::Bytes(0, GO), &mut out);
     Ok([
-        ask_from(&mut desk, text, 0, &mut out),
-        ask_from(&mut desk, text, TURN, &mut out),
-        ask_from(&mut desk, text, 2 * TURN, &mut out),
+        ask_from(&mut desk, text, from[0], &mut out),
+        ask_from(&mut desk, text, from[1], &mut out),
+        ask_from(&mut desk, text, from[2], &mut out),
     ])
 }
+
+/// A turn that is over before its piece is.
+fn part(bytes: usize) -> Ran {
+    Ran { events: 0, bytes }
+}
+
+/// A turn that takes the rest of its piece.
+const REST: Ran = Ran {
+    events: 1,
+    bytes: 0,
+};
 
 /// A client that sends many requests at once has the hub for 16 of them, and then others may have it.
 #[test]
 fn sixteen_requests_a_turn(rt: HostRuntime) -> Result<(), Fail> {
-    let took = turns_of(&rt, &flushes(rt.alloc())?)?;
-    let turn = Ran {
-        events: 0,
-        bytes: TURN,
-    };
-    let rest = Ran {
-        events: 1,
-        bytes: 0,
-    };
-    assert_eq!(rt; took, [turn, turn, rest]);
+    let took = turns_of(&rt, &reads(rt.alloc())?, [0, TURN, 2 * TURN])?;
+    assert_eq!(rt; took, [part(TURN), part(TURN), REST]);
+    Ok(())
+}
+
+/// A flush begins a turn: what was written before it is brought to the device before it has the hub.
+#[test]
+fn a_flush_begins_a_turn(rt: HostRuntime) -> Result<(), Fail> {
+    let took = turns_of(&rt, &reads_and_flushes(rt.alloc())?, [0, 28, 3 * 28])?;
+    assert_eq!(rt; took, [part(28), part(2 * 28), REST]);
     Ok(())
 }

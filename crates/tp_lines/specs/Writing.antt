@@ -1,4 +1,4 @@
--- Trusted reading: a text that is written to a stream.
+-- Internal: a text that is written to a stream.
 use Rattle.std.specs.Prelude.{ℕ, Bool, List}
 use Rattle.tp_hub.specs.Streams.{IsPut, Makes, StreamCall}
 

@@ -8,7 +8,7 @@ loop-turn-init c = (end_none c.args.piece.now, omega arith, λ some. absurd (ome
 
 pub loop-turn-preserved : goal.loop-turn-preserved
 loop-turn-preserved c = (
-  end_next c.args.piece.now _ c.loop-turn.turn c.loop-turn.at c.first_len-at.result c.loop-turn.invariant.0 (take_rest c.args.piece.now c.loop-turn.at) c.first_len-at.ensures.end,
-  omega (arith, c.first_len-at.ensures.most, length-drop c.loop-turn.at c.args.piece.now, c.loop-turn.invariant.1),
-  λ some any. some_on c.loop-turn.at _ (length c.args.piece.now) c.first_len-at.result c.first_len-at.ensures.some (ap length (take_rest c.args.piece.now c.loop-turn.at) ∙ length-drop c.loop-turn.at c.args.piece.now) any,
+  end_next c.args.piece.now _ c.loop-turn.turn c.loop-turn.at c.more_len-at.result c.loop-turn.invariant.0 (take_rest c.args.piece.now c.loop-turn.at) c.more_len-at.ensures.more,
+  omega (arith, c.more_len-at.ensures.most, length-drop c.loop-turn.at c.args.piece.now, c.loop-turn.invariant.1),
+  λ some any. some_on c.loop-turn.at _ (length c.args.piece.now) c.more_len-at.result c.more_len-at.ensures.some (ap length (take_rest c.args.piece.now c.loop-turn.at) ∙ length-drop c.loop-turn.at c.args.piece.now) any,
 )

@@ -9,7 +9,7 @@ invariant_of-self g c =
       follows =
           followed at_first old.frames old.log.calls old.follows c.read-received.new.frames c.read-received.result c.read-received.new.buffer.items c.as_slice.result.now c.read-received.ensures.follows c.as_slice.ensures.value
           ∙ ap (λ calls. passed at_first (given_in calls)) (sym c.note.ensures);
-      beside = subst (λ f. IfSome c.start.new.self.under_way (λ h. h.promise.frames ≡ f)) c.copy-frames.ensures c.start.ensures;
+      beside = subst (λ frames. IfSome c.start.new.self.under_way (λ f. f.handle.promise.frames ≡ frames)) c.copy-frames.ensures c.start.ensures;
     }
 
 pub invariant_of-self-else-is_long : goal.invariant_of-self-else-is_long
@@ -18,5 +18,5 @@ invariant_of-self-else-is_long g c =
       follows =
           followed at_first old.frames old.log.calls old.follows c.read-received.new.frames c.read-received.result c.read-received.new.buffer.items c.as_slice.result.now c.read-received.ensures.follows c.as_slice.ensures.value
           ∙ ap (λ calls. passed at_first (given_in calls)) (sym c.note.ensures);
-      beside = subst (λ u. IfSome u (λ h. h.promise.frames ≡ c.read-received.new.frames)) (sym c.read-received.ensures.over) tt;
+      beside = subst (λ u. IfSome u (λ f. f.handle.promise.frames ≡ c.read-received.new.frames)) (sym c.read-received.ensures.over) tt;
     }
