@@ -10,9 +10,9 @@ use Rattle.tp_disk.specs.HandedOut.{IsHandedOut}
 use Rattle.tp_disk.specs.Memory.{mem_state}
 use Rattle.tp_disk.specs.declared.memory.MemDisk.{MemDisk}
 use Rattle.tp_disk.specs.declared.opening.OpenError.{OpenError}
-use Rattle.tp_images.specs.Deeds.{Answers, Closes, Deed, IsLeftBy, left_at}
+use Rattle.tp_images.specs.Deeds.{Answers, AreHonest, Closes, Deed, IsLeftBy, left_at}
 use Rattle.tp_images.specs.Logs.{answer_deed}
-use Rattle.tp_images.specs.Memory.{AreKept, HandsOver, IsHeldFor, IsNew, Puts, found}
+use Rattle.tp_images.specs.Memory.{AreKept, AreShelved, HandsOver, IsHeldFor, IsNew, Puts, found}
 use Rattle.tp_images.specs.declared.shelf.Stored.{Stored}
 use Rattle.tp_images.specs.declared.way.Way.{Way}
 use Rattle.tp_images.specs.declared.way.Way.TheVariants.{ToWrite, ToRead, ToMake}
@@ -88,3 +88,16 @@ kept_given_back name bytes also deeds deeds' old between new disk true kept same
 kept_given_back name bytes also deeds deeds' old between new disk false kept same again e takes puts full =
     subst (λ (l : List Stored). AreKept deeds' l) (sym full) (kept_taken deeds deeds' name old between (subst (λ b. Puts b None old between) same takes) kept
     (λ n closed no left. sym (no_chosen (bytes_eq n name) (Some (mem_state disk)) (left_at n deeds) no) ∙ sym (ap (left_at n) e) ∙ left))
+
+-- ---- and what was handed out is honest
+
+honest_answer : (way : Way) (name : List ℕ) (answer : Result MemDisk OpenError) (deeds : List Deed) → AreHonest deeds → AreHonest (answer_deed way name mem_state answer ∷ deeds)
+honest_answer way name (Ok disk) deeds all = (disk.honest, all)
+honest_answer way name (Err error) deeds all = (tt, all)
+
+pub shelved_answered : (way : Way) (name : List ℕ) (answer : Result MemDisk OpenError) (deeds deeds' : List Deed) (old new : List Stored) → deeds' ≡ answer_deed way name mem_state answer ∷ deeds → AreShelved deeds old
+    → AreKept deeds' new → AreShelved deeds' new
+shelved_answered way name answer deeds deeds' old new e was kept = record { kept = kept; honest = subst AreHonest (sym e) (honest_answer way name answer deeds was.honest) }
+
+pub shelved_closed : (name : List ℕ) (disk : DiskState) (deeds deeds' : List Deed) (old new : List Stored) → deeds' ≡ Closes name disk ∷ deeds → AreShelved deeds old → AreKept deeds' new → AreShelved deeds' new
+shelved_closed name disk deeds deeds' old new e was kept = record { kept = kept; honest = subst AreHonest (sym e) (tt, was.honest) }

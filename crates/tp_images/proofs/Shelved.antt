@@ -11,8 +11,8 @@ use Rattle.tp_disk.specs.Memory.{mem_state}
 use Rattle.tp_disk.specs.Picks.{picked}
 use Rattle.tp_disk.specs.declared.memory.MemDisk.{MemDisk}
 use Rattle.tp_disk.proofs.Picks.{AfterStop-picked}
-use Rattle.tp_images.specs.Deeds.{Closes, Deed, left_at}
-use Rattle.tp_images.specs.Memory.{AreKept, Changes, IsHeldFor, IsNotBefore, IsPlace, Puts, found}
+use Rattle.tp_images.specs.Deeds.{AreHonest, Closes, Deed, left_at}
+use Rattle.tp_images.specs.Memory.{AreKept, AreShelved, Changes, IsHeldFor, IsNotBefore, IsPlace, Puts, found}
 use Rattle.tp_images.specs.declared.shelf.Stored.{Stored}
 
 -- a choice by a test whose value is known
@@ -137,9 +137,12 @@ left_put false here rest closed e at behind = behind refl e
 pub no_disk : {A P : Type 0} (a : A) → None ≡ Some a → P
 no_disk a e = absurd (true≢false (sym (ap is_some e)))
 
-pub kept_new : (deeds : List Deed) (shelf : List Stored) → shelf ≡ [] → AreKept deeds shelf
+kept_new : (deeds : List Deed) (shelf : List Stored) → shelf ≡ [] → AreKept deeds shelf
 unfolding found
 kept_new deeds shelf none name disk closed at left honest = no_disk disk (sym (ap (found name) none) ∙ at)
+
+pub shelved_new : (deeds : List Deed) (shelf : List Stored) → deeds ≡ [] → shelf ≡ [] → AreShelved deeds shelf
+shelved_new deeds shelf none empty = record { kept = kept_new deeds shelf empty; honest = subst AreHonest (sym none) tt }
 
 -- one place is changed
 pub kept_changed : (deeds : List Deed) (name : List ℕ) (shelf : List Stored) (i : ℕ) (d y : Stored) → IsPlace name shelf i → y.name ≡ (slice_index_or shelf i d).name

@@ -1,5 +1,6 @@
 -- Trusted reading: what was asked of images by name and what was answered, and what is done with the image of a name (own).
 use Rattle.std.specs.Prelude.{◌≡◌, IsTrue, List, [], ◌∷◌, ℕ, Option, None, Some, Result, MatchResult, bytes_eq, if◌then◌else◌}
+use Rattle.std.specs.List.{AllByRecursion}
 use Rattle.tp_model.specs.Disk.{DiskState, seen}
 use Rattle.tp_model.specs.DiskStops.{AfterStop}
 use Rattle.tp_disk.specs.HandedOut.{IsHandedOut}
@@ -11,6 +12,16 @@ pub data Deed : Type 0 where
   Opens : (way : Way) (name : List ℕ) (disk : DiskState) → Deed
   Refuses : (way : Way) (name : List ℕ) → Deed
   Closes : (name : List ℕ) (disk : DiskState) → Deed
+
+-- where an image was opened, its disk is honest
+abbrev pub IsHonest : Deed → Type 0
+IsHonest (Opens way name disk) = IsTrue disk.is_honest
+IsHonest (Refuses way name) = Unit {0}
+IsHonest (Closes name disk) = Unit {0}
+
+-- each disk that was handed out is honest
+abbrev pub AreHonest : List Deed → Type 0
+AreHonest deeds = AllByRecursion IsHonest deeds
 
 -- The disk as which the image of a name was closed, where no call may have changed it since. Deeds stand newest first. To make an image may change
 -- what was there, also where it is refused.

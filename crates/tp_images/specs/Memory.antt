@@ -5,7 +5,7 @@ use Rattle.tp_model.specs.Disk.{DiskState, fresh, seen}
 use Rattle.tp_model.specs.DiskStops.{AfterStop, Leaves}
 use Rattle.tp_disk.specs.Memory.{mem_state}
 use Rattle.tp_disk.specs.declared.memory.MemDisk.{MemDisk}
-use Rattle.tp_images.specs.Deeds.{Deed, left_at}
+use Rattle.tp_images.specs.Deeds.{AreHonest, Deed, left_at}
 use Rattle.tp_images.specs.declared.shelf.Stored.{Stored}
 
 -- the disk that stands under a name, in the first place that has the name
@@ -40,6 +40,11 @@ Changes old new = (after : MemDisk) → new ≡ Some after → (before : MemDisk
 -- What stands under a name stands for what was closed by it.
 abbrev pub AreKept : List Deed → List Stored → Type 0
 AreKept deeds shelf = (name : List ℕ) (disk : MemDisk) (closed : DiskState) → found name shelf ≡ Some disk → left_at name deeds ≡ Some closed → IsTrue closed.is_honest → IsHeldFor closed (mem_state disk)
+
+-- What is known of images in memory.
+pub record AreShelved (deeds : List Deed) (shelf : List Stored) : Type 0 where
+  pub kept : AreKept deeds shelf
+  pub honest : AreHonest deeds
 
 -- The disk of a name is handed out as it is when it is opened anew; or there is none. Nothing stands under the name behind it.
 abbrev pub HandsOver : {E : Type 0} → List ℕ → List Stored → List Stored → Result MemDisk E → Type 0

@@ -1,5 +1,6 @@
 //! Images in memory.
 ghost use Rattle.std.specs.Prelude.{◌≡◌, []};
+ghost use Rattle.tp_images.specs.Deeds.{AreHonest};
 ghost use Rattle.tp_images.specs.Memory.{HandsOver, IsNew};
 
 use crate::images::Images;
@@ -27,13 +28,13 @@ pub struct MemImages {
 impl Model for MemImages {
     ghost use Rattle.std.specs.Prelude.{List};
     ghost use Rattle.tp_images.specs.Deeds.{Deed};
-    ghost use Rattle.tp_images.specs.Memory.{AreKept};
+    ghost use Rattle.tp_images.specs.Memory.{AreShelved};
 
     ghost Value = { List Deed };
 
     ghost view = { λ images. images.log.deeds };
 
-    ghost invariant = { λ images. AreKept images.log.deeds images.shelf.items };
+    ghost invariant = { λ images. AreShelved images.log.deeds images.shelf.items };
 }
 
 impl MemImages {
@@ -46,6 +47,13 @@ impl MemImages {
             shelf: Vec::new(alloc),
             log: no_deeds(),
         }
+    }
+
+    /// Each disk that they handed out is honest, whatever became of it since.
+    pub fn are_honest(&self)
+        ensures { AreHonest self.now }
+    {
+        let _ = &self.log;
     }
 
     /// Leaves of an image that is closed what a stop does: of each sector the value that its pick names, as `MemDisk::stop` says. False where there is no such image,

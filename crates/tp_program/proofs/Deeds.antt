@@ -1,5 +1,6 @@
 -- What is done on the disk of an image that is opened and then closed.
-use Rattle.std.proofs.Common.{◌≡◌, ℕ, List, ◌∷◌, ap, ◌∙◌}
+use Rattle.std.proofs.Common.{◌≡◌, ℕ, List, ◌∷◌, Option, Some, None, ap, ◌∙◌}
+use Rattle.std.specs.Prelude.{IfNone}
 use Rattle.tp_model.specs.Disk.{DiskState}
 use Rattle.tp_images.specs.Deeds.{Closes, Deed, HandsOut, OnImage}
 use Rattle.tp_images.specs.declared.way.Way.{Way}
@@ -14,3 +15,8 @@ done_on {name = name} {before = before} {after = after} Does out closed did = re
   lasts = out.lasts;
   does = did;
 }
+
+-- what is known where nothing is told
+pub none_so : {A P Q : Type 0} (o : Option A) → (P → Q) → IfNone o P → IfNone o Q
+none_so None f p = f p
+none_so (Some x) f p = tt

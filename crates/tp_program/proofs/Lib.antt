@@ -9,3 +9,6 @@ mod Playing
 mod Tasks
 mod Formats
 mod Deeds
+mod Accepted
+mod Kept
+mod FirstUser

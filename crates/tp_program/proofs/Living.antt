@@ -62,7 +62,7 @@ record Ended (opened last : Cached Meta) (s : PlainPool) (t : Traced) (answer : 
   pub kept : Keeps answer over after
 
 -- a pool that has not failed has an honest disk
-honest_at : (new : Cached Meta) (s : PlainPool) → IsLine new.cache.line → said.shows new s → is_failed s.mode ≡ false → IsTrue (disk_of new).is_honest
+pub honest_at : (new : Cached Meta) (s : PlainPool) → IsLine new.cache.line → said.shows new s → is_failed s.mode ≡ false → IsTrue (disk_of new).is_honest
 honest_at new s line (inl (now, kept, pool)) works = let twin = line.twin in twin.is_honest ∙ pool.standing.honest
 honest_at new s line (inr failed) works = absurd (false≢true (sym works ∙ ap is_failed failed.mode_is))
 

@@ -8,7 +8,7 @@ use Rattle.tp_lines.specs.Pipes.{IsPiped}
 use Rattle.tp_words.specs.CommandLine.{AskFor, IsScript, Text}
 use Rattle.tp_words.specs.declared.task.Asked.{Asked}
 use Rattle.tp_words.specs.declared.task.Task.{Task}
-use Rattle.tp_words.specs.declared.task.Task.TheVariants.{Format, Message, Status, Check, Feed, Serve, Play}
+use Rattle.tp_words.specs.declared.task.Task.TheVariants.{Format, Message, Status, Check, Feed, Serve, Play, Run, Ask}
 use Rattle.tp_program.specs.declared.failure.Failure.{Failure}
 use Rattle.tp_program.specs.declared.scripts.Unplayed.{Unplayed}
 use Rattle.tp_program.specs.Scripts.{IsBadLine}
@@ -39,6 +39,8 @@ module _ (asks : Bool) (old new : List Deed) (left left' told told' : Option (Li
   does_streamed (Feed image) none done = done
   does_streamed (Serve image address clients control) none done = done
   does_streamed (Play image script) none done = absurd (none tt)
+  does_streamed (Run image places control) none done = done
+  does_streamed (Ask place lines) none done = done
 
   -- only a script has a bad line
   pub bad_line_is_script : (task : Task) → Does asks task old new left left' told told' result → IfErr result (λ why. IsBadLine why → IsScript task)
@@ -49,6 +51,8 @@ module _ (asks : Bool) (old new : List Deed) (left left' told told' : Option (Li
   bad_line_is_script (Feed image) done = plain_is_good result done.2.0 done.2.1
   bad_line_is_script (Serve image address clients control) done = plain_is_good result done.2.1.0 done.2.1.1
   bad_line_is_script (Play image script) done = script_may result
+  bad_line_is_script (Run image places control) done = plain_is_good result done.2.1.0 done.2.1.1
+  bad_line_is_script (Ask place lines) done = plain_is_good result done.2.1.0 done.2.1.1
 
   pub ended : (words : List Text) (asked : Asked) → AskFor words asked → Does asks asked.task old new left left' told told' result → EndsBy words (status_after result)
   ended words asked names done = ends_so words asked result names (bad_line_is_script asked.task done)

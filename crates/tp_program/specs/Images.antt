@@ -1,10 +1,10 @@
 -- Trusted reading: what the commands on an image do to its disk or find of it, and what they print (own).
-use Rattle.std.specs.Prelude.{◌≡◌, ◌≢◌, ◌⊎◌, ℕ, IsTrue, List, ◌++◌, ◌∷◌, not, Option, Result, Ok, Err, IfErr, MatchResult, OnOk, codes}
+use Rattle.std.specs.Prelude.{◌≡◌, ◌≢◌, ◌⊎◌, ℕ, IsTrue, List, ◌++◌, ◌∷◌, false, not, Option, Result, Ok, Err, IfErr, MatchResult, OnOk, codes}
 use Rattle.tp_model.specs.declared.refusal.Refusal.{Refusal}
 use Rattle.tp_model.specs.declared.refusal.Refusal.TheVariants.{BadGeometry, Fault, Memory}
 use Rattle.tp_model.specs.Geometry.{Geometry, IsWithinLimits, sectors_of_image}
 use Rattle.tp_model.specs.Pool.{PlainPool}
-use Rattle.tp_model.specs.Calls.{Status}
+use Rattle.tp_model.specs.Calls.{Status, is_failed}
 use Rattle.tp_model.specs.Clauses.{IsOpened}
 use Rattle.tp_model.specs.Refusals.{is_fault as has_failed}
 use Rattle.tp_model.specs.Disk.{DiskState, FaultHasCause, IsSameDisk, IsSettled, after_read, seen}
@@ -38,11 +38,16 @@ OnName way name old new calls calls' result Does =
 
 -- ---- the pool on a disk
 
+-- The disk of a pool that is let go as it is. It is honest still, unless the pool has failed.
+pub record IsLetGo (last : Cached Meta) (after : DiskState) : Type 0 where
+  pub disk_is : after ≡ disk_of last
+  pub honest : (s : PlainPool) → shows geometry_of StandsFor (on_cache last) s → is_failed s.mode ≡ false → IsTrue after.is_honest
+
 -- The pool of a disk was opened, this was done to it, and the disk is as that left it; or the pool was not opened, and nothing was printed.
 abbrev pub OnPool : (Cached Meta → Cached Meta → Type 0) → List StreamCall → List StreamCall → Result (Unit {0}) Refusal → DiskState → DiskState → Type 0
 OnPool Does calls calls' result before after =
     ((reason : Refusal) × (result ≡ Err reason) × IsRefusedOn before after reason × (calls' ≡ calls))
-    ⊎ ((old : Cached Meta) × (new : Cached Meta) × IsOpenedOn before old × Does old new × (after ≡ disk_of new))
+    ⊎ ((old : Cached Meta) × (new : Cached Meta) × IsOpenedOn before old × Does old new × IsLetGo new after)
 
 abbrev pub TellsOn : Option ℕ → List StreamCall → List StreamCall → Result (Unit {0}) Refusal → DiskState → DiskState → Type 0
 TellsOn id calls calls' result before after =
@@ -77,7 +82,7 @@ FormatsOn g calls calls' result before after =
     ((before.size ≡ sectors_of_image g) × (reason : Refusal) × (result ≡ Err reason) × ((reason ≡ Fault) ⊎ (reason ≡ Memory)) × (reason ≢ Fault → after ≡ before)
     × IsSameDisk before after × (calls' ≡ calls))
     ⊎ ((before.size ≡ sectors_of_image g) × (made : Cached Meta) × (last : Cached Meta) × IsMadeOn g before made
-    × PrintsCall (cached geometry_of StandsFor marks_of room_of changed_of) made last Status calls calls' result × (after ≡ disk_of last))
+    × PrintsCall (cached geometry_of StandsFor marks_of room_of changed_of) made last Status calls calls' result × IsLetGo last after)
 
 -- Sizes that are out of their limits are refused before any image is asked for.
 abbrev pub IsFormatted : List ℕ → Sizes → List Deed → List Deed → List StreamCall → List StreamCall → Result (Unit {0}) Refusal → Type 0

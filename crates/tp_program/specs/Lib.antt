@@ -9,4 +9,6 @@ pub mod Printing
 pub mod Scripts
 pub mod Serving
 pub mod Statuses
+pub mod Staying
 pub mod Tasks
+pub mod Users

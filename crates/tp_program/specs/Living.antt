@@ -1,5 +1,5 @@
 -- Internal: the life of a pool that is open, before it is known of which plain pools it is one (own).
-use Rattle.std.specs.Prelude.{◌≡◌, ◌⊎◌, ℕ, ◌≤◌, List, [], Option, Some, None, Result}
+use Rattle.std.specs.Prelude.{◌≡◌, ◌⊎◌, ℕ, ◌≤◌, Bool, List, [], Option, Some, None, Result}
 use Rattle.tp_model.specs.declared.refusal.Refusal.{Refusal}
 use Rattle.tp_model.specs.declared.refusal.Refusal.TheVariants.{Failed, Fault}
 use Rattle.tp_model.specs.Pool.{PlainPool}
@@ -19,6 +19,7 @@ use Rattle.tp_hub.specs.Streams.{StreamCall}
 use Rattle.tp_hub.specs.declared.client.Carried.{Carried}
 use Rattle.tp_program.specs.Lives.{HandsBack, IsLife, IsPlainLife, closing_of}
 use Rattle.tp_program.specs.Serving.{IsFed, told_behind, told_of, told_of_clients}
+use Rattle.tp_program.specs.Staying.{told_of_threads}
 
 -- It shows this pool, and a stop leaves nothing else.
 pub record IsJust {D : Type 0} (view : View D) (pool : D) (s : PlainPool) : Type 0 where
@@ -58,3 +59,9 @@ abbrev pub ServesPool : Cached Meta → ℕ → Result (Unit {0}) Refusal → Di
 ServesPool opened wanted result after =
     (asks : List Exchange) × (came : ℕ) × (refused : ℕ) × (closing : Result (Unit {0}) Refusal) × (came ≤ wanted) × (refused ≤ came)
     × (result ≡ told_behind closing (told_of_clients wanted came refused)) × IsLived opened asks (Some (closing_of closing)) after
+
+-- The same of clients without end.
+abbrev pub StaysPool : Cached Meta → Result (Unit {0}) Refusal → DiskState → Type 0
+StaysPool opened result after =
+    (asks : List Exchange) × (manned : Bool) × (closing : Result (Unit {0}) Refusal)
+    × (result ≡ told_behind closing (told_of_threads manned)) × IsLived opened asks (Some (closing_of closing)) after

@@ -14,7 +14,7 @@ use Rattle.tp_words.specs.declared.task.Image.{Image}
 use Rattle.tp_words.specs.declared.task.Image.TheVariants as kept
 use Rattle.tp_words.specs.declared.task.Sizes.{Sizes}
 use Rattle.tp_words.specs.declared.task.Task.{Task}
-use Rattle.tp_words.specs.declared.task.Task.TheVariants.{Format, Message, Status, Check, Feed, Serve, Play}
+use Rattle.tp_words.specs.declared.task.Task.TheVariants.{Format, Message, Status, Check, Feed, Serve, Play, Run, Ask}
 use Rattle.tp_program.specs.declared.failure.Failure.{Failure}
 use Rattle.tp_program.specs.declared.programs.Status as ends
 use Rattle.tp_program.specs.declared.programs.Status.TheVariants as ending
@@ -25,6 +25,7 @@ use Rattle.tp_program.specs.Images.{FormatsOn, IsChecked, IsCleared, IsFormatted
 use Rattle.tp_program.specs.Scripts.{PlaysFirst, PlaysImage}
 use Rattle.tp_program.specs.Serving.{FeedsFirst, FeedsImage, ServesImage}
 use Rattle.tp_program.specs.Statuses.{status_after}
+use Rattle.tp_program.specs.Staying.{StaysImage}
 
 -- ---- a status
 
@@ -43,16 +44,24 @@ LooksInto name old new = NotOpened ToRead name old new ⊎ OnImage ToRead name o
 abbrev pub SaysYes : List ℕ → Type 0
 SaysYes line = (line ≡ codes "yes\n") ⊎ (line ≡ codes "yes") ⊎ (line ≡ codes "yes\r\n")
 
--- Whoever was asked said yes in the one line that was read; or nobody was asked.
-abbrev pub IsAgreed : List StreamCall → Type 0
-IsAgreed did = (did ≡ []) ⊎ ((line : List ℕ) × (did ≡ Gave line ∷ []) × SaysYes line)
+-- Nothing was seen that can be lost: the image was refused, as one that is not there is, or its disk had no sector.
+abbrev pub SeesNothing : List ℕ → List Deed → List Deed → Type 0
+SeesNothing name old new = NotOpened ToRead name old new ⊎ OnImage ToRead name old new (λ before after. (moment after ≡ moment before) × (before.size ≡ 0))
+
+-- Who was asked said yes in the one line that was read.
+abbrev pub SaidYes : List StreamCall → Type 0
+SaidYes did = (line : List ℕ) × (did ≡ Gave line ∷ []) × SaysYes line
+
+-- What stands under a name may be destroyed: it was looked at, and who was asked said yes. Nobody was asked where there is nothing to lose, and nowhere else.
+abbrev pub MayDestroy : List ℕ → List Deed → List Deed → List StreamCall → List StreamCall → Type 0
+MayDestroy name old new calls calls' = (SeesNothing name old new × (calls' ≡ calls)) ⊎ (LooksInto name old new × Makes calls calls' SaidYes)
 
 -- Where one asks: sizes that are out of their limits are refused first, and then the image is looked at. That ends it, where who is asked does not say yes; else the pool is made.
 abbrev pub FormatsAsked : List ℕ → Sizes → List Deed → List Deed → List StreamCall → List StreamCall → Result (Unit {0}) Refusal → Type 0
 FormatsAsked name sizes old new calls calls' result =
     ((IsWithinLimits (sizes_asked sizes) → ⊥) × (result ≡ Err BadGeometry) × (new ≡ old) × (calls' ≡ calls))
     ⊎ ((result ≡ Err Exists) × LooksInto name old new)
-    ⊎ ((between : List Deed) × (read : List StreamCall) × LooksInto name old between × Makes calls read IsAgreed × IsFormatted name sizes between new read calls' result)
+    ⊎ ((between : List Deed) × (read : List StreamCall) × MayDestroy name old between calls read × IsFormatted name sizes between new read calls' result)
 
 -- ---- a task
 
@@ -85,6 +94,8 @@ DoesOn asks (Check image clears) old new calls calls' result =
 DoesOn asks (Feed image) old new calls calls' result = Plainly result (Feeds image old new calls calls')
 DoesOn asks (Serve image address clients control) old new calls calls' result = (calls' ≡ calls) × Plainly result (ServesImage image.now clients old new)
 DoesOn asks (Play image script) old new calls calls' result = ⊥
+DoesOn asks (Run image places control) old new calls calls' result = (calls' ≡ calls) × Plainly result (StaysImage image.now old new)
+DoesOn asks (Ask place lines) old new calls calls' result = (new ≡ old) × Plainly result (λ r. Unit {0})
 
 -- The script was not opened, which is a fault, and nothing was done; or its lines were read from it, and their answers written to the output.
 abbrev pub PlaysFile : Image → List Deed → List Deed → Option (List ℕ) → Option (List ℕ) → Result (Unit {0}) Unplayed → Type 0

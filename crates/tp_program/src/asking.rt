@@ -1,11 +1,11 @@
 //! Who types `format` is asked before an image is destroyed.
 
-ghost use Rattle.std.specs.Prelude.{◌≡◌, IfOk, IsTrue, length};
+ghost use Rattle.std.specs.Prelude.{◌≡◌, IfNone, IfOk, IsTrue, length};
 ghost use Rattle.tp_model.specs.DiskStops.{moment};
 ghost use Rattle.tp_disk.specs.HandedOut.{IsHandedOut};
 ghost use Rattle.tp_hub.specs.Streams.{Makes};
 ghost use Rattle.tp_served.specs.Served.{disk_of};
-ghost use Rattle.tp_program.specs.Tasks.{IsAgreed, LooksInto, SaysYes};
+ghost use Rattle.tp_program.specs.Tasks.{LooksInto, MayDestroy, SaidYes, SaysYes, SeesNothing};
 
 use crate::opening::open_pool;
 use std::alloc::{AllocError, Global};
@@ -17,6 +17,8 @@ use tp_images::Images;
 use tp_meta::Meta;
 use tp_model::DevId;
 use tp_served::Served;
+
+const SECTOR: u64 = 512;
 
 /// The most bytes of an answer that are looked at.
 const ANSWER: usize = 16;
@@ -65,31 +67,40 @@ fn count_on<D: Disk + TellsTrouble + Drop>(alloc: Global, disk: D) -> (D, Option
     }
 }
 
-/// The bytes of an image that has some.
-fn bytes_of<I: Images>(images: &I, name: &str) -> Option<Held> {
-    match images.length(name) {
-        Some(length) if length > 0 => Some(Held::Bytes(length)),
-        _ => None,
+/// The bytes of an image that has some: as many as its name tells, and no fewer than its disk had.
+fn bytes_of<I: Images>(images: &I, name: &str, sectors: u64) -> Option<Held>
+    ensures { IfNone result (sectors ≡ 0) }
+{
+    let told = images.length(name).unwrap_or(0);
+    let bytes = told.max(SECTOR.saturating_mul(sectors));
+    if bytes > 0 {
+        Some(Held::Bytes(bytes))
+    } else {
+        None
     }
 }
 
-/// The volumes of an image whose pool has so many, or else its bytes.
-fn held_of<I: Images>(images: &I, name: &str, count: Option<u64>) -> Option<Held> {
+/// The volumes of an image whose pool has so many, or else its bytes. Nothing where its disk had no sector.
+fn held_of<I: Images>(images: &I, name: &str, count: Option<u64>, sectors: u64) -> Option<Held>
+    ensures { IfNone result (sectors ≡ 0) }
+{
     match count {
         Some(count) => Some(Held::Pool(count)),
-        None => bytes_of(images, name),
+        None => bytes_of(images, name, sectors),
     }
 }
 
 /// What an image holds that a format would destroy. Nothing where it is absent or empty, and where it would be refused, as one in use.
 fn look_into<I: Images>(images: &mut I, alloc: Global, name: &str) -> Option<Held>
-    ensures { LooksInto name.now (I.deeds images.old) (I.deeds images.new) }
+    ensures looks { LooksInto name.now (I.deeds images.old) (I.deeds images.new) }
+    ensures nothing { IfNone result (SeesNothing name.now (I.deeds images.old) (I.deeds images.new)) }
 {
     match images.open_to_read(name) {
         Ok(disk) => {
+            let sectors = disk.sectors();
             let (disk, count) = count_on(alloc, disk);
             images.close(name, disk);
-            held_of(images, name, count)
+            held_of(images, name, count, sectors)
         }
         Err(_) => None,
     }
@@ -111,7 +122,7 @@ fn zeroes(alloc: Global, len: usize) -> Result<Vec<u8>, AllocError>
 
 /// Whether a terminal's next line, which one read gives, is `yes`.
 fn says_yes<S: Stream>(alloc: Global, stream: &mut S) -> bool
-    ensures { IsTrue result → Makes (S.calls stream.old) (S.calls stream.new) IsAgreed }
+    ensures { IsTrue result → Makes (S.calls stream.old) (S.calls stream.new) SaidYes }
 {
     let Ok(mut line) = zeroes(alloc, ANSWER) else {
         return false;
@@ -156,7 +167,7 @@ pub(crate) fn may_destroy<I: Images, S: Stream, E: Write>(
     errors: &mut E,
 ) -> bool
     ensures looks { LooksInto name.now (I.deeds images.old) (I.deeds images.new) }
-    ensures agreed { IsTrue result → Makes (S.calls stream.old) (S.calls stream.new) IsAgreed }
+    ensures agreed { IsTrue result → MayDestroy name.now (I.deeds images.old) (I.deeds images.new) (S.calls stream.old) (S.calls stream.new) }
 {
     match look_into(images, alloc, name) {
         None => true,

@@ -37,9 +37,9 @@ struct Listeners {
 
 /// Where it is told that the pool has failed while clients are served.
 #[derive(Drop)]
-struct Errors<'m, R: Wait, E: Write> {
-    rt: &'m R,
-    writer: Mutex<&'m mut E>,
+pub(crate) struct Errors<'m, R: Wait, E: Write> {
+    pub(crate) rt: &'m R,
+    pub(crate) writer: Mutex<&'m mut E>,
 }
 
 impl<'m, R: Wait, E: Write> Alarm for Errors<'m, R, E> {

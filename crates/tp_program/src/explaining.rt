@@ -26,7 +26,9 @@ fn image_of<'a>(task: &Task<'a>) -> &'a str {
         | Task::Message { image, .. }
         | Task::Status { image, .. }
         | Task::Check { image, .. }
-        | Task::Serve { image, .. } => image,
+        | Task::Serve { image, .. }
+        | Task::Run { image, .. } => image,
+        Task::Ask { place, .. } => place,
         Task::Feed { image } | Task::Play { image, .. } => match image {
             Image::Memory => "mem:",
             Image::File(path) => path,
@@ -50,8 +52,29 @@ fn addresses_of<'a>(task: &Task<'a>) -> (&'a str, &'a str) {
             control,
             ..
         } => (address, control.unwrap_or("")),
+        Task::Ask { place, .. } => (place, ""),
         _ => ("", ""),
     }
+}
+
+/// The place of this number of a task, or nothing.
+fn place_of<'a>(task: &Task<'a>, number: u8) -> &'a str {
+    let Task::Run {
+        places,
+        control,
+        ..
+    } = *task
+    else {
+        return "";
+    };
+    let place = match number {
+        0 => Some(places.first),
+        1 => places.second,
+        2 => places.third,
+        3 => places.fourth,
+        _ => control,
+    };
+    place.unwrap_or("")
 }
 
 impl Display for Explanation<'_> {
@@ -82,6 +105,15 @@ impl Display for Explanation<'_> {
                 f,
                 "{count} clients were refused memory or a thread"
             ),
+            Cause::Place(number, error) => {
+                explain_address(place_of(&self.task, number), &error, f)
+            }
+            Cause::Threads => f.write_str(
+                "the system has no thread for each of 64 clients; the pool was closed",
+            ),
+            Cause::Reach(error) => write!(f, "{address} cannot be reached: {error}"),
+            Cause::Answered => f.write_str("the server refused a line"),
+            Cause::Unanswered(count) => write!(f, "the server has gone: it answered {count} lines"),
             Cause::Output => f.write_str(
                 "what is to be told cannot be written: the output is closed, or its disk is full; what was done is done",
             ),

@@ -35,6 +35,16 @@ pub enum Cause {
     Accept(u8),
     /// So many clients were refused memory or a thread.
     TurnedAway(u64),
+    /// The place of this number among those of a task is not listened at: 0 to 3 of clients, 4 of control lines.
+    Place(u8, io::Error),
+    /// A thread for clients or for control lines could not be made.
+    Threads,
+    /// The place of a server cannot be reached, or its connection broke.
+    Reach(io::Error),
+    /// A line was refused.
+    Answered,
+    /// So many lines alone were answered.
+    Unanswered(u64),
     /// What is told cannot be written.
     Output,
     /// Who was asked did not say yes.

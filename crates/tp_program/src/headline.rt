@@ -1,12 +1,15 @@
-//! The headline, for the pool that is stored on a disk, and for the one on caches that the program uses.
+//! The headline, for the pool that is stored on a disk, and for the one on caches that the program uses; and what joins one call of the program to the next.
 
-ghost use Rattle.std.specs.Prelude.{◌≡◌, List, [], Option};
+ghost use Rattle.std.specs.Prelude.{◌≡◌, ◌≢◌, ◌⊎◌, Err, List, [], Ok, Option, Result, ℕ};
 ghost use Rattle.tp_model.specs.Sectors.{Sector};
 ghost use Rattle.tp_model.specs.Pool.{PlainPool};
-ghost use Rattle.tp_model.specs.Calls.{Answer};
+ghost use Rattle.tp_model.specs.Calls.{Answer, Status};
 ghost use Rattle.tp_model.specs.PoolStops.{MayBeLeftSince, reopened};
 ghost use Rattle.tp_model.specs.Clauses.{events_of};
 ghost use Rattle.tp_model.specs.Disk.{DiskState, seen};
+ghost use Rattle.tp_msg.specs.Messages.{reading};
+ghost use Rattle.tp_msg.specs.declared.message.Message.{Message};
+ghost use Rattle.tp_image.specs.Fresh.{empty_pool};
 ghost use Rattle.tp_image.specs.Stands.{StandsFor};
 ghost use Rattle.tp_pool.specs.Flushes.{served};
 ghost use Rattle.tp_pool.specs.Held.{Held, IsSomePool};
@@ -14,12 +17,25 @@ ghost use Rattle.tp_served.specs.Served.{Cached, cached};
 ghost use Rattle.nbd_session.specs.Turns.{AreLives, AreRuns, Life};
 ghost use Rattle.tp_hub.specs.Serving.{Slots};
 ghost use Rattle.tp_hub.specs.Desks.{Exchange};
-ghost use Rattle.tp_images.specs.Deeds.{IsLeftBy};
+ghost use Rattle.tp_hub.specs.Runs.{call_of};
+ghost use Rattle.tp_hub.specs.Streams.{Makes, StreamCall};
+ghost use Rattle.tp_hub.specs.declared.client.Carried.{Carried};
+ghost use Rattle.tp_images.specs.Deeds.{Deed, IsLeftBy};
+ghost use Rattle.tp_lines.specs.Plays.{PlaysScript};
+ghost use Rattle.tp_lines.specs.declared.play.Stopped.{Stopped};
+ghost use Rattle.tp_words.specs.declared.task.Sizes.{Sizes};
+ghost use Rattle.tp_program.specs.Images.{IsFormatted, IsMessageGiven, IsStatusTold, sizes_asked};
 ghost use Rattle.tp_program.specs.Lives.{IsFoundAs, IsKept, IsPlainLife};
+ghost use Rattle.tp_program.specs.Printing.{status_call};
+ghost use Rattle.tp_program.specs.Scripts.{PlaysImage};
+ghost use Rattle.tp_program.specs.Serving.{FeedsImage, IsFed, ServesImage};
+ghost use Rattle.tp_program.specs.Users.{IsAccepted, IsLivedOn, IsMadeHonest, IsTurnedDown, IsUnread, KeepsPool};
 
 use nbd_session::lives_are_runs;
 use tp_disk::Disk;
+use tp_image::fresh_image_stands_for_the_empty_pool;
 use tp_meta::Metadata;
+use tp_model::Refusal;
 use tp_pool::Pool;
 use tp_served::Served;
 
@@ -59,3 +75,33 @@ pub fn images_go_on()
     // Where closing was done, as the pool at its end and no other.
     ensures kept { (s : PlainPool) (shut disk : DiskState) → IsKept s shut → IsLeftBy shut disk → IsFoundAs (λ P. P ≡ reopened s) (seen disk.cells) }
 {}
+
+/// From one command of the program on an image to the next: the plain pool for which the image stands. Between two of them the image may be stopped in any way, as
+/// often as one likes: it stands for that pool then, too.
+pub fn commands_go_on()
+    // An image that was made as an honest disk stands for the pool without volumes, whose line is told.
+    ensures made { (name : List ℕ) (sizes : Sizes) (old new : List Deed) (calls calls' : List StreamCall) → IsMadeHonest name old new
+        → IsFormatted name sizes old new calls calls' (Ok (tt {0})) → IsAccepted name new (empty_pool (sizes_asked sizes)) Status calls calls' }
+    // A message that was accepted is that of its line, which no test of the plain pool refuses, and the image stands for the pool that it makes.
+    ensures given { (name line : List ℕ) (old new : List Deed) (calls calls' : List StreamCall) (s : PlainPool) → KeepsPool name old s
+        → IsMessageGiven name line old new calls calls' (Ok (tt {0})) → (m : Message) × (reading line ≡ Ok m) × IsAccepted name new s (call_of m) calls calls' }
+    // A status that was told is that of the plain pool.
+    ensures told { (name : List ℕ) (id : Option ℕ) (old new : List Deed) (calls calls' : List StreamCall) (s : PlainPool) → KeepsPool name old s
+        → IsStatusTold name id old new calls calls' (Ok (tt {0})) → IsAccepted name new s (status_call id) calls calls' }
+    // One that is refused, but for a fault or want of memory, is refused by that very test of the plain pool, or since its line is none.
+    ensures ungiven { (name line : List ℕ) (reason : Refusal) (old new : List Deed) (calls calls' : List StreamCall) (s : PlainPool) → KeepsPool name old s
+        → reason ≢ Refusal.Fault → reason ≢ Refusal.Memory → IsMessageGiven name line old new calls calls' (Err reason)
+        → IsUnread name line new s reason calls calls' ⊎ ((m : Message) × (reading line ≡ Ok m) × IsTurnedDown name new s (call_of m) reason calls calls') }
+    ensures untold { (name : List ℕ) (id : Option ℕ) (reason : Refusal) (old new : List Deed) (calls calls' : List StreamCall) (s : PlainPool) → KeepsPool name old s
+        → reason ≢ Refusal.Fault → reason ≢ Refusal.Memory → IsStatusTold name id old new calls calls' (Err reason) → IsTurnedDown name new s (status_call id) reason calls calls' }
+    // One client, the events of a script, and clients at once: each time it is a life of the plain pool, and the image stands for the pool at its end.
+    ensures fed { (name : List ℕ) (old new : List Deed) (calls calls' : List StreamCall) (s : PlainPool) → KeepsPool name old s
+        → FeedsImage name old new calls calls' (Ok (tt {0})) → (asks : List Exchange) × (ending : Carried) × IsFed asks calls calls' ending × IsLivedOn name new s asks }
+    ensures played { (name : List ℕ) (old new : List Deed) (calls calls' : List StreamCall) (s : PlainPool) → KeepsPool name old s
+        → PlaysImage name old new calls calls' (Ok (tt {0})) → (asks : List Exchange) × (played : ℕ) × (ended : Result (Unit {0}) Stopped)
+        × Makes calls calls' (λ did. PlaysScript asks did played ended) × IsLivedOn name new s asks }
+    ensures served { (name : List ℕ) (wanted : ℕ) (old new : List Deed) (s : PlainPool) → KeepsPool name old s
+        → ServesImage name wanted old new (Ok (tt {0})) → (asks : List Exchange) × IsLivedOn name new s asks }
+{
+    fresh_image_stands_for_the_empty_pool();
+}

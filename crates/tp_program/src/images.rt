@@ -4,9 +4,8 @@ ghost use Rattle.std.specs.Prelude.{◌≡◌, ◌↔◌, ◌≤◌, IfErr, IfOk
 ghost use Rattle.tp_model.specs.Geometry.{IsWithinLimits, sectors_of_image};
 ghost use Rattle.tp_disk.specs.HandedOut.{IsHandedOut};
 ghost use Rattle.tp_images.specs.declared.way.Way.TheVariants.{ToMake};
-ghost use Rattle.tp_served.specs.Served.{disk_of};
 ghost use Rattle.tp_program.specs.Failures.{number_of};
-ghost use Rattle.tp_program.specs.Images.{FormatsOn, GivesOn, IsChecked, IsCleared, IsFormatted, IsMessageGiven, IsStatusTold, OnName, PrintsCheck, PrintsCleared, TellsOn, sizes_asked};
+ghost use Rattle.tp_program.specs.Images.{FormatsOn, GivesOn, IsChecked, IsCleared, IsFormatted, IsLetGo, IsMessageGiven, IsStatusTold, OnName, PrintsCheck, PrintsCleared, TellsOn, sizes_asked};
 
 use crate::caches::ROOM;
 use crate::clearing::tell_cleared;
@@ -28,9 +27,10 @@ fn hand_back<D: Disk + TellsTrouble + Drop>(
     pool: Served<ReadCache<D>, Meta>,
     told: Result<(), Refusal>,
 ) -> (D, Result<(), Failure>)
-    ensures disk { D.state result.0 ≡ disk_of pool }
+    ensures disk { IsLetGo pool (D.state result.0) }
     ensures told { number_of result.1 ≡ told }
 {
+    pool.facts();
     let disk = pool.into_disk();
     let told = because(&disk, told);
     (disk, told)

@@ -3,6 +3,7 @@
 //! [`program`] does it, over images, a reader and two writers that its caller gives. `thinpool` is that with the system's words, streams and files.
 #![tactic(auto)]
 
+mod asker;
 mod asking;
 mod caches;
 mod clearing;
@@ -15,11 +16,14 @@ mod fresh;
 pub mod headline;
 mod images;
 mod opening;
+mod places;
 mod programs;
+mod running;
 mod scripts;
 mod streams;
 mod table;
 mod telling;
+pub mod users;
 
 pub use programs::{Status, program, without_streams, without_words};
 pub use streams::{Stand, Terminals, stand_in};

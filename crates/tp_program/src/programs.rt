@@ -10,6 +10,7 @@ ghost use Rattle.tp_program.specs.Images.{IsChecked, IsCleared, IsFormatted};
 ghost use Rattle.tp_program.specs.Statuses.{EndsBy, status_after, status_code, status_of, status_without};
 ghost use Rattle.tp_program.specs.Tasks.{AsksStatus, Does, DoesOn, Feeds, FormatsAsked, Performs, Plays, PlaysFile, plain_of};
 
+use crate::asker::ask_place;
 use crate::asking::may_destroy;
 use crate::clients::serve_image;
 use crate::explaining::Explanation;
@@ -19,6 +20,7 @@ use crate::images::{
     check_image, clear_image, format_image, geometry_of, message_to_image, status_of_image,
     volume_asked,
 };
+use crate::running::run_image;
 use crate::scripts::{Unplayed, play_fresh, play_image};
 use crate::streams::Terminals;
 use std::alloc::Global;
@@ -366,7 +368,12 @@ fn perform_on<F, I: Images, S: Stream, E>(
     errors: &mut E,
 ) -> Result<(), Unplayed>
 where
-    F: Net<Listener = TcpListener, Stream = TcpStream> + Threads + Wait + Clock + Sync,
+    F: Files<File = File>
+        + Net<Listener = TcpListener, Stream = TcpStream>
+        + Threads
+        + Wait
+        + Clock
+        + Sync,
     E: Write + Send,
     requires { IsScript task → ⊥ }
     ensures { DoesOn asks task.entry (I.deeds images.old) (I.deeds images.new) (S.calls stream.old) (S.calls stream.new) result }
@@ -389,6 +396,12 @@ where
         } => plain(serve_image(
             system, images, alloc, image, address, clients, control, errors,
         )),
+        Task::Run {
+            image,
+            places,
+            control,
+        } => plain(run_image(system, images, alloc, image, &places, control, errors)),
+        Task::Ask { place, lines } => plain(ask_place(system, place, &lines, stream)),
         Task::Play { .. } => Err(Unplayed::Refused(Failure::fault(Cause::Output))),
     }
 }
@@ -404,7 +417,12 @@ fn perform_since<'a, F, I: Images, R: Read, W: Write, E, K: Begins>(
     errors: &mut E,
 ) -> (Ends<'a, R, W>, Result<(), Unplayed>)
 where
-    F: Net<Listener = TcpListener, Stream = TcpStream> + Threads + Wait + Clock + Sync,
+    F: Files<File = File>
+        + Net<Listener = TcpListener, Stream = TcpStream>
+        + Threads
+        + Wait
+        + Clock
+        + Sync,
     E: Write + Send,
     requires no_script { IsScript task → ⊥ }
     requires begins { K.opening ≡ record { reader = ends.input.ghost_name; writer = ends.output.ghost_name; left = R.remaining ends.input.now; told = W.contents ends.output.now } }
@@ -429,7 +447,12 @@ fn perform_piped<F, I: Images, R: Read, W: Write, E>(
     errors: &mut E,
 ) -> Result<(), Unplayed>
 where
-    F: Net<Listener = TcpListener, Stream = TcpStream> + Threads + Wait + Clock + Sync,
+    F: Files<File = File>
+        + Net<Listener = TcpListener, Stream = TcpStream>
+        + Threads
+        + Wait
+        + Clock
+        + Sync,
     E: Write + Send,
     requires { IsScript task → ⊥ }
     ensures { (did : List StreamCall) × IsPiped (R.remaining input.old) (R.remaining input.new) (W.contents output.old) (W.contents output.new) did

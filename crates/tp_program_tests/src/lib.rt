@@ -22,6 +22,8 @@ mod parts;
 #[cfg(test)]
 mod play_tests;
 #[cfg(test)]
+mod run_tests;
+#[cfg(test)]
 mod serve_tests;
 #[cfg(test)]
 mod servers;

@@ -3,8 +3,9 @@ use Rattle.std.proofs.Common.{◌≡◌, ◌≤◌, ℕ, List, Option, Some, Non
 use Rattle.std.specs.Prelude.{MatchOption, codes, option_map}
 use Rattle.std.specs.Borrow.{Bor}
 use Rattle.std.specs.Str.Parse.{digits_value, without_leading_plus}
-use Rattle.clap.specs.Words.{Row, Text, first_of}
-use Rattle.tp_words.specs.CommandLine.{HasClients, HasNumber, HasText, IsNumber, LacksClients, LacksNumber, LacksText}
+use Rattle.clap.specs.Words.{Row, Text, all_of, first_of}
+use Rattle.tp_words.specs.declared.task.Texts.{Texts}
+use Rattle.tp_words.specs.CommandLine.{HasClients, HasNumber, HasText, HasTexts, IsNumber, LacksClients, LacksNumber, LacksText, LacksTexts, texts_in}
 
 -- a text is read exactly where there is one
 pub text_read : (id : Text) (rows : List Row) (r : Option (Bor Text)) → option_map (λ s. s.now) r ≡ first_of id rows
@@ -52,3 +53,18 @@ pub both_parts : {A B X : Type 0} (o : Option X) (f : X → A) (h : X → B) (a 
     → Some b ≡ option_map (λ (p : A × B). p.1) (option_map {U = A × B} (λ x. (f x, h x)) o) → option_map {U = A × B} (λ x. (f x, h x)) o ≡ Some (a, b)
 both_parts None f h a b p q = cc
 both_parts (Some x) f h a b p q = cc
+
+-- an argument that is not there has no texts
+pub no_texts : (id : Text) (rows : List Row) → all_of id rows ≡ None → LacksTexts id rows
+no_texts id rows none texts has =
+    let bad : Some (texts_in texts) ≡ None = sym has ∙ none in
+    cc
+
+-- and where it is there, it has those that are one to four, or none
+pub texts_among : (id : Text) (rows : List Row) (xs : List Text) (r : Option Texts) → all_of id rows ≡ Some xs → MatchOption r ((four : Texts) → xs ≡ texts_in four → ⊥) (λ four. xs ≡ texts_in four)
+    → MatchOption r (LacksTexts id rows) (λ texts. HasTexts id rows texts)
+texts_among id rows xs None e not = λ four has. not four (same (sym e ∙ has))
+  where
+    same : {x y : List Text} → Some x ≡ Some y → x ≡ y
+    same e = cc
+texts_among id rows xs (Some four) e is = e ∙ ap Some is

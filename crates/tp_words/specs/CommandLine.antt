@@ -1,21 +1,22 @@
 -- Trusted reading: the command line: what `clap` makes of the words, the task that they name, and whether it is to be explained.
-use Rattle.std.specs.Prelude.{◌≡◌, ◌≢◌, ◌⊎◌, ◌<◌, ◌≤◌, ◌^◌, ℕ, Bool, true, false, List, [], ◌∷◌, Option, None, Some, codes, if◌then◌else◌, is_some, ⊤}
+use Rattle.std.specs.Prelude.{◌≡◌, ◌≢◌, ◌⊎◌, ◌<◌, ◌≤◌, ◌^◌, ℕ, Bool, true, false, List, [], ◌∷◌, ◌++◌, Option, None, Some, codes, if◌then◌else◌, is_some, ⊤}
 use Rattle.std.specs.Bool.{MatchBool}
 use Rattle.std.specs.Borrow.{Bor}
 use Rattle.std.specs.Option.{option_map_or}
 use Rattle.std.specs.Str.{bytes_eq}
 use Rattle.std.specs.Str.Parse.{IsNumeral, digits_value, without_leading_plus}
-use Rattle.clap.specs.Words.{App, Kinds, Row, Rule, fault_of, first_of, new_app, new_rule, subcommand_of, with_rule, with_subcommand, IsAmong}
+use Rattle.clap.specs.Words.{App, Kinds, Row, Rule, all_of, fault_of, first_of, new_app, new_rule, subcommand_of, with_rule, with_subcommand, IsAmong}
 pub use Rattle.clap.specs.Words.{Text}
-use Rattle.clap.specs.declared.builder.action.ArgAction.TheVariants.{SetTrue}
+use Rattle.clap.specs.declared.builder.action.ArgAction.TheVariants.{Append, SetTrue}
 use Rattle.clap.specs.declared.builder.value_parser.ValueParser.{ValueParser}
 use Rattle.clap.specs.declared.builder.value_parser.ValueParser.TheVariants.{Unsigned}
 use Rattle.clap.specs.declared.error.kind.ErrorKind.{ErrorKind}
 use Rattle.clap.specs.declared.error.kind.ErrorKind.TheVariants.{DisplayHelp, DisplayVersion}
 use Rattle.tp_words.specs.declared.task.Asked.{Asked}
 use Rattle.tp_words.specs.declared.task.Task.{Task}
-use Rattle.tp_words.specs.declared.task.Task.TheVariants.{Format, Message, Status, Check, Feed, Serve, Play}
+use Rattle.tp_words.specs.declared.task.Task.TheVariants.{Format, Message, Status, Check, Feed, Serve, Play, Run, Ask}
 use Rattle.tp_words.specs.declared.task.Sizes.{Sizes}
+use Rattle.tp_words.specs.declared.task.Texts.{Texts}
 use Rattle.tp_words.specs.declared.task.Image.{Image}
 use Rattle.tp_words.specs.declared.task.Image.TheVariants.{Memory, File}
 use Rattle.tp_words.specs.declared.task.Unread.{Unread}
@@ -44,6 +45,14 @@ flag_rule id name = record (new_rule id) { long = Some name; action = Some SetTr
 -- an option `--name VALUE`, whose value help calls by a name of one word
 abbrev pub option_rule : Text → Text → Rule
 option_rule id name = record (new_rule id) { long = Some name; value_names = 1 }
+
+-- an option `--name VALUE` that has to be there, and may be there several times
+abbrev pub repeated_rule : Text → Text → Rule
+repeated_rule id name = record (option_rule id name) { required = true; action = Some Append }
+
+-- an argument that may be left out
+abbrev pub optional_rule : Text → Rule
+optional_rule id = new_rule id
 
 -- a command of an image
 abbrev pub image_app : Text → App
@@ -81,6 +90,16 @@ serve_app =
 abbrev pub play_app : App
 play_app = with_rule (image_app (codes "play")) (text_rule (codes "SCRIPT"))
 
+-- `thinpool run IMAGE --listen WHERE.. [--control WHERE]`
+abbrev pub run_app : App
+run_app = with_rule (with_rule (image_app (codes "run")) (repeated_rule (codes "LISTEN") (codes "listen"))) (option_rule (codes "CONTROL") (codes "control"))
+
+-- `thinpool ask WHERE LINE [LINE2] [LINE3] [LINE4]`
+abbrev pub ask_app : App
+ask_app =
+    with_rule (with_rule (with_rule (with_rule (with_rule (new_app (codes "ask"))
+    (text_rule (codes "WHERE"))) (text_rule (codes "LINE"))) (optional_rule (codes "LINE2"))) (optional_rule (codes "LINE3"))) (optional_rule (codes "LINE4"))
+
 abbrev pub without_subcommands : App
 without_subcommands =
     let app = new_app (codes "thinpool") in
@@ -88,8 +107,8 @@ without_subcommands =
 
 abbrev pub thinpool_app : App
 thinpool_app =
-    with_subcommand (with_subcommand (with_subcommand (with_subcommand (with_subcommand (with_subcommand (with_subcommand without_subcommands
-    format_app.top) message_app.top) status_app.top) check_app.top) feed_app.top) serve_app.top) play_app.top
+    with_subcommand (with_subcommand (with_subcommand (with_subcommand (with_subcommand (with_subcommand (with_subcommand (with_subcommand (with_subcommand without_subcommands
+    format_app.top) message_app.top) status_app.top) check_app.top) feed_app.top) serve_app.top) play_app.top) run_app.top) ask_app.top
 
 -- ---- the flag in front of the command
 
@@ -206,19 +225,49 @@ abbrev pub IsPlay : List Row → Task → Type 0
 IsPlay rows (Play image script) = ((text : Bor Text) × HasText (codes "IMAGE") rows text × IsImage text.now image) × HasText (codes "SCRIPT") rows script
 IsPlay rows task = ⊥
 
--- what holds where the command has one of the seven names, each its own, or none of them
-abbrev pub by_name : Text → (format message status check feed serve play other : Type 0) → Type 0
-by_name name format message status check feed serve play other =
+-- ---- texts, once to four times
+
+abbrev pub text_if : Option (Bor Text) → List Text
+text_if None = []
+text_if (Some text) = text.now ∷ []
+
+abbrev pub texts_in : Texts → List Text
+texts_in texts = texts.first.now ∷ (text_if texts.second ++ (text_if texts.third ++ text_if texts.fourth))
+
+-- of an argument that may be there several times
+abbrev pub HasTexts : Text → List Row → Texts → Type 0
+HasTexts id rows texts = all_of id rows ≡ Some (texts_in texts)
+
+abbrev pub LacksTexts : Text → List Row → Type 0
+LacksTexts id rows = (texts : Texts) → HasTexts id rows texts → ⊥
+
+abbrev pub IsRun : List Row → Task → Type 0
+IsRun rows (Run image places control) = HasText (codes "IMAGE") rows image × HasTexts (codes "LISTEN") rows places × MayHaveText (codes "CONTROL") rows control
+IsRun rows task = ⊥
+
+abbrev pub IsAsk : List Row → Task → Type 0
+IsAsk rows (Ask place lines) =
+    HasText (codes "WHERE") rows place × HasText (codes "LINE") rows lines.first
+    × MayHaveText (codes "LINE2") rows lines.second × MayHaveText (codes "LINE3") rows lines.third × MayHaveText (codes "LINE4") rows lines.fourth
+IsAsk rows task = ⊥
+
+-- what holds where the command has one of the nine names, each its own, or none of them
+abbrev pub by_name : Text → (format message status check feed serve play run ask other : Type 0) → Type 0
+by_name name format message status check feed serve play run ask other =
     MatchBool (bytes_eq name (codes "format")) format
     (MatchBool (bytes_eq name (codes "message")) message
     (MatchBool (bytes_eq name (codes "status")) status
     (MatchBool (bytes_eq name (codes "check")) check
     (MatchBool (bytes_eq name (codes "feed")) feed
     (MatchBool (bytes_eq name (codes "serve")) serve
-    (MatchBool (bytes_eq name (codes "play")) play other))))))
+    (MatchBool (bytes_eq name (codes "play")) play
+    (MatchBool (bytes_eq name (codes "run")) run
+    (MatchBool (bytes_eq name (codes "ask")) ask other))))))))
 
 abbrev pub IsTask : Text → List Row → Task → Type 0
-IsTask name rows task = by_name name (IsFormat rows task) (IsMessage rows task) (IsStatus rows task) (IsCheck rows task) (IsFeed rows task) (IsServe rows task) (IsPlay rows task) ⊥
+IsTask name rows task =
+    by_name name (IsFormat rows task) (IsMessage rows task) (IsStatus rows task) (IsCheck rows task) (IsFeed rows task) (IsServe rows task) (IsPlay rows task)
+    (IsRun rows task) (IsAsk rows task) ⊥
 
 -- what the command wants is not there
 abbrev pub LacksTask : Text → List Row → Type 0
@@ -230,6 +279,8 @@ LacksTask name rows = by_name name
     (LacksText (codes "IMAGE") rows)
     (LacksText (codes "IMAGE") rows ⊎ LacksText (codes "ADDR") rows ⊎ LacksClients rows)
     (LacksText (codes "IMAGE") rows ⊎ LacksText (codes "SCRIPT") rows)
+    (LacksText (codes "IMAGE") rows ⊎ LacksTexts (codes "LISTEN") rows)
+    (LacksText (codes "WHERE") rows ⊎ LacksText (codes "LINE") rows)
     ⊤
 
 -- of what was found of a subcommand

@@ -3,9 +3,10 @@
 ghost use Rattle.std.specs.Prelude.{◌≡◌, ◌⊎◌, ◌≤◌, [], ℕ, IfOk, List, MatchOption, MatchResult, codes, drop, false, map};
 ghost use Rattle.clap.specs.Words.{HasKind, Text, app_of, found_of, rows_of, rule_of, new_app, subcommand_rows_of, with_rule, with_subcommand};
 ghost use Rattle.clap.specs.declared.builder.command.Command.TheViews.{out-Command};
-ghost use Rattle.tp_words.specs.CommandLine.{AskFor, HasClients, HasNoNumber, HasNumber, HasSizes, HasText, IsCheck, IsFeed, IsFormat, IsImage, IsMessage, IsNumber, IsPlay, IsServe, IsStatus, IsTask, IsTaskOf, IsUnread, LacksClients, LacksNumber, LacksSizes, LacksTask, LacksTaskOf, LacksText, MayHaveNumber, MayHaveText, NameNone, check_app, feed_app, flag_rule, format_app, image_app, is_explained, is_used, message_app, mistakes, number_rule, option_rule, optional_number_rule, play_app, serve_app, status_app, text_rule, thinpool_app, without_flag, without_subcommands};
+ghost use Rattle.tp_words.specs.declared.task.Texts.{Texts};
+ghost use Rattle.tp_words.specs.CommandLine.{AskFor, HasClients, HasNoNumber, HasNumber, HasSizes, HasText, HasTexts, IsAsk, IsCheck, IsFeed, IsFormat, IsImage, IsMessage, IsNumber, IsPlay, IsRun, IsServe, IsStatus, IsTask, IsTaskOf, IsUnread, LacksClients, LacksNumber, LacksSizes, LacksTask, LacksTaskOf, LacksText, LacksTexts, MayHaveNumber, MayHaveText, NameNone, ask_app, check_app, feed_app, flag_rule, format_app, image_app, is_explained, is_used, message_app, mistakes, number_rule, option_rule, optional_number_rule, optional_rule, play_app, repeated_rule, run_app, serve_app, status_app, text_rule, texts_in, thinpool_app, without_flag, without_subcommands};
 
-use crate::task::{Asked, Image, Sizes, Task, Unread};
+use crate::task::{Asked, Image, Sizes, Task, Texts, Unread};
 use clap::error::ErrorKind;
 use clap::{Arg, ArgAction, ArgMatches, Command};
 use std::alloc::{AllocError, Global};
@@ -131,6 +132,26 @@ pool is not closed: what was not flushed is as after a stop. Else the pool is cl
 
   thinpool play mem: script.txt";
 
+const RUN_HELP: &str = "\
+WHERE is 'unix:PATH', a socket file, or 'HOST:PORT', a TCP address, as 127.0.0.1:10809 or [::1]:10809. The clients speak NBD (fixed
+newstyle), 64 of them at a time, each as it comes; who comes then waits for a place. It serves until a control line tells it to stop, and
+then closes the pool. A socket file is for its owner alone (mode 0600). One that a server left that runs no more is replaced. Where each place is
+is told on standard error. At a TCP address there is no authentication.
+
+With --control it also answers lines, each by one: those of 'serve --control', and
+  stop      nobody is let in any more, and it ends when the last client has gone: 'ok'
+  stop now  the clients' streams are ended too, behind the answers of what was read of them: 'ok'
+Whoever can connect there can delete volumes: take a socket file. 'thinpool ask' sends such lines.
+
+  thinpool run pool.img --listen unix:/run/thinpool/nbd.sock --control unix:/run/thinpool/control.sock";
+
+const ASK_HELP: &str = "\
+It prints a line of answer for each line. Where one is refused it ends with 1, behind all of them. Behind 'stop' or 'stop now' it waits until the
+server has closed its pool.
+
+  thinpool ask unix:/run/thinpool/control.sock status 'create_thin 1'
+  thinpool ask unix:/run/thinpool/control.sock 'stop now'";
+
 /// Reads the words of a command line, the first of them the program's name. `--explain` may stand behind it, in front of all others.
 ///
 /// `Memory` where there is no memory for it, and only then of words that name a task.
@@ -144,7 +165,7 @@ pub fn command<'a, S: AsStr>(alloc: Global, words: &'a [S]) -> Result<Asked<'a>,
     match known.try_get_matches_from_mut(rest) {
         Ok(matches) => match task_of(&matches) {
             Some(task) => Ok(Asked { task, explains }),
-            None => Err(misused(alloc)),
+            None => Err(misused(alloc, &matches)),
         },
         Err(error) => Err(unread(alloc, rest, &error)),
     }
@@ -230,6 +251,24 @@ fn option<'a>(alloc: Global, id: &'a str, name: &'a str, value: &'a str, help: &
     ensures local { result.global ≡ false }
 {
     Arg::new(alloc, id).long(name).value_name(value).help(help)
+}
+
+/// The same that has to be there, and may be there several times.
+fn repeated<'a>(alloc: Global, id: &'a str, name: &'a str, value: &'a str, help: &'a str) -> Arg<'a>
+    ensures rule { rule_of result ≡ repeated_rule id.entry.now name.entry.now }
+    ensures local { result.global ≡ false }
+{
+    option(alloc, id, name, value, help)
+        .required(true)
+        .action(ArgAction::Append)
+}
+
+/// An argument that may be left out.
+fn optional<'a>(alloc: Global, id: &'a str, help: &'a str) -> Arg<'a>
+    ensures rule { rule_of result ≡ optional_rule id.entry.now }
+    ensures local { result.global ≡ false }
+{
+    Arg::new(alloc, id).help(help)
 }
 
 /// A command with one argument more.
@@ -372,6 +411,43 @@ fn play_command<'a>(alloc: Global) -> Result<Command<'a>, AllocError>
     Ok(explained(command, PLAY_HELP))
 }
 
+fn run_command<'a>(alloc: Global) -> Result<Command<'a>, AllocError>
+    ensures app { IfOk result (λ made. app_of made ≡ run_app) }
+    ensures local { IfOk result (λ made. (out-Command made).has_globals ≡ false) }
+{
+    let about =
+        "Serve NBD clients without end, 64 at a time, until told to stop, then close the pool";
+    let image = "The file that holds the pool";
+    let listen = "Where to listen for clients; up to four times";
+    let control = "Where to listen for control lines while clients are served";
+    let command = of_image(alloc, "run", about, image)?;
+    let command = with(
+        command,
+        repeated(alloc, "LISTEN", "listen", "WHERE", listen),
+    )?;
+    let command = with(
+        command,
+        option(alloc, "CONTROL", "control", "WHERE", control),
+    )?;
+    Ok(explained(command, RUN_HELP))
+}
+
+fn ask_command<'a>(alloc: Global) -> Result<Command<'a>, AllocError>
+    ensures app { IfOk result (λ made. app_of made ≡ ask_app) }
+    ensures local { IfOk result (λ made. (out-Command made).has_globals ≡ false) }
+{
+    let about = "Send lines to the control place of a server, and print the answers";
+    let place = "The place that 'run' or 'serve' was given behind --control";
+    let line = "A line, in quotes";
+    let command = named(alloc, "ask", about);
+    let command = with(command, text(alloc, "WHERE", place))?;
+    let command = with(command, text(alloc, "LINE", line))?;
+    let command = with(command, optional(alloc, "LINE2", "The next one"))?;
+    let command = with(command, optional(alloc, "LINE3", "The next one"))?;
+    let command = with(command, optional(alloc, "LINE4", "The next one"))?;
+    Ok(explained(command, ASK_HELP))
+}
+
 /// The program, as yet without its commands.
 fn program<'a>(alloc: Global) -> Command<'a>
     ensures { app_of result ≡ without_subcommands }
@@ -398,7 +474,9 @@ fn known_commands<'a>(alloc: Global) -> Result<Command<'a>, AllocError>
     let known = add(known, check_command(alloc)?)?;
     let known = add(known, feed_command(alloc)?)?;
     let known = add(known, serve_command(alloc)?)?;
-    add(known, play_command(alloc)?)
+    let known = add(known, play_command(alloc)?)?;
+    let known = add(known, run_command(alloc)?)?;
+    add(known, ask_command(alloc)?)
 }
 
 /// Commands with one more.
@@ -441,6 +519,12 @@ fn task_named<'a>(name: &str, arguments: &ArgMatches<'a>) -> Option<Task<'a>>
     }
     if name == "play" {
         return play_task(arguments);
+    }
+    if name == "run" {
+        return run_task(arguments);
+    }
+    if name == "ask" {
+        return ask_task(arguments);
     }
     None
 }
@@ -513,6 +597,65 @@ fn play_task<'a>(arguments: &ArgMatches<'a>) -> Option<Task<'a>>
     let script = text_of(arguments, "SCRIPT")?;
     let image = image_of(text);
     Some(Task::Play { image, script })
+}
+
+fn run_task<'a>(arguments: &ArgMatches<'a>) -> Option<Task<'a>>
+    ensures { MatchOption result (LacksText (codes "IMAGE") (rows_of (found_of arguments.now)) ⊎ LacksTexts (codes "LISTEN") (rows_of (found_of arguments.now)))
+        (λ task. IsRun (rows_of (found_of arguments.now)) task) }
+{
+    let image = text_of(arguments, "IMAGE")?;
+    let places = texts_of(arguments, "LISTEN")?;
+    let ruler = text_if_there(arguments, "CONTROL");
+    Some(Task::Run {
+        image,
+        places,
+        control: ruler,
+    })
+}
+
+fn ask_task<'a>(arguments: &ArgMatches<'a>) -> Option<Task<'a>>
+    ensures { MatchOption result (LacksText (codes "WHERE") (rows_of (found_of arguments.now)) ⊎ LacksText (codes "LINE") (rows_of (found_of arguments.now)))
+        (λ task. IsAsk (rows_of (found_of arguments.now)) task) }
+{
+    let place = text_of(arguments, "WHERE")?;
+    let first = text_of(arguments, "LINE")?;
+    let second = text_if_there(arguments, "LINE2");
+    let third = text_if_there(arguments, "LINE3");
+    let fourth = text_if_there(arguments, "LINE4");
+    let lines = Texts {
+        first,
+        second,
+        third,
+        fourth,
+    };
+    Some(Task::Ask { place, lines })
+}
+
+/// The texts of an argument that may be there several times: one to four of them.
+fn texts_of<'a>(arguments: &ArgMatches<'a>, id: &str) -> Option<Texts<'a>>
+    ensures { MatchOption result (LacksTexts id.now (rows_of (found_of arguments.now))) (λ texts. HasTexts id.now (rows_of (found_of arguments.now)) texts) }
+{
+    let texts = arguments.get_strs(id)?;
+    four_of(texts)
+}
+
+/// One to four texts.
+fn four_of<'a>(texts: &[&'a str]) -> Option<Texts<'a>>
+    ensures { MatchOption result ((four : Texts) → map (λ text. text.now) texts.now ≡ texts_in four → ⊥) (λ four. map (λ text. text.now) texts.now ≡ texts_in four) }
+{
+    if texts.len() > 4 {
+        return None;
+    }
+    let first = texts.first().copied()?;
+    let second = texts.get(1).copied();
+    let third = texts.get(2).copied();
+    let fourth = texts.get(3).copied();
+    Some(Texts {
+        first,
+        second,
+        third,
+        fourth,
+    })
 }
 
 /// How many clients are served, among the arguments.
@@ -617,12 +760,18 @@ fn image_of(text: &str) -> Image<'_>
     }
 }
 
-/// What is told of words that name no task: they are as the commands want them but for the number of clients.
-fn misused(alloc: Global) -> Unread
+/// What is told of words that name no task: they are as the commands want them but for the number of clients, or of places.
+fn misused(alloc: Global, matches: &ArgMatches<'_>) -> Unread
     ensures { (words : List Text) → mistakes words ≡ [] → NameNone words → IsUnread words result }
 {
-    let text =
-        "error: COUNT is not from 1 to 64\n\nUsage: thinpool serve [OPTIONS] <IMAGE> <ADDR> <COUNT>\n";
+    let text = match matches.subcommand() {
+        Some(("run", _)) => {
+            "error: there are more than four places to listen at\n\nUsage: thinpool run [OPTIONS] --listen <WHERE> <IMAGE>\n"
+        }
+        _ => {
+            "error: COUNT is not from 1 to 64\n\nUsage: thinpool serve [OPTIONS] <IMAGE> <ADDR> <COUNT>\n"
+        }
+    };
     match String::from_str(alloc, text) {
         Ok(text) => Unread::Misused(text),
         Err(_) => Unread::Memory,

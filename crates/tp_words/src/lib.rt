@@ -9,4 +9,4 @@ mod task;
 
 pub use command_line::command;
 pub use reading::{NoWords, words};
-pub use task::{Asked, Image, Sizes, Task, Unread};
+pub use task::{Asked, Image, Sizes, Task, Texts, Unread};

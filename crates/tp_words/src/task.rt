@@ -49,6 +49,27 @@ pub enum Task<'a> {
         clients: u8,
         control: Option<&'a str>,
     },
+    /// To serve clients without end, 64 at a time, who come to these places, until it is told to stop by a line of those who come to the place `control`, where
+    /// there is one; and then to close the pool.
+    Run {
+        image: &'a str,
+        places: Texts<'a>,
+        control: Option<&'a str>,
+    },
+    /// To send lines to a control place, and to print what is answered.
+    Ask {
+        place: &'a str,
+        lines: Texts<'a>,
+    },
+}
+
+/// The texts of what may be given once to four times, in order.
+#[derive(Clone, Copy, Debug, PartialEq, Eq)]
+pub struct Texts<'a> {
+    pub first: &'a str,
+    pub second: Option<&'a str>,
+    pub third: Option<&'a str>,
+    pub fourth: Option<&'a str>,
 }
 
 /// The sizes of a pool, as the words give them.

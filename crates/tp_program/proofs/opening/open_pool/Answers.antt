@@ -1,4 +1,4 @@
-use Rattle.std.proofs.Common.{◌≡◌, ap, subst, sym}
+use Rattle.std.proofs.Common.{◌≡◌, ap, arith, subst, sym}
 use Rattle.tp_model.specs.declared.refusal.Refusal.{Refusal}
 use Rattle.tp_cache.specs.Line.{Line}
 use Rattle.tp_program.specs.Opening.{IsRefusedOn}
@@ -8,9 +8,12 @@ pub returns-in-Ok-clause-opened : goal.returns-in-Ok-clause-opened
 returns-in-Ok-clause-opened g c =
     let said = c.in-Ok.ensures in
     let given = c.requires in
+    let start = said.start in
+    let places : c.in-Ok.pool.cache.room ≡ 1024 = start.room (omega arith) in
     record {
       disk_is = ap (λ (l : Line). l.inner) said.start.line;
       holders = said.holders;
+      room = omega (arith, places);
       opened = λ honest. said.opened honest (given.settled honest);
     }
 

@@ -11,4 +11,6 @@ returns c =
     let fourth = c.in_ok-known-4.ensures ∙ ap₂ with_subcommand third (ap (λ (a : App). a.top) c.in_ok-check_command.ensures.app) in
     let fifth = c.in_ok-known-5.ensures ∙ ap₂ with_subcommand fourth (ap (λ (a : App). a.top) c.in_ok-feed_command.ensures.app) in
     let sixth = c.in_ok-known-6.ensures ∙ ap₂ with_subcommand fifth (ap (λ (a : App). a.top) c.in_ok-serve_command.ensures.app) in
-    IfOk-weaker c.add-7.result _ _ (λ known h. h ∙ ap₂ with_subcommand sixth (ap (λ (a : App). a.top) c.in_ok-play_command.ensures.app)) c.add-7.ensures
+    let seventh = c.in_ok-known-7.ensures ∙ ap₂ with_subcommand sixth (ap (λ (a : App). a.top) c.in_ok-play_command.ensures.app) in
+    let eighth = c.in_ok-known-8.ensures ∙ ap₂ with_subcommand seventh (ap (λ (a : App). a.top) c.in_ok-run_command.ensures.app) in
+    IfOk-weaker c.add-9.result _ _ (λ known h. h ∙ ap₂ with_subcommand eighth (ap (λ (a : App). a.top) c.in_ok-ask_command.ensures.app)) c.add-9.ensures

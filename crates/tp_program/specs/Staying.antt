@@ -1,0 +1,29 @@
+-- Trusted reading: what serving clients without end over the pool of a disk is, and how it is told (own).
+use Rattle.std.specs.Prelude.{◌≡◌, ◌⊎◌, ℕ, Bool, true, false, List, ◌∷◌, Some, Result, Ok, Err}
+use Rattle.tp_model.specs.declared.refusal.Refusal.{Refusal}
+use Rattle.tp_model.specs.declared.refusal.Refusal.TheVariants.{Fault, Memory}
+use Rattle.tp_model.specs.Disk.{DiskState}
+use Rattle.tp_hub.specs.Desks.{Exchange}
+use Rattle.tp_images.specs.Deeds.{Deed, OnImage, Refuses}
+use Rattle.tp_images.specs.declared.way.Way.TheVariants.{ToWrite}
+use Rattle.tp_program.specs.Lives.{IsLifeOn, closing_of}
+use Rattle.tp_program.specs.Opening.{IsRefusedOn}
+use Rattle.tp_program.specs.Serving.{told_behind}
+
+-- whether each thread could be made
+abbrev pub told_of_threads : Bool → Result (Unit {0}) Refusal
+told_of_threads true = Ok (tt {0})
+told_of_threads false = Err Memory
+
+-- The pool of a disk was opened, a hub over it was asked by clients and control lines, and it was closed; or it was opened, but its clients could not be waited for, which is a
+-- fault, and the disk is as it was; or it was not opened. That all was done is told only where it was closed.
+abbrev pub StaysOn : Result (Unit {0}) Refusal → DiskState → DiskState → Type 0
+StaysOn result before after =
+    ((reason : Refusal) × (result ≡ Err reason) × IsRefusedOn before after reason)
+    ⊎ ((result ≡ Err Fault) × (after ≡ before))
+    ⊎ ((asks : List Exchange) × (manned : Bool) × (closing : Result (Unit {0}) Refusal)
+    × (result ≡ told_behind closing (told_of_threads manned)) × IsLifeOn before after asks (Some (closing_of closing)))
+
+-- The same of the image of a name, which was opened to write; or it was not, which is a fault.
+abbrev pub StaysImage : List ℕ → List Deed → List Deed → Result (Unit {0}) Refusal → Type 0
+StaysImage name old new result = ((new ≡ Refuses ToWrite name ∷ old) × (result ≡ Err Fault)) ⊎ OnImage ToWrite name old new (StaysOn result)

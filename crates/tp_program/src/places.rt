@@ -1,0 +1,87 @@
+//! Places to listen at and to connect to: socket files, and TCP addresses.
+
+use std::alloc::{AllocError, Global};
+use std::fs::{self, DirBuilder, File, Permissions};
+use std::io::{self, ErrorKind};
+use std::net::{Net, TcpListener, TcpStream};
+use std::os::fd::OwnedFd;
+use std::os::unix::fs::{DirBuilderExt, FileTypeExt, PermissionsExt};
+use std::os::unix::net::{UnixListener, UnixStream};
+use std::rt::Files;
+use tp_crowd::Door;
+
+/// What the name of a socket file begins with, as a place.
+const SOCKET_FILE: &str = "unix:";
+
+/// No memory, as the system says it.
+fn no_memory(_error: AllocError) -> io::Error {
+    io::Error::from(ErrorKind::OutOfMemory)
+}
+
+/// A door at a place. A socket file is for its owner alone from its first moment, and takes the place of one that a server left that runs no more.
+pub(crate) fn open_door<R>(rt: &R, alloc: Global, place: &str) -> io::Result<Door>
+where
+    R: Files<File = File> + Net<Listener = TcpListener, Stream = TcpStream>,
+{
+    match place.strip_prefix(SOCKET_FILE) {
+        None => Door::tcp(TcpListener::bind(rt, place)?),
+        Some(path) => {
+            find_free(rt, path)?;
+            Door::unix(bind_file(rt, alloc, path)?)
+        }
+    }
+}
+
+/// Refuses a path where something else stands than a socket file that nobody answers on.
+fn find_free<R: Files<File = File> + Net>(rt: &R, path: &str) -> io::Result<()> {
+    let found = match fs::symlink_metadata(rt, path) {
+        Ok(found) => found,
+        Err(error) if error.kind() == ErrorKind::NotFound => return Ok(()),
+        Err(error) => return Err(error),
+    };
+    if !found.file_type().is_socket() {
+        return Err(io::Error::from(ErrorKind::AlreadyExists));
+    }
+    match UnixStream::connect(rt, path) {
+        Ok(_) => Err(io::Error::from(ErrorKind::AddrInUse)),
+        Err(error) if error.kind() == ErrorKind::ConnectionRefused => Ok(()),
+        Err(error) => Err(error),
+    }
+}
+
+/// Listens at a socket file. It is made in a folder that nobody else may enter, and moved to its path when its rights stand.
+fn bind_file<R: Files<File = File> + Net>(
+    rt: &R,
+    alloc: Global,
+    path: &str,
+) -> io::Result<UnixListener> {
+    let folder = format!(in alloc; "{path}.new").map_err(no_memory)?;
+    let file = format!(in alloc; "{path}.new/s").map_err(no_memory)?;
+    clear(rt, &folder, &file);
+    DirBuilder::new().mode(0o700).create(rt, folder.as_str())?;
+    let bound = bind_for_owner(rt, &file, path);
+    clear(rt, &folder, &file);
+    bound
+}
+
+/// Removes the folder and the file in it, where they are.
+fn clear<R: Files>(rt: &R, folder: &str, file: &str) {
+    let _ = fs::remove_file(rt, file);
+    let _ = fs::remove_dir(rt, folder);
+}
+
+/// Listens at a socket file of the owner alone, and moves it to its path.
+fn bind_for_owner<R: Files + Net>(rt: &R, file: &str, path: &str) -> io::Result<UnixListener> {
+    let listener = UnixListener::bind(rt, file)?;
+    fs::set_permissions(rt, file, Permissions::from_mode(0o600))?;
+    fs::rename(rt, file, path)?;
+    Ok(listener)
+}
+
+/// A connection to a place.
+pub(crate) fn connect<R: Net<Stream = TcpStream>>(net: &R, place: &str) -> io::Result<TcpStream> {
+    match place.strip_prefix(SOCKET_FILE) {
+        None => TcpStream::connect(net, place),
+        Some(path) => Ok(TcpStream::from(OwnedFd::from(UnixStream::connect(net, path)?))),
+    }
+}

@@ -1,0 +1,266 @@
+//! Clients without end over the pool of an image, which is then closed, and beside them control lines.
+
+ghost use Rattle.std.specs.Prelude.{◌≡◌, IfErr};
+ghost use Rattle.std.specs.FinMap.{empty};
+ghost use Rattle.tp_disk.specs.HandedOut.{IsHandedOut};
+ghost use Rattle.tp_holders.specs.Holders.{holds_of};
+ghost use Rattle.tp_program.specs.Failures.{number_of};
+ghost use Rattle.tp_program.specs.Living.{StaysPool};
+ghost use Rattle.tp_program.specs.Staying.{StaysImage, StaysOn, told_of_threads};
+
+use crate::clients::Errors;
+use crate::closing::{behind, end_hub};
+use crate::failure::{Cause, Failure};
+use crate::opening::open_pool;
+use crate::places::open_door;
+use std::alloc::Global;
+use std::fs::File;
+use std::io::{self, ErrorKind, Write};
+use std::net::{Net, TcpListener, TcpStream};
+use std::rt::Files;
+use std::sync::{Mutex, Wait};
+use std::thread::Threads;
+use std::time::Clock;
+use tp_cache::ReadCache;
+use tp_crowd::{Door, Stayed, serve_until_stopped};
+use tp_disk::{SharedDisk, TellsTrouble};
+use tp_hub::Hub;
+use tp_images::Images;
+use tp_meta::Meta;
+use tp_model::Refusal;
+use tp_served::Served;
+use tp_words::Texts;
+
+/// The number by which a refusal tells the place of control lines. Those of clients are told by 0 to 3.
+pub(crate) const CONTROL: u8 = 4;
+
+/// Where clients come, and where those come who send control lines.
+#[derive(Drop)]
+struct Doors {
+    clients: Vec<Door>,
+    control: Option<Door>,
+}
+
+/// A place that is not listened at.
+fn closed_place(number: u8, error: io::Error) -> Failure
+    ensures { result.refusal ≡ Refusal.Fault }
+{
+    Failure::fault(Cause::Place(number, error))
+}
+
+/// Opens the door of a place, if there is one, behind others.
+fn add_door<R>(
+    rt: &R,
+    alloc: Global,
+    number: u8,
+    place: Option<&str>,
+    doors: &mut Vec<Door>,
+) -> Result<(), Failure>
+where
+    R: Files<File = File> + Net<Listener = TcpListener, Stream = TcpStream>,
+    ensures { IfErr result (λ why. why.refusal ≡ Refusal.Fault) }
+{
+    let Some(place) = place else {
+        return Ok(());
+    };
+    match open_door(rt, alloc, place) {
+        Ok(door) => match doors.push(door) {
+            Ok(()) => Ok(()),
+            Err(_) => Err(closed_place(number, io::Error::from(ErrorKind::OutOfMemory))),
+        },
+        Err(error) => Err(closed_place(number, error)),
+    }
+}
+
+/// Opens the doors of clients.
+fn open_clients<R>(rt: &R, alloc: Global, places: &Texts<'_>) -> Result<Vec<Door>, Failure>
+where
+    R: Files<File = File> + Net<Listener = TcpListener, Stream = TcpStream>,
+    ensures { IfErr result (λ why. why.refusal ≡ Refusal.Fault) }
+{
+    let mut doors = Vec::new(alloc);
+    add_door(rt, alloc, 0, Some(places.first), &mut doors)?;
+    add_door(rt, alloc, 1, places.second, &mut doors)?;
+    add_door(rt, alloc, 2, places.third, &mut doors)?;
+    add_door(rt, alloc, 3, places.fourth, &mut doors)?;
+    Ok(doors)
+}
+
+/// Opens the door of control lines, if there is a place for them.
+fn open_control<R>(rt: &R, alloc: Global, place: Option<&str>) -> Result<Option<Door>, Failure>
+where
+    R: Files<File = File> + Net<Listener = TcpListener, Stream = TcpStream>,
+    ensures { IfErr result (λ why. why.refusal ≡ Refusal.Fault) }
+{
+    let Some(place) = place else {
+        return Ok(None);
+    };
+    match open_door(rt, alloc, place) {
+        Ok(door) => Ok(Some(door)),
+        Err(error) => Err(closed_place(CONTROL, error)),
+    }
+}
+
+/// Tells where somebody is waited for, and for what.
+fn tell_door<E: Write>(door: &Door, place: Option<&str>, what: &str, errors: &mut E) {
+    let _ = match (door.address(), place) {
+        (Some(address), _) => writeln!(errors, "thinpool: {what} on {address}"),
+        (None, Some(place)) => writeln!(errors, "thinpool: {what} on {place}"),
+        (None, None) => Ok(()),
+    };
+}
+
+/// Tells where clients are waited for, and then where control lines are, if they are.
+fn tell_doors<E: Write>(doors: &Doors, places: &Texts<'_>, control: Option<&str>, errors: &mut E) {
+    let texts = [
+        Some(places.first),
+        places.second,
+        places.third,
+        places.fourth,
+    ];
+    for (door, place) in doors.clients.iter().zip(texts) {
+        tell_door(door, place, "listening", errors);
+    }
+    if let Some(door) = &doors.control {
+        tell_door(door, control, "control", errors);
+    }
+}
+
+/// Opens all doors, and then tells where each is.
+fn open_doors<R, E>(
+    rt: &R,
+    alloc: Global,
+    places: &Texts<'_>,
+    control: Option<&str>,
+    errors: &mut E,
+) -> Result<Doors, Failure>
+where
+    R: Files<File = File> + Net<Listener = TcpListener, Stream = TcpStream>,
+    E: Write,
+    ensures { IfErr result (λ why. why.refusal ≡ Refusal.Fault) }
+{
+    let clients = open_clients(rt, alloc, places)?;
+    let ruler = open_control(rt, alloc, control)?;
+    let doors = Doors {
+        clients,
+        control: ruler,
+    };
+    tell_doors(&doors, places, control, errors);
+    Ok(doors)
+}
+
+/// Why serving clients was refused though the pool was closed: a thread could not be made.
+fn refused_threads(is_manned: bool) -> Result<(), Failure>
+    ensures { number_of result ≡ told_of_threads is_manned }
+{
+    if is_manned {
+        Ok(())
+    } else {
+        Err(Failure {
+            refusal: Refusal::Memory,
+            cause: Cause::Threads,
+        })
+    }
+}
+
+/// Serves clients over a pool until it is told to stop, closes the pool, and hands its disk back. That closing is refused is told first, and then that a thread could
+/// not be made. How the clients' sessions end is no refusal, and nothing that the control side does is. That the pool fails is told when it does, and at the end closing is
+/// refused. Who said that it is to stop is let go when the pool is closed.
+fn run_pool<R, D, E>(
+    rt: &R,
+    alloc: Global,
+    pool: Served<ReadCache<D>, Meta>,
+    doors: &Doors,
+    errors: &mut E,
+) -> (D, Result<(), Failure>)
+where
+    R: Threads + Wait + Clock + Sync,
+    D: SharedDisk + TellsTrouble + Drop + Send + Sync,
+    E: Write + Send,
+    requires { holds_of pool.besides.holders ≡ empty }
+    ensures { StaysPool pool (number_of result.1) (D.state result.0) }
+{
+    let alarm = Errors {
+        rt,
+        writer: Mutex::new(errors),
+    };
+    let stayed = serve_until_stopped(
+        rt,
+        alloc,
+        Hub::new(pool),
+        doors.clients.as_slice(),
+        doors.control.as_ref(),
+        &alarm,
+    );
+    let Stayed {
+        hub,
+        is_manned,
+        askers,
+    } = stayed;
+    let (disk, closed) = end_hub(hub);
+    drop(askers);
+    (disk, behind(closed, refused_threads(is_manned)))
+}
+
+/// The same over the pool of a disk, which is handed back. The pool is opened before the doors are.
+fn run_disk<R, D, E>(
+    rt: &R,
+    alloc: Global,
+    disk: D,
+    places: &Texts<'_>,
+    control: Option<&str>,
+    errors: &mut E,
+) -> (D, Result<(), Failure>)
+where
+    R: Files<File = File>
+        + Net<Listener = TcpListener, Stream = TcpStream>
+        + Threads
+        + Wait
+        + Clock
+        + Sync,
+    D: SharedDisk + TellsTrouble + Drop + Send + Sync,
+    E: Write + Send,
+    requires { IsHandedOut (D.state disk) }
+    ensures { StaysOn (number_of result.1) (D.state disk) (D.state result.0) }
+{
+    let pool = match open_pool(alloc, disk) {
+        Ok(pool) => pool,
+        Err((why, disk)) => return (disk, Err(why)),
+    };
+    match open_doors(rt, alloc, places, control, errors) {
+        Ok(doors) => run_pool(rt, alloc, pool, &doors, errors),
+        Err(why) => (pool.into_disk(), Err(why)),
+    }
+}
+
+/// Serves clients over the pool of an image, who come to one to four places, 64 at a time and without end, until a control line says that it is to stop, and then
+/// closes the pool. The image is opened before the places are.
+pub fn run_image<R, I, E>(
+    rt: &R,
+    images: &mut I,
+    alloc: Global,
+    name: &str,
+    places: &Texts<'_>,
+    control: Option<&str>,
+    errors: &mut E,
+) -> Result<(), Failure>
+where
+    R: Files<File = File>
+        + Net<Listener = TcpListener, Stream = TcpStream>
+        + Threads
+        + Wait
+        + Clock
+        + Sync,
+    I: Images,
+    E: Write + Send,
+    ensures { StaysImage name.now (I.deeds images.old) (I.deeds images.new) (number_of result) }
+{
+    match images.open(name) {
+        Ok(disk) => {
+            let (disk, ran) = run_disk(rt, alloc, disk, places, control, errors);
+            images.close(name, disk);
+            ran
+        }
+        Err(error) => Err(Failure::unopened(error)),
+    }
+}

@@ -1,0 +1,124 @@
+//! A test of clients without end over the system's sockets, until a control line ends them.
+
+use crate::parts::{
+    CLIENT_GO, Call, MADE, Part, first_untold, first_untold_of_new, greeted, joined,
+};
+use crate::servers::{Places, exchange, run_server};
+use std::alloc::Global;
+use std::fs::File;
+use std::io;
+use std::io::{ErrorKind, Read};
+use std::net::{Net, SocketAddr, TcpListener, TcpStream};
+use std::rt::Files;
+use std::sync::{OnceLock, Wait};
+use std::test::Fail;
+use std::thread::{Threads, join};
+use std::time::Clock;
+use tp_program::Status;
+
+/// Runs the program that serves clients of an image without end, and beside them control lines, and tells how it ends.
+fn serve<H>(rt: &H, image: &str, places: &Places) -> Status
+where
+    H: Files<File = File>
+        + Net<Listener = TcpListener, Stream = TcpStream>
+        + Threads
+        + Wait
+        + Clock
+        + Sync
+        + Alloc<A = Global>,
+{
+    let any = "127.0.0.1:0";
+    let words = ["thinpool", "run", image, "--listen", any, "--control", any];
+    run_server(rt, &words, places).status
+}
+
+/// Has a client go to volume 0 and fill its first sector: it flushes nothing.
+fn go_and_fill(alloc: Global, client: &mut TcpStream) -> io::Result<()> {
+    let greeting = greeted(alloc)?.len();
+    exchange(alloc, client, CLIENT_GO, greeting)?;
+    let text = joined(alloc, &[Part::Ask(1, 7, 0, 512), Part::Fill(b'a', 512)])?;
+    exchange(alloc, client, &text, 16)?;
+    Ok(())
+}
+
+/// Whether it is answered that all is to stop now.
+fn is_stopped(alloc: Global, lines: &mut TcpStream) -> io::Result<bool> {
+    Ok(exchange(alloc, lines, b"stop now\n", 3)?.as_slice() == b"ok\n".as_slice())
+}
+
+/// A line stops all, and then the client reads: whether that is answered, and how many bytes the client has.
+fn stop_beside<H>(rt: &H, control: SocketAddr, client: &mut TcpStream) -> io::Result<(bool, usize)>
+where
+    H: Net<Listener = TcpListener, Stream = TcpStream> + Wait + Alloc<A = Global>,
+{
+    let mut lines = TcpStream::connect(rt, control)?;
+    let is_stopped = is_stopped(rt.alloc(), &mut lines)?;
+    Ok((is_stopped, client.read(&mut [0])?))
+}
+
+/// The same behind a write of that client.
+fn write_and_stop<H>(rt: &H, places: &Places) -> io::Result<(bool, usize)>
+where
+    H: Net<Listener = TcpListener, Stream = TcpStream> + Wait + Alloc<A = Global>,
+{
+    let Some((clients, Some(control))) = places.wait(rt) else {
+        return Err(io::Error::from(ErrorKind::NotConnected));
+    };
+    let mut client = TcpStream::connect(rt, *clients)?;
+    go_and_fill(rt.alloc(), &mut client)?;
+    stop_beside(rt, *control, &mut client)
+}
+
+/// What is left: what was written is there, though nobody flushed it.
+const LEFT: &[Call] = &[
+    ("status", &["0"], 0, "128 127\n"),
+    ("check", &[], 0, "clean\n"),
+];
+
+/// How the program ends, and what the client is told.
+fn told_of_stop<H>(rt: &H, image: &str) -> Result<(Status, (bool, usize)), Fail>
+where
+    H: Files<File = File>
+        + Net<Listener = TcpListener, Stream = TcpStream>
+        + Threads
+        + Wait
+        + Clock
+        + Sync
+        + Alloc<A = Global>,
+{
+    let places = OnceLock::new();
+    let (told, status) = join(
+        rt,
+        || write_and_stop(rt, &places),
+        || serve(rt, image, &places),
+    );
+    Ok((status, told?))
+}
+
+/// The same of a new image, and the first calls before and behind that do not end and print so.
+fn told_of_image<H>(
+    rt: &H,
+    image: &str,
+) -> Result<((Status, (bool, usize)), [Option<usize>; 2]), Fail>
+where
+    H: Files<File = File>
+        + Net<Listener = TcpListener, Stream = TcpStream>
+        + Threads
+        + Wait
+        + Clock
+        + Sync
+        + Alloc<A = Global>,
+{
+    let made = first_untold(rt, image, MADE)?;
+    let told = told_of_stop(rt, image)?;
+    let left = first_untold_of_new(rt, image, LEFT)?;
+    Ok((told, [made, left]))
+}
+
+/// The program ends where a line tells it to, and closes the pool, though a client is still there.
+#[test]
+fn a_line_stops_all(rt: HostRuntime) -> Result<(), Fail> {
+    let told = told_of_image(&rt, "stopped.img")?;
+    assert_eq!(rt; told, ((Status::Done, (true, 0)), [None; 2]));
+    Ok(())
+}
