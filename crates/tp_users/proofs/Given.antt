@@ -6,7 +6,7 @@ use Rattle.tp_model.specs.declared.mode.Mode.{Mode}
 use Rattle.tp_model.specs.declared.mode.Mode.TheVariants as mode
 use Rattle.tp_model.specs.declared.refusal.Refusal.{Refusal}
 use Rattle.tp_model.specs.declared.refusal.Refusal.TheVariants.{Failed, Fault, NoMetadataSpace}
-use Rattle.tp_model.specs.Geometry.{Geometry}
+use Rattle.tp_model.specs.Geometry.{Geometry, IsWithinLimits}
 use Rattle.tp_model.specs.Sectors.{Sector, sectors_of}
 use Rattle.tp_model.specs.Pool.{PlainPool}
 use Rattle.tp_model.specs.Calls.{Answer, Call, Close, CreateThin, Done, Flush, Gave, Makes, Read, Refused, Takes, Write, is_failed, refusal_of}
@@ -16,12 +16,13 @@ use Rattle.tp_model.specs.DiskStops.{AfterStop}
 use Rattle.tp_model.proofs.DiskLaws.{seen-settled}
 use Rattle.tp_model.proofs.DiskStopLaws.{AfterStop-seen}
 use Rattle.tp_model.proofs.Found.{MayReopen-nothing}
-use Rattle.tp_image.specs.Fresh.{empty_pool}
+use Rattle.tp_image.specs.Fresh.{IsFreshOf, empty_pool}
 use Rattle.tp_image.specs.Stands.{StandsFor}
 use Rattle.tp_meta.specs.declared.whole.Meta.{Meta}
 use Rattle.tp_meta.specs.Standing as metadata
 use Rattle.tp_meta.specs.Standing.{changed_of, geometry_of, marks_of, room_of}
-use Rattle.tp_pool.specs.Held.{Held, IsSomePool, PoolCalled, PoolRefused, moment_of, shows}
+use Rattle.tp_meta.specs.Framing.{stands_within}
+use Rattle.tp_pool.specs.Held.{Held, IsPool, IsSomePool, PoolCalled, PoolRefused, moment_of, shows}
 use Rattle.tp_pool.specs.Flushes.{PoolClosed}
 use Rattle.tp_pool.specs.Shown.{at_now, shown, wider}
 use Rattle.tp_users.specs.Users.{Bears, IsBlank, IsKept, IsOutside, users_geometry}
@@ -137,6 +138,25 @@ works_on m works failed = false≢true (sym (ap is_failed works) ∙ ap is_faile
 pub honest_yet : (h : Held Meta) (s : PlainPool) → s.mode ≡ mode.Writable → Shows h s → IsTrue h.disk.is_honest
 honest_yet h s works (inl w) = w.2.standing.honest
 honest_yet h s works (inr f) = absurd (works_on s.mode works f.mode_is)
+
+-- ---- it is formatted
+
+abbrev pub FreshLaw : Type 0
+FreshLaw = (g : Geometry) (image : List Sector) → IsWithinLimits g → IsFreshOf g image → StandsFor image (empty_pool g)
+
+abbrev pub RestLaw : Type 0
+RestLaw = (h : Held Meta) (s : PlainPool) (image : List Sector) → Shows h s → AfterStop h.disk.cells image → IsPool (geometry_of h.metadata) image
+
+limits_of : (h : Held Meta) (s : PlainPool) → s.mode ≡ mode.Writable → Shows h s → IsWithinLimits (geometry_of h.metadata)
+limits_of h s works (inl w) = (stands_within h.metadata h.disk w.0 w.1 w.2.standing).limits
+limits_of h s works (inr f) = absurd (works_on s.mode works f.mode_is)
+
+-- an image that a stop leaves then, if it is as formatting leaves it, stands for the pool without volumes
+pub formatted_stands : (h : Held Meta) (g : Geometry) (image : List Sector) → FreshLaw → RestLaw → geometry_of h.metadata ≡ g → IsFreshOf g image → Shows h (empty_pool g)
+    → AfterStop h.disk.cells image → IsSomePool image × StandsFor image (empty_pool g)
+formatted_stands h g image fresh_law rest_law same is_fresh shown stop =
+    let limits = subst IsWithinLimits same (limits_of h (empty_pool g) refl shown) in
+    ((geometry_of h.metadata, rest_law h (empty_pool g) image shown stop), fresh_law g image limits is_fresh)
 
 -- the disk that is handed back
 pub closed_kept : (old new : Held Meta) (disk : DiskState) (s : PlainPool) → s.mode ≡ mode.Writable → Shows old s → PoolCalled geometry_of metadata.StandsFor old new Close Done → new.disk ≡ disk

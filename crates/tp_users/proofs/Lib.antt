@@ -6,6 +6,7 @@ pub mod Unchanged
 mod Conversation
 mod Stopped
 mod OnCaches
+mod OnDisk
 mod Costs
 mod Parting
 mod Removals

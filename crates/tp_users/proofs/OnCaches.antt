@@ -1,18 +1,16 @@
 -- A pool on caches that kept all, or was formatted or stopped, in words of the disk under them.
-use Rattle.std.proofs.Common.{◌≡◌, List, Result, Ok, Err, inl, inr, refl, sym, ap, subst, ◌∙◌}
+use Rattle.std.proofs.Common.{◌≡◌, List, Result, Ok, Err, sym, ap, subst, ◌∙◌}
 use Rattle.std.specs.Prelude.{IsTrue, MatchResult, OnOk}
-use Rattle.std.proofs.lemmas.Bool.{false≢true}
 use Rattle.tp_model.specs.declared.mode.Mode.TheVariants as mode
 use Rattle.tp_model.specs.declared.refusal.Refusal.{Refusal}
 use Rattle.tp_model.specs.Sectors.{Sector}
 use Rattle.tp_model.specs.Pool.{PlainPool}
-use Rattle.tp_model.specs.Calls.{Call, Close, Done, Flush, Refused, is_failed}
-use Rattle.tp_model.specs.Geometry.{Geometry, IsWithinLimits}
+use Rattle.tp_model.specs.Calls.{Call, Close, Done, Flush, Refused}
+use Rattle.tp_model.specs.Geometry.{Geometry}
 use Rattle.tp_model.specs.Clauses.{Called, IsOpened, Meets, View, ViewLaws}
 use Rattle.tp_model.specs.PoolStops.{reopened}
-use Rattle.tp_model.specs.Disk.{DiskState, IsSettled, fresh, seen, settled}
+use Rattle.tp_model.specs.Disk.{DiskState, IsSettled, seen}
 use Rattle.tp_model.specs.DiskStops.{AfterStop, moment}
-use Rattle.tp_model.proofs.DiskLaws.{seen-settled}
 use Rattle.tp_model.proofs.DiskStopLaws.{AfterStop-seen}
 use Rattle.tp_model.proofs.Found.{MayReopen-nothing}
 use Rattle.tp_model.proofs.Moments.{stopped_at, stopped_longer}
@@ -23,13 +21,13 @@ use Rattle.tp_meta.specs.declared.whole.Meta.{Meta}
 use Rattle.tp_meta.specs.Standing as metadata
 use Rattle.tp_meta.specs.Standing.{changed_of, geometry_of, marks_of, room_of}
 use Rattle.tp_meta.specs.Framing.{stands_bounded, stands_one, stands_trees, stands_within}
-use Rattle.tp_pool.specs.Held.{Held, IsPool, IsSomePool, shows}
+use Rattle.tp_pool.specs.Held.{IsSomePool, shows}
 use Rattle.tp_pool.proofs.Ranges.{law_within}
 use Rattle.tp_served.specs.Served.{Cached, IsClosed, IsKnown, cached, disk_of, laws, on_cache}
 use Rattle.tp_users.specs.Left.{IsLeftUnder, under_rest}
 use Rattle.tp_users.specs.Lives.{IsOpenedAs, IsStopped}
 use Rattle.tp_users.specs.Users.{IsKept}
-use Rattle.tp_users.proofs.Given.{Keeps, close_keeps, flush_keeps, honest_yet, made_after, made_is}
+use Rattle.tp_users.proofs.Given.{FreshLaw, Keeps, RestLaw, close_keeps, flush_keeps, formatted_stands, honest_yet, made_after, made_is}
 
 abbrev pub ShowsOn : Cached Meta → PlainPool → Type 0
 ShowsOn c s = shows geometry_of metadata.StandsFor (on_cache c) s
@@ -78,26 +76,14 @@ pub laws_on : ViewLaws All
 laws_on = laws geometry_of metadata.StandsFor marks_of room_of changed_of (λ m disk now kept p st has. stands_trees m disk now kept p st has) (law_within stands_within) (λ m disk now kept st. stands_bounded m disk now kept st)
     (λ m disk now kept next last st then. stands_one m disk now kept next last st then)
 
-limits_on : (c : Cached Meta) (s : PlainPool) → s.mode ≡ mode.Writable → ShowsOn c s → IsWithinLimits (geometry_of c.besides.metadata)
-limits_on c s works (inl w) = (stands_within c.besides.metadata c.cache.line.outer w.0 w.1 w.2.standing).limits
-limits_on c s works (inr f) = absurd (false≢true (sym (ap is_failed works) ∙ ap is_failed f.mode_is))
-
 -- a pool that was formatted is opened from the image that stands on the disk under it
-pub opened_new : (c : Cached Meta) (g : Geometry) → ((g : Geometry) (image : List Sector) → IsWithinLimits g → IsFreshOf g image → StandsFor image (empty_pool g))
-    → ((h : Held Meta) (s : PlainPool) (image : List Sector) → shows geometry_of metadata.StandsFor h s → AfterStop h.disk.cells image → IsPool (geometry_of h.metadata) image) → c.cache.line ≡ begun (disk_of c) → geometry_of c.besides.metadata ≡ g
-    → IsFreshOf g (seen (disk_of c).cells) → ShowsOn c (empty_pool g) → IsOpened All (seen (disk_of c).cells) c → IsOpenedAs All (empty_pool g) c
+pub opened_new : (c : Cached Meta) (g : Geometry) → FreshLaw → RestLaw → c.cache.line ≡ begun (disk_of c) → geometry_of c.besides.metadata ≡ g → IsFreshOf g (seen (disk_of c).cells) → ShowsOn c (empty_pool g)
+    → IsOpened All (seen (disk_of c).cells) c → IsOpenedAs All (empty_pool g) c
 opened_new c g fresh_law rest_law line same is_fresh shown opened =
-    let limits = subst IsWithinLimits same (limits_on c (empty_pool g) refl shown) in
     let image = seen (disk_of c).cells in
     let outer : c.cache.line.outer ≡ disk_of c = ap (λ (l : Line). l.outer) line in
     let stop : AfterStop c.cache.line.outer.cells image = subst (λ (d : DiskState). AfterStop d.cells image) (sym outer) (AfterStop-seen (disk_of c).cells) in
-    record { image = image; stands = ((geometry_of c.besides.metadata, rest_law (on_cache c) (empty_pool g) image shown stop), fresh_law g image limits is_fresh); opened = opened }
-
--- a disk with the image that a stop left
-pub stopped_disk : (old disk : DiskState) (image : List Sector) → disk ≡ fresh image → AfterStop old.cells image → IsStopped old disk
-stopped_disk old disk image is stop =
-    subst (λ (d : DiskState). IsStopped old d) (sym is)
-    (record { honest = refl; settled = ap settled (sym (seen-settled image)); left = subst (AfterStop old.cells) (sym (seen-settled image)) stop })
+    record { image = image; stands = formatted_stands (on_cache c) g image fresh_law rest_law same is_fresh shown stop; opened = opened }
 
 pub stopped_under : (c : Cached Meta) (s : PlainPool) (disk : DiskState) → IsKnown geometry_of c → ShowsOn c s → IsStopped (disk_of c) disk → IsLeftUnder geometry_of metadata.StandsFor marks_of room_of changed_of (seen disk.cells)
 stopped_under c s disk known shown stopped = under_rest c s known shown stopped.left

@@ -18,6 +18,7 @@ mod served;
 mod sharing;
 mod snapshots;
 mod spared;
+mod uncached;
 mod zeroed;
 
 pub use blank::blank_pool;
@@ -39,4 +40,5 @@ pub use served::{closed_pool_is_opened_again, flushed_nodes_are_on_the_disk};
 pub use sharing::readers_agree;
 pub use snapshots::snapshot_costs_three_blocks;
 pub use spared::{trim_spares_parts_of_blocks, trimmed_blocks_read_zero};
+pub use uncached::hub_on_its_disk_lives_twice;
 pub use zeroed::zeroes_are_read;

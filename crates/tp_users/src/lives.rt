@@ -8,7 +8,7 @@ ghost use Rattle.tp_image.specs.Fresh.{empty_pool};
 ghost use Rattle.tp_check.specs.declared.error.CheckError.{CheckError};
 ghost use Rattle.tp_meta.specs.Standing.{StandsFor, changed_of, geometry_of, marks_of, room_of};
 ghost use Rattle.tp_pool.specs.Held.{IsSomePool};
-ghost use Rattle.tp_served.specs.Served.{cached, disk_of};
+ghost use Rattle.tp_served.specs.Served.{cached};
 ghost use Rattle.nbd_session.specs.Clauses.{GoesWithTrace};
 ghost use Rattle.tp_hub.specs.Runs.{incoming, session_of, taken_of};
 ghost use Rattle.tp_users.specs.Lives.{AreTwoLives, IsLed, IsOpenedAs, IsStopped};
@@ -28,7 +28,12 @@ use tp_pool::stops_leave_pools;
 use tp_served::{Room, Served};
 
 /// A hub of a pool, without sessions, takes events; then all its sessions end. The pool, and how much was taken.
-fn led<V: Managed>(alloc: Global, pool: V, events: &[Event<'_>], out: &mut Answers) -> (V, Ran)
+pub(crate) fn led<V: Managed>(
+    alloc: Global,
+    pool: V,
+    events: &[Event<'_>],
+    out: &mut Answers,
+) -> (V, Ran)
     requires numbers { All (λ e. session_of e < 64) events.now }
     requires free { (V.view.outline pool).holds ≡ empty }
     ensures led { IsLed V.view.outline (PoolCall V.view) pool (taken_of (map incoming events.now) result.1.events result.1.bytes) out.old out.new result.0 }
@@ -60,18 +65,14 @@ fn formatted(
     }
 }
 
-/// Stops a pool in a way of one's choice: the disk that is left.
-fn stopped(
-    alloc: Global,
-    pool: &Served<ReadCache<MemDisk>, Meta>,
-    picks: &[u64],
-) -> Result<MemDisk, Refusal>
-    ensures stopped { IfOk result (λ disk. IsStopped (disk_of pool.now) (mem_state disk)) }
+/// Stops a disk in a way of one's choice: the disk that is left.
+pub(crate) fn stopped(alloc: Global, disk: &MemDisk, picks: &[u64]) -> Result<MemDisk, Refusal>
+    ensures stopped { IfOk result (λ left. IsStopped (mem_state disk.now) (mem_state left)) }
     ensures only { IfErr result (λ reason. reason ≡ Refusal.Memory) }
 {
     picks_are_stops();
-    match pool.disk().stop(alloc, picks) {
-        Ok(disk) => Ok(disk),
+    match disk.stop(alloc, picks) {
+        Ok(left) => Ok(left),
         Err(_) => Err(Refusal::Memory),
     }
 }
@@ -118,10 +119,10 @@ pub fn hub_lives_twice(
     hub_lives_are_plain::<Served<ReadCache<MemDisk>, Meta>>();
     let pool = formatted(alloc, geometry, room)?;
     let (pool, one) = led(alloc, pool, first, told);
-    let disk = stopped(alloc, &pool, picks)?;
+    let disk = stopped(alloc, pool.disk(), picks)?;
     let pool = opened(alloc, disk, room)?;
     let (pool, two) = led(alloc, pool, second, told_again);
-    let disk = stopped(alloc, &pool, last_picks)?;
+    let disk = stopped(alloc, pool.disk(), last_picks)?;
     Ok((one, two, disk))
 }
 
@@ -154,7 +155,7 @@ pub fn hub_leaves_a_clean_image(
     };
     let (pool, ran) = led(alloc, pool, events, out);
     pool.facts();
-    let mut disk = match stopped(alloc, &pool, picks) {
+    let mut disk = match stopped(alloc, pool.disk(), picks) {
         Ok(disk) => disk,
         Err(refusal) => return Err(not_made(refusal)),
     };
