@@ -164,6 +164,17 @@ def free_port():
         return it.getsockname()[1]
 
 
+def wait_for(port):
+    """Waits until a server on loopback takes a client, and goes again."""
+    for _ in range(50 * LIMIT):
+        try:
+            socket.create_connection(("127.0.0.1", port)).close()
+            return
+        except OSError:
+            time.sleep(0.02)
+    raise Stuck("a server does not come up")
+
+
 def request(kind, offset=0, length=0, data=b"", flags=0, cookie=1):
     """The bytes of a request."""
     return struct.pack(">IHHQQI", 0x25609513, flags, kind, cookie, offset, length or len(data)) + data
