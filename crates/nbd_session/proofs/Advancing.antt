@@ -3,32 +3,39 @@ use Rattle.std.proofs.Common.{◌≡◌, ℕ, ◌+◌, ◌*◌, ◌<◌, ◌≤�
 use Rattle.std.specs.Prelude.{IfSome, MatchOption, MatchBool, ◌==◌, if◌then◌else◌, nat_lt}
 use Rattle.std.specs.Ordering.{nat_cmp}
 use Rattle.std.specs.FinMap.{FinMap}
+use Rattle.std.specs.Option.{option_map_or}
+use Rattle.tp_model.specs.declared.refusal.NbdError.{NbdError}
+use Rattle.tp_model.specs.Requests.{form_error, is_flush, is_read, is_trim, is_write}
 use Rattle.tp_model.specs.Geometry.{Geometry, sectors_of_volume}
 use Rattle.tp_model.specs.Pool.{PlainPool, Outline, hold_count, hold_total}
 use Rattle.tp_model.specs.Calls.{Call, Answer, Done, Gave, Line, Found, Refused, Sized, Hold, LetGo, NextId, VolumeBlocks, is_failed, holds_after}
 use Rattle.nbd_wire.specs.declared.Kind.{Kind}
 use Rattle.nbd_wire.specs.declared.Request.{Request}
-use Rattle.nbd_wire.specs.declared.TheConstants.{OPTION_ABORT, OPTION_EXPORT_NAME, OPTION_GO, OPTION_INFO, OPTION_LIST}
+use Rattle.nbd_wire.specs.declared.TheConstants.{COMMAND_DISC, OPTION_ABORT, OPTION_EXPORT_NAME, OPTION_GO, OPTION_INFO, OPTION_LIST}
 use Rattle.nbd_wire.specs.declared.writing.ReplyType.TheVariants.{Acknowledged, Invalid, Unsupported}
 use Rattle.nbd_wire.specs.Replies.{option_reply}
 use Rattle.nbd_wire.specs.Grammar.{Message, client_flags, client_option, command, malformed}
+use Rattle.nbd_session.specs.declared.phase.Course.{Course}
+use Rattle.nbd_session.specs.declared.phase.Course.TheVariants.{Listens, Works}
+use Rattle.nbd_session.specs.declared.phase.Profile.{Profile}
+use Rattle.nbd_session.specs.declared.phase.Terms.{Terms}
 use Rattle.nbd_session.specs.declared.phase.Phase.{Phase}
 use Rattle.nbd_session.specs.declared.phase.Phase.TheVariants.{Flags, Options, Transmission, Ended}
 use Rattle.nbd_session.specs.declared.request.Verdict.{Verdict}
 use Rattle.nbd_session.specs.declared.request.Verdict.TheVariants as verdicts
-use Rattle.nbd_session.specs.Requests.{bytes_of_blocks, known_bytes, verdict_on}
+use Rattle.nbd_session.specs.Requests.{bytes_of_blocks, form_of, known_bytes, verdict_in, verdict_on}
 use Rattle.nbd_session.specs.declared.session.Answered.{Answered}
-use Rattle.nbd_session.specs.Session.{State, state, Outcome, outcome, option_error, VolumeOption, export_name, go, info, is_there, kind_of, transmission_flags, LetsGo, Ends, Tells, Serves, IsSized, Sizes, IsHeld, Holds, Enters, Finds, AsksFor, LooksFor, IsInvalid, IsValid, Informs, Exports, Finding, IsEnough, IsLast, IsRefused, Lists, NamesAll, NamesNone, Answers, Waits, TakesFrame, IsOver, Steps}
+use Rattle.nbd_session.specs.Session.{State, state, has_ended, Outcome, outcome, option_error, VolumeOption, export_name, go, info, is_there, is_at_work, is_extended, kind_of, left_in, terms_of, transmission_flags, LetsGo, Ends, Tells, Serves, IsMade, MakesPart, IsDeaf, IsSized, Sizes, IsHeld, Holds, Enters, Finds, AsksFor, LooksFor, IsInvalid, IsValid, Informs, Exports, Finding, IsEnough, IsLast, IsRefused, Lists, NamesAll, NamesNone, Answers, Waits, TakesFrame, Steps}
 use Rattle.tp_model.specs.Clauses.{Continues, HasTrace, PoolCall, Traced, TracedCall, View, ViewLaws, outline_of_traced}
 use Rattle.tp_model.proofs.Running.{call_traced, goes_on, stays}
-use Rattle.nbd_session.specs.Clauses.{IsReady, Follows, HoldsFollow, KeepsSizes, PlainCall, Advances, Leaves, IsCalm, holds_between}
+use Rattle.nbd_session.specs.Clauses.{IsReady, Follows, HoldsFollow, KeepsSizes, PlainCall, Advances, Leaves, IsCalm, holds_between, takes_long}
 use Rattle.nbd_session.proofs.Counting.{one_more, still_held}
 use Rattle.nbd_session.proofs.Following.{steps_likewise, lets_go_likewise}
 use Rattle.nbd_session.proofs.Stepping.{calm_state, wanted_at_start}
 
 -- what a session knows of its volume that has entered transmission
 abbrev Knows : Phase → Phase → Outline → (ℕ → ℕ) → Type 0
-Knows (Options no_zeroes) (Transmission volume size) p more = size ≡ known_bytes p.geometry more volume
+Knows (Options terms) (Transmission volume size course) p more = size ≡ known_bytes p.geometry more volume
 Knows phase next p more = Unit {0}
 
 -- the volume of a session that stays in transmission has the size that it had
@@ -38,29 +45,52 @@ size_stays p p' more more' v n g m is =
 
 ready_after : (p p' : Outline) (more more' : ℕ → ℕ) (phase next : Phase) → Follows phase next → p'.geometry ≡ p.geometry → HoldsFollow phase next p.holds p'.holds
     → ((i : ℕ) → 0 < hold_count p.holds i → 0 < hold_count p'.holds i → more' i ≡ more i) → Knows phase next p' more' → IsReady phase p more → IsReady next p' more'
-ready_after p p' more more' Flags (Options z) f g e m k h = let P : FinMap nat_cmp ℕ → Type 0 = λ x. hold_total x < 64 in subst P (sym e) h
+ready_after p p' more more' (Flags a) (Options z) f g e m k h = let P : FinMap nat_cmp ℕ → Type 0 = λ x. hold_total x < 64 in subst P (sym e) h
 ready_after p p' more more' (Options y) (Options z) f g e m k h = let P : FinMap nat_cmp ℕ → Type 0 = λ x. hold_total x < 64 in subst P (sym e) h
-ready_after p p' more more' (Options z) (Transmission v n) f g e m k h =
+ready_after p p' more more' (Options z) (Transmission v n c) f g e m k h =
     let here : hold_count p'.holds v ≡ hold_count p.holds v + 1 = ap (λ (x : FinMap nat_cmp ℕ). hold_count x v) e ∙ one_more p.holds v in
     (omega (arith, here), k)
-ready_after p p' more more' (Transmission v n) (Transmission w o) f g e m k h =
+ready_after p p' more more' (Transmission v n c) (Transmission w o d) f g e m k h =
     let P : FinMap nat_cmp ℕ → Type 0 = λ x. 0 < hold_count x v in
     let Q : ℕ → Type 0 = λ i. 0 < hold_count p'.holds i in
     let R : ℕ → Type 0 = λ i. o ≡ known_bytes p'.geometry more' i in
     let held : 0 < hold_count p'.holds v = subst P (sym e) h.0 in
     (subst Q f.0 held, subst R f.0 (sym f.1 ∙ size_stays p p' more more' v n g (m v h.0 held) h.1))
-ready_after p p' more more' Flags Ended f g e m k h = tt
+ready_after p p' more more' (Flags a) Ended f g e m k h = tt
 ready_after p p' more more' (Options z) Ended f g e m k h = tt
-ready_after p p' more more' (Transmission v n) Ended f g e m k h = tt
+ready_after p p' more more' (Transmission v n c) Ended f g e m k h = tt
 ready_after p p' more more' Ended Ended f g e m k h = tt
-ready_after p p' more more' Flags Flags f g e m k h = let P : FinMap nat_cmp ℕ → Type 0 = λ x. hold_total x < 64 in subst P (sym e) h
-ready_after p p' more more' Flags (Transmission v n) f g e m k h = absurd f
-ready_after p p' more more' (Options z) Flags f g e m k h = absurd f
-ready_after p p' more more' (Transmission v n) Flags f g e m k h = absurd f
-ready_after p p' more more' (Transmission v n) (Options z) f g e m k h = absurd f
-ready_after p p' more more' Ended Flags f g e m k h = absurd f
+ready_after p p' more more' (Flags a) (Flags b) f g e m k h = let P : FinMap nat_cmp ℕ → Type 0 = λ x. hold_total x < 64 in subst P (sym e) h
+ready_after p p' more more' (Flags a) (Transmission v n c) f g e m k h = absurd f
+ready_after p p' more more' (Options z) (Flags a) f g e m k h = absurd f
+ready_after p p' more more' (Transmission v n c) (Flags a) f g e m k h = absurd f
+ready_after p p' more more' (Transmission v n c) (Options z) f g e m k h = absurd f
+ready_after p p' more more' Ended (Flags a) f g e m k h = absurd f
 ready_after p p' more more' Ended (Options z) f g e m k h = absurd f
-ready_after p p' more more' Ended (Transmission v n) f g e m k h = absurd f
+ready_after p p' more more' Ended (Transmission v n c) f g e m k h = absurd f
+
+-- ---- no request is long whose length is tested
+
+chosen_not_long : (a b c d e : Bool) → (if a then verdicts.Flush else if b then verdicts.Nothing else if c then verdicts.Read else if d then verdicts.Write else if e then verdicts.Trim else verdicts.WriteZeroes) ≡ verdicts.Long → ⊥
+chosen_not_long true b c d e h = absurd cc
+chosen_not_long false true c d e h = absurd cc
+chosen_not_long false false true d e h = absurd cc
+chosen_not_long false false false true e h = absurd cc
+chosen_not_long false false false false true h = absurd cc
+chosen_not_long false false false false false h = absurd cc
+
+tested_not_long : (o : Option NbdError) (v : Verdict) → (v ≡ verdicts.Long → ⊥) → option_map_or verdicts.Refuse o v ≡ verdicts.Long → ⊥
+tested_not_long None v not_it h = not_it h
+tested_not_long (Some e) v not_it h = absurd cc
+
+asked_not_long : (b : Bool) (v : Verdict) → (v ≡ verdicts.Long → ⊥) → (if b then verdicts.Disconnect else v) ≡ verdicts.Long → ⊥
+asked_not_long true v not_it h = absurd cc
+asked_not_long false v not_it h = not_it h
+
+never_long : (size : ℕ) (r : Request) → verdict_on size r ≡ verdicts.Long → ⊥
+never_long size r h =
+    asked_not_long (r.kind == COMMAND_DISC) _ (λ e.
+    tested_not_long (form_error size (form_of r)) _ (λ g. chosen_not_long (is_flush (form_of r)) (r.len == 0) (is_read (form_of r)) (is_write (form_of r)) (is_trim (form_of r)) g) e) h
 
 module _ {D : Type 0} (view : View D) (laws : ViewLaws view) where
   -- ---- what stands between a pool and the plain pool, or the traced one
@@ -121,23 +151,23 @@ module _ {D : Type 0} (view : View D) (laws : ViewLaws view) where
   }
 
   -- a session that goes on to its options, or ends, where nothing is called
-  to_options : (old new : D) (z : Bool) → new ≡ old → Moves old new (Options z) (Options z)
+  to_options : (old new : D) (z : Terms) → new ≡ old → Moves old new (Options z) (Options z)
   to_options old new z e = rests old new (Options z) (Options z) e refl refl tt
 
-  to_end : (old new : D) (z : Bool) → new ≡ old → Moves old new (Options z) Ended
+  to_end : (old new : D) (z : Terms) → new ≡ old → Moves old new (Options z) Ended
   to_end old new z e = rests old new (Options z) Ended e (inl refl) tt tt
 
   lets_go_moves : (old new : D) (phase : Phase) → LetsGo view.outline (PoolCall view) phase old new → Moves old new phase Ended
-  lets_go_moves old new Flags h = rests old new Flags Ended h refl tt tt
+  lets_go_moves old new (Flags a) h = rests old new (Flags a) Ended h refl tt tt
   lets_go_moves old new (Options z) h = to_end old new z h
-  lets_go_moves old new (Transmission v n) h = called old new (Transmission v n) Ended (LetGo v) Done h refl tt tt
+  lets_go_moves old new (Transmission v n c) h = called old new (Transmission v n c) Ended (LetGo v) Done h refl tt tt
   lets_go_moves old new Ended h = rests old new Ended Ended h refl tt tt
 
   -- an end alone holds nothing before it
   lets_go_holds : (old new : D) (phase : Phase) → LetsGo view.outline (PoolCall view) phase old new → (view.outline new).holds ≡ holds_between phase Ended (view.outline old).holds
-  lets_go_holds old new Flags h = ap (λ (d : D). (view.outline d).holds) h
+  lets_go_holds old new (Flags a) h = ap (λ (d : D). (view.outline d).holds) h
   lets_go_holds old new (Options z) h = ap (λ (d : D). (view.outline d).holds) h
-  lets_go_holds old new (Transmission v n) h = h.holds
+  lets_go_holds old new (Transmission v n c) h = h.holds
   lets_go_holds old new Ended h = ap (λ (d : D). (view.outline d).holds) h
 
   ends_move : (old new : D) (last : List ℕ) (phase next : Phase) (sent : List ℕ) → Ends view.outline (PoolCall view) last phase old sent next new → Moves old new phase next
@@ -147,24 +177,53 @@ module _ {D : Type 0} (view : View D) (laws : ViewLaws view) where
       → Moves old new phase o.next → Moves old new phase next
   tells_move old new phase o sent next h m = moves_to old new phase next o.next h.1 m
 
-  -- a request leaves a session where it is
-  stays_in : (old new : D) (v n : ℕ) (call : Call) (answer : Answer) (next : Phase) → next ≡ Transmission v n → PoolCall view old call answer new → holds_after (view.outline old).holds call answer ≡ (view.outline old).holds
-      → Moves old new (Transmission v n) next
-  stays_in old new v n call answer next at h holds =
-      moves_to old new (Transmission v n) next (Transmission v n) at (called old new (Transmission v n) (Transmission v n) call answer h holds (refl, refl) tt)
+  -- a request leaves a session where it is, or begins work
+  stays_in : (old new : D) (v n : ℕ) (c d : Course) (call : Call) (answer : Answer) (next : Phase) → next ≡ Transmission v n d → takes_long c ≡ takes_long d → PoolCall view old call answer new
+      → holds_after (view.outline old).holds call answer ≡ (view.outline old).holds → Moves old new (Transmission v n c) next
+  stays_in old new v n c d call answer next at same h holds =
+      moves_to old new (Transmission v n c) next (Transmission v n d) at (called old new (Transmission v n c) (Transmission v n d) call answer h holds (refl, refl, same) tt)
 
-  not_asked : (old new : D) (v n : ℕ) → new ≡ old → Moves old new (Transmission v n) (Transmission v n)
-  not_asked old new v n e = rests old new (Transmission v n) (Transmission v n) e refl (refl, refl) tt
+  not_asked : (old new : D) (v n : ℕ) (x : Bool) → new ≡ old → Moves old new (Transmission v n (Listens x)) (Transmission v n (Listens x))
+  not_asked old new v n x e = rests old new (Transmission v n (Listens x)) (Transmission v n (Listens x)) e refl (refl, refl, refl) tt
 
-  serves_move : (old new : D) (d : Verdict) (v n : ℕ) (r : Request) (payload sent : List ℕ) (next : Phase) → Serves view.outline (PoolCall view) d v n r payload old sent next new → Moves old new (Transmission v n) next
-  serves_move old new verdicts.Disconnect v n r payload sent next h = ends_move old new [] (Transmission v n) next sent h
-  serves_move old new (verdicts.Refuse e) v n r payload sent next h = tells_move old new (Transmission v n) _ sent next h (not_asked old new v n h.2)
-  serves_move old new verdicts.Nothing v n r payload sent next h = tells_move old new (Transmission v n) _ sent next h (not_asked old new v n h.2)
-  serves_move old new verdicts.Read v n r payload sent next h = stays_in old new v n _ h.0.answer next h.1 h.0.calls refl
-  serves_move old new verdicts.Write v n r payload sent next h = stays_in old new v n _ h.0.answer next h.1 h.0.calls refl
-  serves_move old new verdicts.Trim v n r payload sent next h = stays_in old new v n _ h.0.answer next h.1 h.0.calls refl
-  serves_move old new verdicts.WriteZeroes v n r payload sent next h = stays_in old new v n _ h.0.answer next h.1 h.0.calls refl
-  serves_move old new verdicts.Flush v n r payload sent next h = stays_in old new v n _ h.0.answer next h.1 h.0.calls refl
+  -- only an extended session begins work
+  long_is_extended : (x : Bool) (size : ℕ) (r : Request) → verdict_in x size r ≡ verdicts.Long → x ≡ true
+  long_is_extended true size r e = refl
+  long_is_extended false size r e = absurd (never_long size r e)
+
+  serves_move : (old new : D) (d : Verdict) (v n : ℕ) (x : Bool) (r : Request) (payload sent : List ℕ) (next : Phase) → (d ≡ verdicts.Long → x ≡ true)
+      → Serves view.outline (PoolCall view) d v n x r payload old sent next new → Moves old new (Transmission v n (Listens x)) next
+  serves_move old new verdicts.Disconnect v n x r payload sent next is h = ends_move old new [] (Transmission v n (Listens x)) next sent h
+  serves_move old new (verdicts.Refuse e) v n x r payload sent next is h = tells_move old new (Transmission v n (Listens x)) _ sent next h (not_asked old new v n x h.2)
+  serves_move old new verdicts.Nothing v n x r payload sent next is h = tells_move old new (Transmission v n (Listens x)) _ sent next h (not_asked old new v n x h.2)
+  serves_move old new verdicts.Read v n x r payload sent next is h = stays_in old new v n (Listens x) (Listens x) _ h.0.answer next h.1 refl h.0.calls refl
+  serves_move old new verdicts.Write v n x r payload sent next is h = stays_in old new v n (Listens x) (Listens x) _ h.0.answer next h.1 refl h.0.calls refl
+  serves_move old new verdicts.Trim v n x r payload sent next is h = stays_in old new v n (Listens x) (Listens x) _ h.0.answer next h.1 refl h.0.calls refl
+  serves_move old new verdicts.WriteZeroes v n x r payload sent next is h = stays_in old new v n (Listens x) (Listens x) _ h.0.answer next h.1 refl h.0.calls refl
+  serves_move old new verdicts.Flush v n x r payload sent next is h = stays_in old new v n (Listens x) (Listens x) _ h.0.answer next h.1 refl h.0.calls refl
+  serves_move old new verdicts.Long v n x r payload sent next is h =
+      moves_to old new (Transmission v n (Listens x)) next (Transmission v n (Works r)) h.1 (rests old new (Transmission v n (Listens x)) (Transmission v n (Works r)) h.2 refl (refl, refl, is refl) tt)
+
+  -- and a part of one leaves it at work, or where it was
+  made_next : (v n : ℕ) (r rest : Request) (last : Bool) (answer : Answer) (sent : List ℕ) (next : Phase) → IsMade v n r rest last answer sent next
+      → (d : Course) × (next ≡ Transmission v n d) × (takes_long d ≡ true)
+  made_next v n r rest true Done sent next h = (Listens true, h.1, refl)
+  made_next v n r rest false Done sent next h = (Works rest, h.1, refl)
+  made_next v n r rest last (Gave sectors) sent next h = (Listens true, h.1, refl)
+  made_next v n r rest last (Line bytes) sent next h = (Listens true, h.1, refl)
+  made_next v n r rest last (Found id) sent next h = (Listens true, h.1, refl)
+  made_next v n r rest last (Sized blocks) sent next h = (Listens true, h.1, refl)
+  made_next v n r rest last (Refused reason) sent next h = (Listens true, h.1, refl)
+
+  part_holds : (b : Bool) (trim zeroes : Call) (answer : Answer) (holds : FinMap nat_cmp ℕ) → holds_after holds trim answer ≡ holds → holds_after holds zeroes answer ≡ holds
+      → holds_after holds (if b then trim else zeroes) answer ≡ holds
+  part_holds true trim zeroes answer holds t z = t
+  part_holds false trim zeroes answer holds t z = z
+
+  part_moves : (old new : D) (v n : ℕ) (r : Request) (sent : List ℕ) (next : Phase) → MakesPart view.outline (PoolCall view) v n r old sent next new → Moves old new (Transmission v n (Works r)) next
+  part_moves old new v n r sent next h =
+      let to = made_next v n r _ _ h.answer sent next h.is_made in
+      stays_in old new v n (Works r) to.0 _ h.answer next to.1 (sym to.2) h.calls (part_holds (is_trim (form_of r)) _ _ h.answer (view.outline old).holds refl refl)
 
   -- the geometry, who holds what, and the sizes stay
   record Stays (old new : D) : Type 0 where
@@ -186,7 +245,7 @@ module _ {D : Type 0} (view : View D) (laws : ViewLaws view) where
   as_held old new e i some = let P : FinMap nat_cmp ℕ → Type 0 = λ m. 0 < hold_count m i in subst P (sym e) some
 
   -- what is done behind a look-up, which leaves all that
-  behind : (old mid new : D) (z : Bool) (next : Phase) → Stays old mid → Moves mid new (Options z) next → Moves old new (Options z) next
+  behind : (old mid new : D) (z : Terms) (next : Phase) → Stays old mid → Moves mid new (Options z) next → Moves old new (Options z) next
   behind old mid new z next before m = record {
     geometry = m.geometry ∙ before.geometry;
     holds = let P : FinMap nat_cmp ℕ → Type 0 = λ x. HoldsFollow (Options z) next x (view.outline new).holds in subst P before.holds m.holds;
@@ -196,25 +255,25 @@ module _ {D : Type 0} (view : View D) (laws : ViewLaws view) where
   }
 
   -- Where an option goes that looks for a volume.
-  record Lands (z : Bool) (o : VolumeOption) : Type 0 where
-    found : (id size flags : ℕ) → (o.found id size flags).next ≡ (if o.holds then Transmission id size else Options z)
+  record Lands (z : Terms) (o : VolumeOption) : Type 0 where
+    found : (id size flags : ℕ) → (o.found id size flags).next ≡ (if o.holds then Transmission id size (Listens (is_extended z.profile)) else Options z)
     missing : (old new : D) → new ≡ old → Moves old new (Options z) o.missing.next
 
-  go_lands : (z : Bool) → Lands z (go z)
+  go_lands : (z : Terms) → Lands z (go z)
   go_lands z = record { found = λ id size flags. refl; missing = λ old new e. to_options old new z e }
 
-  info_lands : (z : Bool) → Lands z (info z)
+  info_lands : (z : Terms) → Lands z (info z)
   info_lands z = record { found = λ id size flags. refl; missing = λ old new e. to_options old new z e }
 
-  export_lands : (z : Bool) → Lands z (export_name z)
+  export_lands : (z : Terms) → Lands z (export_name z)
   export_lands z = record { found = λ id size flags. refl; missing = λ old new e. to_end old new z e }
 
-  module _ (z : Bool) (o : VolumeOption) (lands : Lands z o) (g : Geometry) (flags : ℕ) where
+  module _ (z : Terms) (o : VolumeOption) (lands : Lands z o) (g : Geometry) (flags : ℕ) where
     abbrev found_so : ℕ → ℕ → Outcome
     found_so id blocks = o.found id (bytes_of_blocks g blocks) flags
 
-    found_next : (b : Bool) (id blocks : ℕ) → o.holds ≡ b → (found_so id blocks).next ≡ (if b then Transmission id (bytes_of_blocks g blocks) else Options z)
-    found_next b id blocks is = lands.found id (bytes_of_blocks g blocks) flags ∙ ap (λ (x : Bool). if x then Transmission id (bytes_of_blocks g blocks) else Options z) is
+    found_next : (b : Bool) (id blocks : ℕ) → o.holds ≡ b → (found_so id blocks).next ≡ (if b then Transmission id (bytes_of_blocks g blocks) (Listens (is_extended z.profile)) else Options z)
+    found_next b id blocks is = lands.found id (bytes_of_blocks g blocks) flags ∙ ap (λ (x : Bool). if x then Transmission id (bytes_of_blocks g blocks) (Listens (is_extended z.profile)) else Options z) is
 
     -- of a volume that is not held
     told_moves : (old asked new : D) (id : ℕ) (answer : Answer) (sent : List ℕ) (next : Phase) → o.holds ≡ false → PoolCall view old (VolumeBlocks id) answer asked
@@ -251,12 +310,12 @@ module _ {D : Type 0} (view : View D) (laws : ViewLaws view) where
       sized_moves : (asked new : D) (answer : Answer) (sent : List ℕ) (next : Phase) → o.holds ≡ true → PoolCall view held (VolumeBlocks id) answer asked
           → IsSized view.outline (PoolCall view) true (found_so id) id answer asked sent next new → Moves old new (Options z) next
       sized_moves asked new (Sized blocks) sent next is call h =
-          let to : Phase = Transmission id (bytes_of_blocks g blocks) in
+          let to : Phase = Transmission id (bytes_of_blocks g blocks) (Listens (is_extended z.profile)) in
           let P : D → Type 0 = λ d. Moves old d (Options z) to in
           moves_to old new (Options z) next to (h.1 ∙ found_next true id blocks is) (subst P (sym h.2) (record {
             geometry = call.geometry ∙ hold.geometry;
             holds = call.holds ∙ hold.holds;
-            follows = tt;
+            follows = refl;
             more = over old held asked hold.more call.more stays_held;
             knows = known asked blocks call;
           }))
@@ -303,7 +362,7 @@ module _ {D : Type 0} (view : View D) (laws : ViewLaws view) where
     finds_moves old new id (Line bytes) sent next same h = absurd h
     finds_moves old new id (Sized blocks) sent next same h = absurd h
 
-  module _ (old new : D) (z : Bool) (o : VolumeOption) (lands : Lands z o) where
+  module _ (old new : D) (z : Terms) (o : VolumeOption) (lands : Lands z o) where
     asks_move : (id : ℕ) (sent : List ℕ) (next : Phase) → AsksFor view.outline (PoolCall view) o id old sent next new → Moves old new (Options z) next
     asks_move id sent next h =
         let before = asked old h.looked id h.answer h.calls in
@@ -341,7 +400,7 @@ module _ {D : Type 0} (view : View D) (laws : ViewLaws view) where
   last_stays true from old new h = asked old new from (Found None) h
   last_stays false from old new h = still old new h
 
-  names_move : (old new : D) (b : Bool) (z : Bool) (sent : List ℕ) (next : Phase)
+  names_move : (old new : D) (b : Bool) (z : Terms) (sent : List ℕ) (next : Phase)
       → MatchBool b (NamesAll view.outline (PoolCall view) z old sent next new ⊎ NamesNone view.outline (PoolCall view) old sent next new) (Tells view.outline (PoolCall view) (option_error OPTION_LIST Invalid z) old sent next new)
       → Moves old new (Options z) next
   names_move old new true z sent next (inl h) =
@@ -357,14 +416,14 @@ module _ {D : Type 0} (view : View D) (laws : ViewLaws view) where
     none (inr f) = goes (finding_stays (IsEnough view.outline (PoolCall view)) (λ from d d' e. still d d' e) 0 h.ids old new f.1)
   names_move old new false z sent next h = tells_move old new (Options z) (option_error OPTION_LIST Invalid z) sent next h (to_options old new z h.2)
 
-  lists_move : (old new : D) (b : Bool) (z : Bool) (payload sent : List ℕ) (next : Phase)
+  lists_move : (old new : D) (b : Bool) (z : Terms) (payload sent : List ℕ) (next : Phase)
       → MatchBool b (Ends view.outline (PoolCall view) [] (Options z) old sent next new)
       (MatchBool (length payload == 0) (NamesAll view.outline (PoolCall view) z old sent next new ⊎ NamesNone view.outline (PoolCall view) old sent next new) (Tells view.outline (PoolCall view) (option_error OPTION_LIST Invalid z) old sent next new))
       → Moves old new (Options z) next
   lists_move old new true z payload sent next h = ends_move old new [] (Options z) next sent h
   lists_move old new false z payload sent next h = names_move old new (length payload == 0) z sent next h
 
-  chosen_moves : (old new : D) (is_go is_info is_export is_list is_abort : Bool) (z : Bool) (option : ℕ) (payload sent : List ℕ) (next : Phase)
+  chosen_moves : (old new : D) (is_go is_info is_export is_list is_abort : Bool) (z : Terms) (option : ℕ) (payload sent : List ℕ) (next : Phase)
       → MatchBool is_go (Informs view.outline (PoolCall view) OPTION_GO (go z) z payload old sent next new)
       (MatchBool is_info (Informs view.outline (PoolCall view) OPTION_INFO (info z) z payload old sent next new)
       (MatchBool is_export (Exports view.outline (PoolCall view) (export_name z) z payload old sent next new)
@@ -379,18 +438,20 @@ module _ {D : Type 0} (view : View D) (laws : ViewLaws view) where
   chosen_moves old new false false false false false z option payload sent next h = tells_move old new (Options z) (option_error option Unsupported z) sent next h (to_options old new z h.2)
 
   answers_move : (old new : D) (phase next : Phase) (m : Message) (sent : List ℕ) → Answers view.outline (PoolCall view) phase m old sent next new → Moves old new phase next
-  answers_move old new Flags next (client_flags z) sent h = tells_move old new Flags (outcome [] (Options z)) sent next h (rests old new Flags (Options z) h.2 refl tt tt)
-  answers_move old new Flags next (client_option o q) sent h = absurd h
-  answers_move old new Flags next (command r q) sent h = absurd h
-  answers_move old new Flags next malformed sent h = ends_move old new [] Flags next sent h
+  answers_move old new (Flags a) next (client_flags z) sent h =
+      tells_move old new (Flags a) (outcome [] (Options (terms_of a z))) sent next h (rests old new (Flags a) (Options (terms_of a z)) h.2 refl refl tt)
+  answers_move old new (Flags a) next (client_option o q) sent h = absurd h
+  answers_move old new (Flags a) next (command r q) sent h = absurd h
+  answers_move old new (Flags a) next malformed sent h = ends_move old new [] (Flags a) next sent h
   answers_move old new (Options z) next (client_flags y) sent h = absurd h
   answers_move old new (Options z) next (client_option o q) sent h = chosen_moves old new (o == OPTION_GO) (o == OPTION_INFO) (o == OPTION_EXPORT_NAME) (o == OPTION_LIST) (o == OPTION_ABORT) z o q sent next h
   answers_move old new (Options z) next (command r q) sent h = absurd h
   answers_move old new (Options z) next malformed sent h = ends_move old new [] (Options z) next sent h
-  answers_move old new (Transmission v n) next (client_flags y) sent h = absurd h
-  answers_move old new (Transmission v n) next (client_option o q) sent h = absurd h
-  answers_move old new (Transmission v n) next (command r q) sent h = serves_move old new (verdict_on n r) v n r q sent next h
-  answers_move old new (Transmission v n) next malformed sent h = ends_move old new [] (Transmission v n) next sent h
+  answers_move old new (Transmission v n (Listens x)) next (client_flags y) sent h = absurd h
+  answers_move old new (Transmission v n (Listens x)) next (client_option o q) sent h = absurd h
+  answers_move old new (Transmission v n (Listens x)) next (command r q) sent h = serves_move old new (verdict_in x n r) v n x r q sent next (long_is_extended x n r) h
+  answers_move old new (Transmission v n (Listens x)) next malformed sent h = ends_move old new [] (Transmission v n (Listens x)) next sent h
+  answers_move old new (Transmission v n (Works r)) next m sent h = absurd h
   answers_move old new Ended next (client_flags y) sent h = absurd h
   answers_move old new Ended next (client_option o q) sent h = absurd h
   answers_move old new Ended next (command r q) sent h = absurd h
@@ -405,15 +466,15 @@ module _ {D : Type 0} (view : View D) (laws : ViewLaws view) where
     more : KeepsSizes view old new
 
   same_phase : (phase : Phase) → Follows phase phase
-  same_phase Flags = tt
+  same_phase (Flags a) = refl
   same_phase (Options z) = refl
-  same_phase (Transmission v n) = (refl, refl)
+  same_phase (Transmission v n c) = (refl, refl, refl)
   same_phase Ended = tt
 
   same_between : (phase : Phase) (holds : FinMap nat_cmp ℕ) → HoldsFollow phase phase holds holds
-  same_between Flags holds = refl
+  same_between (Flags a) holds = refl
   same_between (Options z) holds = refl
-  same_between (Transmission v n) holds = refl
+  same_between (Transmission v n c) holds = refl
   same_between Ended holds = refl
 
   -- a session that stays where it is
@@ -423,27 +484,144 @@ module _ {D : Type 0} (view : View D) (laws : ViewLaws view) where
       let Q : D → Type 0 = λ d. Stands old d phase phase in
       subst P (sym at) (subst Q (sym e) (record { geometry = refl; holds = same_between phase (view.outline old).holds; ready = ready; follows = same_phase phase; more = same_sizes old old refl }))
 
+  moves_stand : (old new : D) (phase next : Phase) → Moves old new phase next → IsReady phase (view.outline old) (view.more old) → Stands old new phase next
+  moves_stand old new phase next m ready = record {
+    geometry = m.geometry;
+    holds = m.holds;
+    ready = ready_after (view.outline old) (view.outline new) (view.more old) (view.more new) phase next m.follows m.geometry m.holds m.more m.knows ready;
+    follows = m.follows;
+    more = m.more;
+  }
+
+  deaf_stands : (phase : Phase) (old new : D) (from to : State) (piece sent : List ℕ) (taken : ℕ) (ended : Bool) → from.phase ≡ phase
+      → IsDeaf view.outline (PoolCall view) phase from old piece taken sent ended to new → IsReady phase (view.outline old) (view.more old) → Stands old new phase to.phase
+  deaf_stands (Transmission v n (Works r)) old new from to piece sent taken ended e h ready = moves_stand old new (Transmission v n (Works r)) to.phase (part_moves old new v n r sent to.phase h.part) ready
+  deaf_stands Ended old new from to piece sent taken ended e h ready = stays_there old new Ended to.phase (h.phase_is ∙ e) h.pool_is ready
+  deaf_stands (Flags a) old new from to piece sent taken ended e h ready = absurd h
+  deaf_stands (Options z) old new from to piece sent taken ended e h ready = absurd h
+  deaf_stands (Transmission v n (Listens x)) old new from to piece sent taken ended e h ready = absurd h
+
   stands_by : (o : Option Kind) (old new : D) (from to : State) (piece sent : List ℕ) (taken : ℕ) (ended : Bool)
-      → MatchOption o (IsOver view.outline (PoolCall view) from old piece taken sent ended to new)
+      → MatchOption o (IsDeaf view.outline (PoolCall view) from.phase from old piece taken sent ended to new)
       (λ kind. Waits view.outline (PoolCall view) kind from old piece taken sent ended to new ⊎ TakesFrame view.outline (PoolCall view) kind from old piece taken sent ended to new)
       → IsReady from.phase (view.outline old) (view.more old) → Stands old new from.phase to.phase
-  stands_by None old new from to piece sent taken ended h ready = stays_there old new from.phase to.phase h.phase_is h.pool_is ready
+  stands_by None old new from to piece sent taken ended h ready = deaf_stands from.phase old new from to piece sent taken ended refl h ready
   stands_by (Some kind) old new from to piece sent taken ended (inl h) ready = stays_there old new from.phase to.phase h.phase_is h.pool_is ready
-  stands_by (Some kind) old new from to piece sent taken ended (inr h) ready =
-      let m = answers_move old new from.phase to.phase h.message sent h.answer in
-      record { geometry = m.geometry; holds = m.holds; ready = ready_after (view.outline old) (view.outline new) (view.more old) (view.more new) from.phase to.phase m.follows m.geometry m.holds m.more m.knows ready; follows = m.follows; more = m.more }
+  stands_by (Some kind) old new from to piece sent taken ended (inr h) ready = moves_stand old new from.phase to.phase (answers_move old new from.phase to.phase h.message sent h.answer) ready
+
+  -- how much is taken
+  deaf_taken : (phase : Phase) (old new : D) (from to : State) (piece sent : List ℕ) (taken : ℕ) (ended : Bool)
+      → IsDeaf view.outline (PoolCall view) phase from old piece taken sent ended to new → (0 < length piece → is_at_work phase ≡ false → 0 < taken) × (taken ≤ length piece)
+  deaf_taken (Transmission v n (Works r)) old new from to piece sent taken ended h = let e = h.taken_is in ((λ lt w. absurd cc), omega arith)
+  deaf_taken Ended old new from to piece sent taken ended h = let e = h.taken_is in ((λ lt w. omega arith), omega arith)
+  deaf_taken (Flags a) old new from to piece sent taken ended h = absurd h
+  deaf_taken (Options z) old new from to piece sent taken ended h = absurd h
+  deaf_taken (Transmission v n (Listens x)) old new from to piece sent taken ended h = absurd h
 
   taken_by : (o : Option Kind) (old new : D) (from to : State) (piece sent : List ℕ) (taken : ℕ) (ended : Bool)
-      → MatchOption o (IsOver view.outline (PoolCall view) from old piece taken sent ended to new)
+      → MatchOption o (IsDeaf view.outline (PoolCall view) from.phase from old piece taken sent ended to new)
       (λ kind. Waits view.outline (PoolCall view) kind from old piece taken sent ended to new ⊎ TakesFrame view.outline (PoolCall view) kind from old piece taken sent ended to new)
-      → (0 < length piece → 0 < taken) × (taken ≤ length piece)
-  taken_by None old new from to piece sent taken ended h = let e = h.taken_is in ((λ lt. omega arith), omega arith)
-  taken_by (Some kind) old new from to piece sent taken ended (inl h) = let e = h.taken_is in ((λ lt. omega arith), omega arith)
-  taken_by (Some kind) old new from to piece sent taken ended (inr h) = ((λ lt. h.some), h.inside)
+      → (0 < length piece → is_at_work from.phase ≡ false → 0 < taken) × (taken ≤ length piece)
+  taken_by None old new from to piece sent taken ended h = deaf_taken from.phase old new from to piece sent taken ended h
+  taken_by (Some kind) old new from to piece sent taken ended (inl h) = let e = h.taken_is in ((λ lt w. omega arith), omega arith)
+  taken_by (Some kind) old new from to piece sent taken ended (inr h) = ((λ lt w. h.some), h.inside)
+
+  -- ---- nothing is sent where parts of a request are left
+
+  elsewhere : (next to : Phase) → next ≡ to → is_at_work to ≡ false → is_at_work next ≡ true → ⊥
+  elsewhere next to e idle w = let same : is_at_work next ≡ is_at_work to = ap is_at_work e in absurd cc
+
+  serves_quiet : (old new : D) (d : Verdict) (v n : ℕ) (x : Bool) (r : Request) (payload sent : List ℕ) (next : Phase)
+      → Serves view.outline (PoolCall view) d v n x r payload old sent next new → is_at_work next ≡ true → sent ≡ []
+  serves_quiet old new verdicts.Disconnect v n x r payload sent next h w = absurd (elsewhere next Ended h.1 refl w)
+  serves_quiet old new (verdicts.Refuse e) v n x r payload sent next h w = absurd (elsewhere next (Transmission v n (Listens x)) h.1 refl w)
+  serves_quiet old new verdicts.Nothing v n x r payload sent next h w = absurd (elsewhere next (Transmission v n (Listens x)) h.1 refl w)
+  serves_quiet old new verdicts.Read v n x r payload sent next h w = absurd (elsewhere next (Transmission v n (Listens x)) h.1 refl w)
+  serves_quiet old new verdicts.Write v n x r payload sent next h w = absurd (elsewhere next (Transmission v n (Listens x)) h.1 refl w)
+  serves_quiet old new verdicts.Trim v n x r payload sent next h w = absurd (elsewhere next (Transmission v n (Listens x)) h.1 refl w)
+  serves_quiet old new verdicts.WriteZeroes v n x r payload sent next h w = absurd (elsewhere next (Transmission v n (Listens x)) h.1 refl w)
+  serves_quiet old new verdicts.Flush v n x r payload sent next h w = absurd (elsewhere next (Transmission v n (Listens x)) h.1 refl w)
+  serves_quiet old new verdicts.Long v n x r payload sent next h w = h.0
+
+  flags_idle : (a : Profile) (next : Phase) → Follows (Flags a) next → is_at_work next ≡ true → ⊥
+  flags_idle a (Flags b) f w = absurd cc
+  flags_idle a (Options z) f w = absurd cc
+  flags_idle a (Transmission v n c) f w = f
+  flags_idle a Ended f w = absurd cc
+
+  options_idle : (z : Terms) (next : Phase) → Follows (Options z) next → is_at_work next ≡ true → ⊥
+  options_idle z (Flags a) f w = f
+  options_idle z (Options y) f w = absurd cc
+  options_idle z (Transmission v n c) f w = elsewhere (Transmission v n c) (Transmission v n (Listens (is_extended z.profile))) (ap (λ (d : Course). Transmission v n d) f) refl w
+  options_idle z Ended f w = absurd cc
+
+  answers_quiet : (old new : D) (phase next : Phase) (m : Message) (sent : List ℕ) → Answers view.outline (PoolCall view) phase m old sent next new → is_at_work next ≡ true → sent ≡ []
+  answers_quiet old new (Flags a) next m sent h w = absurd (flags_idle a next (answers_move old new (Flags a) next m sent h).follows w)
+  answers_quiet old new (Options z) next m sent h w = absurd (options_idle z next (answers_move old new (Options z) next m sent h).follows w)
+  answers_quiet old new (Transmission v n (Listens x)) next (client_flags y) sent h w = absurd h
+  answers_quiet old new (Transmission v n (Listens x)) next (client_option o q) sent h w = absurd h
+  answers_quiet old new (Transmission v n (Listens x)) next (command r q) sent h w = serves_quiet old new (verdict_in x n r) v n x r q sent next h w
+  answers_quiet old new (Transmission v n (Listens x)) next malformed sent h w = h.0
+  answers_quiet old new (Transmission v n (Works r)) next m sent h w = absurd h
+  answers_quiet old new Ended next (client_flags y) sent h w = absurd h
+  answers_quiet old new Ended next (client_option o q) sent h w = absurd h
+  answers_quiet old new Ended next (command r q) sent h w = absurd h
+  answers_quiet old new Ended next malformed sent h w = h.0
+
+  made_quiet : (v n : ℕ) (r rest : Request) (last : Bool) (answer : Answer) (sent : List ℕ) (next : Phase) → IsMade v n r rest last answer sent next → is_at_work next ≡ true → sent ≡ []
+  made_quiet v n r rest true Done sent next h w = absurd (elsewhere next (Transmission v n (Listens true)) h.1 refl w)
+  made_quiet v n r rest false Done sent next h w = h.0
+  made_quiet v n r rest last (Gave sectors) sent next h w = absurd (elsewhere next (Transmission v n (Listens true)) h.1 refl w)
+  made_quiet v n r rest last (Line bytes) sent next h w = absurd (elsewhere next (Transmission v n (Listens true)) h.1 refl w)
+  made_quiet v n r rest last (Found id) sent next h w = absurd (elsewhere next (Transmission v n (Listens true)) h.1 refl w)
+  made_quiet v n r rest last (Sized blocks) sent next h w = absurd (elsewhere next (Transmission v n (Listens true)) h.1 refl w)
+  made_quiet v n r rest last (Refused reason) sent next h w = absurd (elsewhere next (Transmission v n (Listens true)) h.1 refl w)
+
+  deaf_quiet : (phase : Phase) (old new : D) (from to : State) (piece sent : List ℕ) (taken : ℕ) (ended : Bool)
+      → IsDeaf view.outline (PoolCall view) phase from old piece taken sent ended to new → is_at_work to.phase ≡ true → sent ≡ []
+  deaf_quiet (Transmission v n (Works r)) old new from to piece sent taken ended h w = made_quiet v n r _ _ h.part.answer sent to.phase h.part.is_made w
+  deaf_quiet Ended old new from to piece sent taken ended h w = h.sent_is
+  deaf_quiet (Flags a) old new from to piece sent taken ended h w = absurd h
+  deaf_quiet (Options z) old new from to piece sent taken ended h w = absurd h
+  deaf_quiet (Transmission v n (Listens x)) old new from to piece sent taken ended h w = absurd h
+
+  quiet_by : (o : Option Kind) (old new : D) (from to : State) (piece sent : List ℕ) (taken : ℕ) (ended : Bool)
+      → MatchOption o (IsDeaf view.outline (PoolCall view) from.phase from old piece taken sent ended to new)
+      (λ kind. Waits view.outline (PoolCall view) kind from old piece taken sent ended to new ⊎ TakesFrame view.outline (PoolCall view) kind from old piece taken sent ended to new)
+      → is_at_work to.phase ≡ true → sent ≡ []
+  quiet_by None old new from to piece sent taken ended h w = deaf_quiet from.phase old new from to piece sent taken ended h w
+  quiet_by (Some kind) old new from to piece sent taken ended (inl h) w = h.sent_is
+  quiet_by (Some kind) old new from to piece sent taken ended (inr h) w = answers_quiet old new from.phase to.phase h.message sent h.answer w
+
+  -- parts of a request end no session
+  deaf_open : (phase : Phase) (old new : D) (from to : State) (piece sent : List ℕ) (taken : ℕ) (ended : Bool)
+      → IsDeaf view.outline (PoolCall view) phase from old piece taken sent ended to new → is_at_work phase ≡ true → has_ended to.phase ≡ false
+  deaf_open (Transmission v n (Works r)) old new from to piece sent taken ended h w =
+      let next = made_next v n r _ _ h.part.answer sent to.phase h.part.is_made in
+      ap has_ended next.1
+  deaf_open Ended old new from to piece sent taken ended h w = absurd cc
+  deaf_open (Flags a) old new from to piece sent taken ended h w = absurd h
+  deaf_open (Options z) old new from to piece sent taken ended h w = absurd h
+  deaf_open (Transmission v n (Listens x)) old new from to piece sent taken ended h w = absurd h
+
+  working_speaks_not : (phase : Phase) (kind : Kind) → kind_of phase ≡ Some kind → is_at_work phase ≡ true → ⊥
+  working_speaks_not (Flags a) kind e w = absurd cc
+  working_speaks_not (Options z) kind e w = absurd cc
+  working_speaks_not (Transmission v n (Listens x)) kind e w = absurd cc
+  working_speaks_not (Transmission v n (Works r)) kind e w = absurd cc
+  working_speaks_not Ended kind e w = absurd cc
+
+  open_by : (o : Option Kind) (old new : D) (from to : State) (piece sent : List ℕ) (taken : ℕ) (ended : Bool) → kind_of from.phase ≡ o
+      → MatchOption o (IsDeaf view.outline (PoolCall view) from.phase from old piece taken sent ended to new)
+      (λ kind. Waits view.outline (PoolCall view) kind from old piece taken sent ended to new ⊎ TakesFrame view.outline (PoolCall view) kind from old piece taken sent ended to new)
+      → is_at_work from.phase ≡ true → has_ended to.phase ≡ false
+  open_by None old new from to piece sent taken ended e h w = deaf_open from.phase old new from to piece sent taken ended h w
+  open_by (Some kind) old new from to piece sent taken ended e h w = absurd (working_speaks_not from.phase kind e w)
 
   pub advances : (old new : D) (from to : State) (piece sent : List ℕ) (taken : ℕ) (ended : Bool) → IsReady from.phase (view.outline old) (view.more old) → IsCalm to
+      → left_in to.phase < 4294967296 → (is_at_work from.phase ≡ true → left_in to.phase < left_in from.phase)
       → Steps view.outline (PoolCall view) from old piece taken sent ended to new → Advances view from old piece taken sent ended to new
-  advances old new from to piece sent taken ended ready calm h =
+  advances old new from to piece sent taken ended ready calm few works h =
       let m = stands_by (kind_of from.phase) old new from to piece sent taken ended h ready in
       let t = taken_by (kind_of from.phase) old new from to piece sent taken ended h in
       record {
@@ -452,6 +630,10 @@ module _ {D : Type 0} (view : View D) (laws : ViewLaws view) where
             let x = steps_likewise view.outline (PoolCall view) outline_of_traced (TracedCall view.has_use) (GoesFrom root s old t) (traced_outline root s old t) (traced_call root s old t) old new t (from_here root s old t has) from to piece sent taken ended h in
             (x.0, x.1, x.2.0, x.2.1);
         moves = t.0;
+        silent = quiet_by (kind_of from.phase) old new from to piece sent taken ended h;
+        works = works;
+        few = few;
+        goes_on = open_by (kind_of from.phase) old new from to piece sent taken ended refl h;
         inside = t.1;
         calm = calm;
         ready = m.ready;
@@ -463,15 +645,18 @@ module _ {D : Type 0} (view : View D) (laws : ViewLaws view) where
 
   -- a step, where there is one, of a session that holds nothing, and after which it and the pool are as before
   pub advances_still : (o : Option Answered) (at : State) (phase : Phase) (filled : ℕ) (input : List ℕ) (pool : D) (piece : List ℕ) (sent : ℕ → List ℕ) → state phase (take filled input) ≡ at → filled ≤ 0
+      → left_in phase < 4294967296 → IfSome o (λ a. is_at_work phase ≡ false)
       → IsReady at.phase (view.outline pool) (view.more pool) → IfSome o (λ a. Steps view.outline (PoolCall view) (state phase []) pool piece a.taken (sent a.sent) a.ended (state phase []) pool)
       → IfSome o (λ a. Advances view at pool piece a.taken (sent a.sent) a.ended at pool)
-  advances_still None at phase filled input pool piece sent is none ready h = tt
-  advances_still (Some a) at phase filled input pool piece sent is none ready h =
+  advances_still None at phase filled input pool piece sent is none few idle ready h = tt
+  advances_still (Some a) at phase filled input pool piece sent is none few idle ready h =
       let e : filled ≡ 0 = omega (arith, none) in
       let at_is : state phase [] ≡ at = ap (λ (n : ℕ). state phase (take n input)) (sym e) ∙ is in
       let P : State → Type 0 = λ s. Steps view.outline (PoolCall view) s pool piece a.taken (sent a.sent) a.ended s pool in
+      let Q : State → Type 0 = λ s. left_in s.phase < 4294967296 in
+      let W : State → Type 0 = λ s. is_at_work s.phase ≡ true → left_in s.phase < left_in s.phase in
       let calm : IsCalm (state phase []) = calm_state phase 0 [] (omega arith) (wanted_at_start phase) in
-      advances pool pool at at piece (sent a.sent) a.taken a.ended ready (subst IsCalm at_is calm) (subst P at_is h)
+      advances pool pool at at piece (sent a.sent) a.taken a.ended ready (subst IsCalm at_is calm) (subst Q at_is few) (subst W at_is (λ w. absurd cc)) (subst P at_is h)
 
   pub leaves : (phase : Phase) (old new : D) → LetsGo view.outline (PoolCall view) phase old new → Leaves view phase old new
   leaves phase old new h =

@@ -1,5 +1,5 @@
 -- How often a volume is held, before and after a session begins to hold one, or ends.
-use Rattle.std.proofs.Common.{◌≡◌, ◌≢◌, ℕ, ◌+◌, ◌-◌, ◌<◌, ◌≤◌, ◌==◌, Bool, cond, Option, Some, None, inl, inr, refl, sym, ap, subst, ◌∙◌, arith}
+use Rattle.std.proofs.Common.{◌≡◌, ◌≢◌, ℕ, ◌+◌, ◌-◌, ◌<◌, ◌≤◌, ◌==◌, Bool, false, cond, Option, Some, None, inl, inr, refl, sym, ap, subst, ◌∙◌, arith}
 use Rattle.std.specs.Prelude.{if◌then◌else◌}
 use Rattle.std.specs.Option.{unwrap_or}
 use Rattle.std.specs.Ordering.{nat_cmp}
@@ -8,6 +8,8 @@ use Rattle.std.proofs.lemmas.Bool.{cases_eq, cases_lt, eq-eqb, le-leb, lt-leb, n
 use Rattle.tp_model.specs.Pool.{hold_count}
 use Rattle.tp_model.specs.Calls.{Done, Hold, LetGo, holds_after}
 use Rattle.tp_model.proofs.Maps.{get_insert, get_remove}
+use Rattle.nbd_session.specs.declared.phase.Course.{Course}
+use Rattle.nbd_session.specs.declared.phase.Course.TheVariants.{Listens}
 use Rattle.nbd_session.specs.declared.phase.Phase.{Phase}
 use Rattle.nbd_session.specs.declared.phase.Phase.TheVariants.{Flags, Options, Transmission, Ended}
 use Rattle.nbd_session.specs.Clauses.{Follows, HoldsFollow, held_beside}
@@ -63,34 +65,34 @@ less_other h v i ne = elim (cases_lt 1 (hold_count h v)) [
 abbrev without : FinMap nat_cmp ℕ → ℕ → Bool → ℕ
 without h i b = if b then hold_count h i - 1 else hold_count h i
 
-beside_same : (v n i : ℕ) (h : FinMap nat_cmp ℕ) → v ≡ i → held_beside (Transmission v n) h i ≡ hold_count h v - 1
-beside_same v n i h e = ap (without h i) (eq-eqb v i e) ∙ ap (λ j. hold_count h j - 1) (sym e)
+beside_same : (v n i : ℕ) (c : Course) (h : FinMap nat_cmp ℕ) → v ≡ i → held_beside (Transmission v n c) h i ≡ hold_count h v - 1
+beside_same v n i c h e = ap (without h i) (eq-eqb v i e) ∙ ap (λ j. hold_count h j - 1) (sym e)
 
-beside_other : (v n i : ℕ) (h : FinMap nat_cmp ℕ) → v ≢ i → held_beside (Transmission v n) h i ≡ hold_count h i
-beside_other v n i h ne = ap (without h i) (ne_eqb v i ne)
+beside_other : (v n i : ℕ) (c : Course) (h : FinMap nat_cmp ℕ) → v ≢ i → held_beside (Transmission v n c) h i ≡ hold_count h i
+beside_other v n i c h ne = ap (without h i) (ne_eqb v i ne)
 
-entered : (v n i : ℕ) (h : FinMap nat_cmp ℕ) → held_beside (Transmission v n) (holds_after h (Hold v) Done) i ≡ hold_count h i
-entered v n i h = elim (cases_eq v i) [
+entered : (v n i : ℕ) (c : Course) (h : FinMap nat_cmp ℕ) → held_beside (Transmission v n c) (holds_after h (Hold v) Done) i ≡ hold_count h i
+entered v n i c h = elim (cases_eq v i) [
   | inl e ↦
       let here : hold_count h v ≡ hold_count h i = ap (hold_count h) e in
-      omega (arith, beside_same v n i (holds_after h (Hold v) Done) e, one_more h v, here)
-  | inr ne ↦ beside_other v n i (holds_after h (Hold v) Done) ne ∙ more_other h v i (λ e. ne (sym e))
+      omega (arith, beside_same v n i c (holds_after h (Hold v) Done) e, one_more h v, here)
+  | inr ne ↦ beside_other v n i c (holds_after h (Hold v) Done) ne ∙ more_other h v i (λ e. ne (sym e))
 ]
 
-left : (v n i : ℕ) (h : FinMap nat_cmp ℕ) → hold_count (holds_after h (LetGo v) Done) i ≡ held_beside (Transmission v n) h i
-left v n i h = elim (cases_eq v i) [
-  | inl e ↦ ap (hold_count (holds_after h (LetGo v) Done)) (sym e) ∙ (one_less h v ∙ sym (beside_same v n i h e))
-  | inr ne ↦ less_other h v i (λ e. ne (sym e)) ∙ sym (beside_other v n i h ne)
+left : (v n i : ℕ) (c : Course) (h : FinMap nat_cmp ℕ) → hold_count (holds_after h (LetGo v) Done) i ≡ held_beside (Transmission v n c) h i
+left v n i c h = elim (cases_eq v i) [
+  | inl e ↦ ap (hold_count (holds_after h (LetGo v) Done)) (sym e) ∙ (one_less h v ∙ sym (beside_same v n i c h e))
+  | inr ne ↦ less_other h v i (λ e. ne (sym e)) ∙ sym (beside_other v n i c h ne)
 ]
 
 at_most : (phase : Phase) (h : FinMap nat_cmp ℕ) (i : ℕ) → held_beside phase h i ≤ hold_count h i
-at_most Flags h i = omega arith
+at_most (Flags a) h i = omega arith
 at_most (Options z) h i = omega arith
-at_most (Transmission v n) h i = elim (cases_eq v i) [
+at_most (Transmission v n c) h i = elim (cases_eq v i) [
   | inl e ↦
       let here : hold_count h v ≡ hold_count h i = ap (hold_count h) e in
-      omega (arith, beside_same v n i h e, here)
-  | inr ne ↦ omega (arith, beside_other v n i h ne)
+      omega (arith, beside_same v n i c h e, here)
+  | inr ne ↦ omega (arith, beside_other v n i c h ne)
 ]
 at_most Ended h i = omega arith
 
@@ -99,22 +101,22 @@ held_there phase h i some = omega (arith, some, at_most phase h i)
 
 -- one frame changes nothing of what others hold
 pub beside_stays : (phase next : Phase) (h h' : FinMap nat_cmp ℕ) (i : ℕ) → Follows phase next → HoldsFollow phase next h h' → held_beside next h' i ≡ held_beside phase h i
-beside_stays Flags Flags h h' i f e = ap (λ (m : FinMap nat_cmp ℕ). hold_count m i) e
-beside_stays Flags (Options z) h h' i f e = ap (λ (m : FinMap nat_cmp ℕ). hold_count m i) e
-beside_stays Flags (Transmission v n) h h' i f e = absurd f
-beside_stays Flags Ended h h' i f e = ap (λ (m : FinMap nat_cmp ℕ). hold_count m i) e
-beside_stays (Options z) Flags h h' i f e = absurd f
+beside_stays (Flags a) (Flags b) h h' i f e = ap (λ (m : FinMap nat_cmp ℕ). hold_count m i) e
+beside_stays (Flags a) (Options z) h h' i f e = ap (λ (m : FinMap nat_cmp ℕ). hold_count m i) e
+beside_stays (Flags a) (Transmission v n c) h h' i f e = absurd f
+beside_stays (Flags a) Ended h h' i f e = ap (λ (m : FinMap nat_cmp ℕ). hold_count m i) e
+beside_stays (Options z) (Flags a) h h' i f e = absurd f
 beside_stays (Options z) (Options y) h h' i f e = ap (λ (m : FinMap nat_cmp ℕ). hold_count m i) e
-beside_stays (Options z) (Transmission v n) h h' i f e = ap (λ (m : FinMap nat_cmp ℕ). held_beside (Transmission v n) m i) e ∙ entered v n i h
+beside_stays (Options z) (Transmission v n c) h h' i f e = ap (λ (m : FinMap nat_cmp ℕ). held_beside (Transmission v n c) m i) e ∙ entered v n i c h
 beside_stays (Options z) Ended h h' i f (inl e) = ap (λ (m : FinMap nat_cmp ℕ). hold_count m i) e
 beside_stays (Options z) Ended h h' i f (inr (v, e)) =
-    ap (λ (m : FinMap nat_cmp ℕ). hold_count m i) e ∙ (left v 0 i (holds_after h (Hold v) Done) ∙ entered v 0 i h)
-beside_stays (Transmission v n) Flags h h' i f e = absurd f
-beside_stays (Transmission v n) (Options z) h h' i f e = absurd f
-beside_stays (Transmission v n) (Transmission w m) h h' i f e =
-    ap (λ (x : FinMap nat_cmp ℕ). held_beside (Transmission w m) x i) e ∙ ap (λ (x : ℕ). without h i (x == i)) (sym f.0)
-beside_stays (Transmission v n) Ended h h' i f e = ap (λ (m : FinMap nat_cmp ℕ). hold_count m i) e ∙ left v n i h
-beside_stays Ended Flags h h' i f e = absurd f
+    ap (λ (m : FinMap nat_cmp ℕ). hold_count m i) e ∙ (left v 0 i (Listens false) (holds_after h (Hold v) Done) ∙ entered v 0 i (Listens false) h)
+beside_stays (Transmission v n c) (Flags a) h h' i f e = absurd f
+beside_stays (Transmission v n c) (Options z) h h' i f e = absurd f
+beside_stays (Transmission v n c) (Transmission w m d) h h' i f e =
+    ap (λ (x : FinMap nat_cmp ℕ). held_beside (Transmission w m d) x i) e ∙ ap (λ (x : ℕ). without h i (x == i)) (sym f.0)
+beside_stays (Transmission v n c) Ended h h' i f e = ap (λ (m : FinMap nat_cmp ℕ). hold_count m i) e ∙ left v n i c h
+beside_stays Ended (Flags a) h h' i f e = absurd f
 beside_stays Ended (Options z) h h' i f e = absurd f
-beside_stays Ended (Transmission v n) h h' i f e = absurd f
+beside_stays Ended (Transmission v n c) h h' i f e = absurd f
 beside_stays Ended Ended h h' i f e = ap (λ (m : FinMap nat_cmp ℕ). hold_count m i) e

@@ -11,12 +11,14 @@ use Rattle.nbd_wire.specs.declared.TheConstants.{OPTION_ABORT, OPTION_EXPORT_NAM
 use Rattle.nbd_wire.specs.declared.writing.ReplyType.TheVariants.{Acknowledged, Invalid, Unsupported}
 use Rattle.nbd_wire.specs.Replies.{option_reply}
 use Rattle.nbd_wire.specs.Grammar.{Message, client_flags, client_option, command, malformed}
+use Rattle.nbd_session.specs.declared.phase.Course.TheVariants.{Listens, Works}
+use Rattle.nbd_session.specs.declared.phase.Terms.{Terms}
 use Rattle.nbd_session.specs.declared.phase.Phase.{Phase}
 use Rattle.nbd_session.specs.declared.phase.Phase.TheVariants.{Flags, Options, Transmission, Ended}
 use Rattle.nbd_session.specs.declared.request.Verdict.{Verdict}
 use Rattle.nbd_session.specs.declared.request.Verdict.TheVariants as verdicts
-use Rattle.nbd_session.specs.Requests.{bytes_of_blocks, verdict_on}
-use Rattle.nbd_session.specs.Session.{State, Outcome, outcome, option_error, VolumeOption, export_name, go, info, kind_of, transmission_flags, LetsGo, Ends, Tells, Performs, Serves, IsSized, Sizes, IsHeld, Holds, Enters, Finds, AsksFor, LooksFor, is_there, IsInvalid, IsValid, Informs, Exports, Finding, IsEnough, IsLast, IsRefused, Lists, NamesAll, NamesNone, Answers, Waits, TakesFrame, IsOver, Steps}
+use Rattle.nbd_session.specs.Requests.{bytes_of_blocks, is_last, part_call, rest_of, verdict_in}
+use Rattle.nbd_session.specs.Session.{State, Outcome, outcome, option_error, VolumeOption, export_name, go, info, kind_of, transmission_flags, terms_of, LetsGo, Ends, Tells, Performs, Serves, IsMade, MakesPart, IsDeaf, IsSized, Sizes, IsHeld, Holds, Enters, Finds, AsksFor, LooksFor, is_there, IsInvalid, IsValid, Informs, Exports, Finding, IsEnough, IsLast, IsRefused, Lists, NamesAll, NamesNone, Answers, Waits, TakesFrame, Steps}
 
 -- Calls of one kind of pool, and Calls' of another. R: what stands between them, and goes on from call to call.
 module _ {D B : Type 0} (outline : D → Outline) (Calls : D → Call → Answer → D → Type 0) (outline' : B → Outline) (Calls' : B → Call → Answer → B → Type 0) (R : D → B → Type 0)
@@ -128,9 +130,9 @@ module _ {D B : Type 0} (outline : D → Outline) (Calls : D → Call → Answer
     call_likewise call answer h = call_follows old new s call answer is_shown h
 
     pub lets_go_likewise : (phase : Phase) → LetsGo outline Calls phase old new → Likewise (LetsGo outline' Calls' phase s) new
-    lets_go_likewise Flags h = resting _ old new s h is_shown refl
+    lets_go_likewise (Flags a) h = resting _ old new s h is_shown refl
     lets_go_likewise (Options z) h = resting _ old new s h is_shown refl
-    lets_go_likewise (Transmission v n) h = call_likewise (LetGo v) Done h
+    lets_go_likewise (Transmission v n c) h = call_likewise (LetGo v) Done h
     lets_go_likewise Ended h = resting _ old new s h is_shown refl
 
     ends_likewise : (last : List ℕ) (phase next : Phase) (sent : List ℕ) → Ends outline Calls last phase old sent next new → Likewise (Ends outline' Calls' last phase s sent next) new
@@ -139,23 +141,31 @@ module _ {D B : Type 0} (outline : D → Outline) (Calls : D → Call → Answer
     performs_likewise : (call : Call) (cookie : ℕ) (sent : List ℕ) → Performs outline Calls call cookie old sent new → Likewise (Performs outline' Calls' call cookie s sent) new
     performs_likewise call cookie sent h = let m = call_likewise call h.answer h.calls in (m.0, record { answer = h.answer; calls = m.1; sent_is = h.sent_is }, m.2)
 
-    performed : (call : Call) (cookie v n : ℕ) (sent : List ℕ) (next : Phase) → Performs outline Calls call cookie old sent new × (next ≡ Transmission v n)
-        → Likewise (λ s'. Performs outline' Calls' call cookie s sent s' × (next ≡ Transmission v n)) new
-    performed call cookie v n sent next h = let m = performs_likewise call cookie sent h.0 in (m.0, (m.1, h.1), m.2)
+    performed : (call : Call) (cookie v n : ℕ) (x : Bool) (sent : List ℕ) (next : Phase) → Performs outline Calls call cookie old sent new × (next ≡ Transmission v n (Listens x))
+        → Likewise (λ s'. Performs outline' Calls' call cookie s sent s' × (next ≡ Transmission v n (Listens x))) new
+    performed call cookie v n x sent next h = let m = performs_likewise call cookie sent h.0 in (m.0, (m.1, h.1), m.2)
 
     tells_likewise : (o : Outcome) (sent : List ℕ) (next : Phase) → Tells outline Calls o old sent next new → Likewise (Tells outline' Calls' o s sent next) new
     tells_likewise o sent next h = resting _ old new s h.2 is_shown (h.0, h.1, refl)
 
-    serves_likewise : (d : Verdict) (v n : ℕ) (r : Request) (payload sent : List ℕ) (next : Phase) → Serves outline Calls d v n r payload old sent next new
-        → Likewise (Serves outline' Calls' d v n r payload s sent next) new
-    serves_likewise verdicts.Disconnect v n r payload sent next h = ends_likewise [] (Transmission v n) next sent h
-    serves_likewise (verdicts.Refuse e) v n r payload sent next h = tells_likewise _ sent next h
-    serves_likewise verdicts.Nothing v n r payload sent next h = tells_likewise _ sent next h
-    serves_likewise verdicts.Read v n r payload sent next h = performed _ r.cookie v n sent next h
-    serves_likewise verdicts.Write v n r payload sent next h = performed _ r.cookie v n sent next h
-    serves_likewise verdicts.Trim v n r payload sent next h = performed _ r.cookie v n sent next h
-    serves_likewise verdicts.WriteZeroes v n r payload sent next h = performed _ r.cookie v n sent next h
-    serves_likewise verdicts.Flush v n r payload sent next h = performed _ r.cookie v n sent next h
+    serves_likewise : (d : Verdict) (v n : ℕ) (x : Bool) (r : Request) (payload sent : List ℕ) (next : Phase) → Serves outline Calls d v n x r payload old sent next new
+        → Likewise (Serves outline' Calls' d v n x r payload s sent next) new
+    serves_likewise verdicts.Disconnect v n x r payload sent next h = ends_likewise [] (Transmission v n (Listens x)) next sent h
+    serves_likewise (verdicts.Refuse e) v n x r payload sent next h = tells_likewise _ sent next h
+    serves_likewise verdicts.Nothing v n x r payload sent next h = tells_likewise _ sent next h
+    serves_likewise verdicts.Read v n x r payload sent next h = performed _ r.cookie v n x sent next h
+    serves_likewise verdicts.Write v n x r payload sent next h = performed _ r.cookie v n x sent next h
+    serves_likewise verdicts.Trim v n x r payload sent next h = performed _ r.cookie v n x sent next h
+    serves_likewise verdicts.WriteZeroes v n x r payload sent next h = performed _ r.cookie v n x sent next h
+    serves_likewise verdicts.Flush v n x r payload sent next h = performed _ r.cookie v n x sent next h
+    serves_likewise verdicts.Long v n x r payload sent next h = tells_likewise _ sent next h
+
+    pub part_likewise : (v n : ℕ) (r : Request) (sent : List ℕ) (next : Phase) → MakesPart outline Calls v n r old sent next new → Likewise (MakesPart outline' Calls' v n r s sent next) new
+    part_likewise v n r sent next h =
+        let P : Geometry → Type 0 = λ g. Likewise (Calls' s (part_call v g r) h.answer) new in
+        let m = subst P (sym same_geometry) (call_likewise (part_call v (outline old).geometry r) h.answer h.calls) in
+        let Q : Geometry → Type 0 = λ g. IsMade v n r (rest_of g r) (is_last g r) h.answer sent next in
+        (m.0, record { answer = h.answer; calls = m.1; is_made = subst Q (sym same_geometry) h.is_made }, m.2)
 
     asks_likewise : (o : VolumeOption) (id : ℕ) (sent : List ℕ) (next : Phase) → AsksFor outline Calls o id old sent next new → Likewise (AsksFor outline' Calls' o id s sent next) new
     asks_likewise o id sent next h =
@@ -169,7 +179,7 @@ module _ {D B : Type 0} (outline : D → Outline) (Calls : D → Call → Answer
     looks_likewise o name sent next (inl h) = let m = tells_likewise o.missing sent next h.tells in (m.0, inl (record { no_id = h.no_id; tells = m.1 }), m.2)
     looks_likewise o name sent next (inr h) = let m = asks_likewise o h.id sent next h.asks in (m.0, inr (record { id = h.id; name_is = h.name_is; asks = m.1 }), m.2)
 
-    informs_by : (b : Bool) (option : ℕ) (o : VolumeOption) (z : Bool) (payload sent : List ℕ) (next : Phase)
+    informs_by : (b : Bool) (option : ℕ) (o : VolumeOption) (z : Terms) (payload sent : List ℕ) (next : Phase)
         → MatchBool b (Ends outline Calls [] (Options z) old sent next new) (IsInvalid outline Calls option z payload old sent next new ⊎ IsValid outline Calls o payload old sent next new)
         → Likewise (λ s'. MatchBool b (Ends outline' Calls' [] (Options z) s sent next s') (IsInvalid outline' Calls' option z payload s sent next s' ⊎ IsValid outline' Calls' o payload s sent next s')) new
     informs_by true option o z payload sent next h = ends_likewise [] (Options z) next sent h
@@ -178,24 +188,24 @@ module _ {D B : Type 0} (outline : D → Outline) (Calls : D → Call → Answer
         let m = looks_likewise o h.name sent next h.looks in
         (m.0, inr (record { name = h.name; types = h.types; info = h.info; looks = m.1 }), m.2)
 
-    informs_likewise : (option : ℕ) (o : VolumeOption) (z : Bool) (payload sent : List ℕ) (next : Phase) → Informs outline Calls option o z payload old sent next new → Likewise (Informs outline' Calls' option o z payload s sent next) new
+    informs_likewise : (option : ℕ) (o : VolumeOption) (z : Terms) (payload sent : List ℕ) (next : Phase) → Informs outline Calls option o z payload old sent next new → Likewise (Informs outline' Calls' option o z payload s sent next) new
     informs_likewise option o z payload sent next h =
         let P : Mode → Type 0 = λ m. Likewise (λ s'. MatchBool (is_failed m) (Ends outline' Calls' [] (Options z) s sent next s')
         (IsInvalid outline' Calls' option z payload s sent next s' ⊎ IsValid outline' Calls' o payload s sent next s')) new in
         subst P (sym (same_mode)) (informs_by (is_failed (outline old).mode) option o z payload sent next h)
 
-    exports_by : (b : Bool) (o : VolumeOption) (z : Bool) (name sent : List ℕ) (next : Phase)
+    exports_by : (b : Bool) (o : VolumeOption) (z : Terms) (name sent : List ℕ) (next : Phase)
         → MatchBool b (Ends outline Calls [] (Options z) old sent next new) (LooksFor outline Calls o name old sent next new)
         → Likewise (λ s'. MatchBool b (Ends outline' Calls' [] (Options z) s sent next s') (LooksFor outline' Calls' o name s sent next s')) new
     exports_by true o z name sent next h = ends_likewise [] (Options z) next sent h
     exports_by false o z name sent next h = looks_likewise o name sent next h
 
-    exports_likewise : (o : VolumeOption) (z : Bool) (name sent : List ℕ) (next : Phase) → Exports outline Calls o z name old sent next new → Likewise (Exports outline' Calls' o z name s sent next) new
+    exports_likewise : (o : VolumeOption) (z : Terms) (name sent : List ℕ) (next : Phase) → Exports outline Calls o z name old sent next new → Likewise (Exports outline' Calls' o z name s sent next) new
     exports_likewise o z name sent next h =
         let P : Mode → Type 0 = λ m. Likewise (λ s'. MatchBool (is_failed m) (Ends outline' Calls' [] (Options z) s sent next s') (LooksFor outline' Calls' o name s sent next s')) new in
         subst P (sym (same_mode)) (exports_by (is_failed (outline old).mode) o z name sent next h)
 
-    names_by : (b : Bool) (z : Bool) (sent : List ℕ) (next : Phase)
+    names_by : (b : Bool) (z : Terms) (sent : List ℕ) (next : Phase)
         → MatchBool b (NamesAll outline Calls z old sent next new ⊎ NamesNone outline Calls old sent next new) (Tells outline Calls (option_error OPTION_LIST Invalid z) old sent next new)
         → Likewise (λ s'. MatchBool b (NamesAll outline' Calls' z s sent next s' ⊎ NamesNone outline' Calls' s sent next s') (Tells outline' Calls' (option_error OPTION_LIST Invalid z) s sent next s')) new
     names_by true z sent next (inl h) =
@@ -212,7 +222,7 @@ module _ {D B : Type 0} (outline : D → Outline) (Calls : D → Call → Answer
           (m.0, inr (record { ids = h.ids; few = h.few; finding = inr (f.0, m.1); sent_is = h.sent_is; next_is = h.next_is }), m.2)
     names_by false z sent next h = tells_likewise (option_error OPTION_LIST Invalid z) sent next h
 
-    lists_by : (b : Bool) (z : Bool) (payload sent : List ℕ) (next : Phase)
+    lists_by : (b : Bool) (z : Terms) (payload sent : List ℕ) (next : Phase)
         → MatchBool b (Ends outline Calls [] (Options z) old sent next new)
         (MatchBool (length payload == 0) (NamesAll outline Calls z old sent next new ⊎ NamesNone outline Calls old sent next new) (Tells outline Calls (option_error OPTION_LIST Invalid z) old sent next new))
         → Likewise (λ s'. MatchBool b (Ends outline' Calls' [] (Options z) s sent next s')
@@ -220,13 +230,13 @@ module _ {D B : Type 0} (outline : D → Outline) (Calls : D → Call → Answer
     lists_by true z payload sent next h = ends_likewise [] (Options z) next sent h
     lists_by false z payload sent next h = names_by (length payload == 0) z sent next h
 
-    lists_likewise : (z : Bool) (payload sent : List ℕ) (next : Phase) → Lists outline Calls z payload old sent next new → Likewise (Lists outline' Calls' z payload s sent next) new
+    lists_likewise : (z : Terms) (payload sent : List ℕ) (next : Phase) → Lists outline Calls z payload old sent next new → Likewise (Lists outline' Calls' z payload s sent next) new
     lists_likewise z payload sent next h =
         let P : Mode → Type 0 = λ m. Likewise (λ s'. MatchBool (is_failed m) (Ends outline' Calls' [] (Options z) s sent next s')
         (MatchBool (length payload == 0) (NamesAll outline' Calls' z s sent next s' ⊎ NamesNone outline' Calls' s sent next s') (Tells outline' Calls' (option_error OPTION_LIST Invalid z) s sent next s'))) new in
         subst P (sym (same_mode)) (lists_by (is_failed (outline old).mode) z payload sent next h)
 
-    chosen_by : (is_go is_info is_export is_list is_abort : Bool) (z : Bool) (option : ℕ) (payload sent : List ℕ) (next : Phase)
+    chosen_by : (is_go is_info is_export is_list is_abort : Bool) (z : Terms) (option : ℕ) (payload sent : List ℕ) (next : Phase)
         → MatchBool is_go (Informs outline Calls OPTION_GO (go z) z payload old sent next new)
         (MatchBool is_info (Informs outline Calls OPTION_INFO (info z) z payload old sent next new)
         (MatchBool is_export (Exports outline Calls (export_name z) z payload old sent next new)
@@ -245,31 +255,42 @@ module _ {D B : Type 0} (outline : D → Outline) (Calls : D → Call → Answer
     chosen_by false false false false false z option payload sent next h = tells_likewise (option_error option Unsupported z) sent next h
 
     pub answers_likewise : (phase next : Phase) (m : Message) (sent : List ℕ) → Answers outline Calls phase m old sent next new → Likewise (Answers outline' Calls' phase m s sent next) new
-    answers_likewise Flags next (client_flags z) sent h = tells_likewise (outcome [] (Options z)) sent next h
-    answers_likewise Flags next (client_option o q) sent h = absurd h
-    answers_likewise Flags next (command r q) sent h = absurd h
-    answers_likewise Flags next malformed sent h = ends_likewise [] Flags next sent h
+    answers_likewise (Flags a) next (client_flags z) sent h = tells_likewise (outcome [] (Options (terms_of a z))) sent next h
+    answers_likewise (Flags a) next (client_option o q) sent h = absurd h
+    answers_likewise (Flags a) next (command r q) sent h = absurd h
+    answers_likewise (Flags a) next malformed sent h = ends_likewise [] (Flags a) next sent h
     answers_likewise (Options z) next (client_flags y) sent h = absurd h
     answers_likewise (Options z) next (client_option o q) sent h = chosen_by (o == OPTION_GO) (o == OPTION_INFO) (o == OPTION_EXPORT_NAME) (o == OPTION_LIST) (o == OPTION_ABORT) z o q sent next h
     answers_likewise (Options z) next (command r q) sent h = absurd h
     answers_likewise (Options z) next malformed sent h = ends_likewise [] (Options z) next sent h
-    answers_likewise (Transmission v n) next (client_flags y) sent h = absurd h
-    answers_likewise (Transmission v n) next (client_option o q) sent h = absurd h
-    answers_likewise (Transmission v n) next (command r q) sent h =
-        serves_likewise (verdict_on n r) v n r q sent next h
-    answers_likewise (Transmission v n) next malformed sent h = ends_likewise [] (Transmission v n) next sent h
+    answers_likewise (Transmission v n (Listens x)) next (client_flags y) sent h = absurd h
+    answers_likewise (Transmission v n (Listens x)) next (client_option o q) sent h = absurd h
+    answers_likewise (Transmission v n (Listens x)) next (command r q) sent h = serves_likewise (verdict_in x n r) v n x r q sent next h
+    answers_likewise (Transmission v n (Listens x)) next malformed sent h = ends_likewise [] (Transmission v n (Listens x)) next sent h
+    answers_likewise (Transmission v n (Works r)) next m sent h = absurd h
     answers_likewise Ended next (client_flags y) sent h = absurd h
     answers_likewise Ended next (client_option o q) sent h = absurd h
     answers_likewise Ended next (command r q) sent h = absurd h
     answers_likewise Ended next malformed sent h = ends_likewise [] Ended next sent h
 
-    steps_by : (o : Option Kind) (from to : State) (piece sent : List ℕ) (taken : ℕ) (ended : Bool)
-        → MatchOption o (IsOver outline Calls from old piece taken sent ended to new)
-        (λ kind. Waits outline Calls kind from old piece taken sent ended to new ⊎ TakesFrame outline Calls kind from old piece taken sent ended to new)
-        → Likewise (λ s'. MatchOption o (IsOver outline' Calls' from s piece taken sent ended to s')
-        (λ kind. Waits outline' Calls' kind from s piece taken sent ended to s' ⊎ TakesFrame outline' Calls' kind from s piece taken sent ended to s')) new
-    steps_by None from to piece sent taken ended h =
+    -- a session that reads no frames
+    deaf_likewise : (phase : Phase) (from to : State) (piece sent : List ℕ) (taken : ℕ) (ended : Bool) → IsDeaf outline Calls phase from old piece taken sent ended to new
+        → Likewise (IsDeaf outline' Calls' phase from s piece taken sent ended to) new
+    deaf_likewise (Transmission v n (Works r)) from to piece sent taken ended h =
+        let m = part_likewise v n r sent to.phase h.part in
+        (m.0, record { part = m.1; none = h.none; taken_is = h.taken_is; ended_is = h.ended_is; held_is = h.held_is }, m.2)
+    deaf_likewise Ended from to piece sent taken ended h =
         resting _ old new s h.pool_is is_shown (record { taken_is = h.taken_is; sent_is = h.sent_is; ended_is = h.ended_is; phase_is = h.phase_is; held_is = h.held_is; pool_is = refl })
+    deaf_likewise (Flags a) from to piece sent taken ended h = absurd h
+    deaf_likewise (Options z) from to piece sent taken ended h = absurd h
+    deaf_likewise (Transmission v n (Listens x)) from to piece sent taken ended h = absurd h
+
+    steps_by : (o : Option Kind) (from to : State) (piece sent : List ℕ) (taken : ℕ) (ended : Bool)
+        → MatchOption o (IsDeaf outline Calls from.phase from old piece taken sent ended to new)
+        (λ kind. Waits outline Calls kind from old piece taken sent ended to new ⊎ TakesFrame outline Calls kind from old piece taken sent ended to new)
+        → Likewise (λ s'. MatchOption o (IsDeaf outline' Calls' from.phase from s piece taken sent ended to s')
+        (λ kind. Waits outline' Calls' kind from s piece taken sent ended to s' ⊎ TakesFrame outline' Calls' kind from s piece taken sent ended to s')) new
+    steps_by None from to piece sent taken ended h = deaf_likewise from.phase from to piece sent taken ended h
     steps_by (Some kind) from to piece sent taken ended (inl h) =
         resting _ old new s h.pool_is is_shown (inl (record { partial = h.partial; taken_is = h.taken_is; sent_is = h.sent_is; ended_is = h.ended_is; phase_is = h.phase_is; held_is = h.held_is; pool_is = refl }))
     steps_by (Some kind) from to piece sent taken ended (inr h) =

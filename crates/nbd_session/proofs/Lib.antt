@@ -12,3 +12,4 @@ pub mod Pieces
 pub mod Places
 pub mod Turning
 pub mod Naming
+pub mod Parting

@@ -1,13 +1,13 @@
 -- The names of volumes: what is read is the number that the name writes, and no other text is a name.
 use Rattle.std.proofs.Common.{◌≡◌, ℕ, ◌^◌, ◌<◌, ◌≤◌, true, false, List, length, get_or, sym, ap, subst, ◌∙◌, arith, inl, inr}
-use Rattle.std.specs.Prelude.{Option, Some, None, MatchOption, IfSome, IfNone}
+use Rattle.std.specs.Prelude.{◌==◌, Option, Some, None, MatchOption, IfSome, IfNone}
 use Rattle.std.specs.Fmt.{decimal}
 use Rattle.std.specs.Str.{all_ascii_digits}
-use Rattle.std.proofs.lemmas.Bool.{cases_lt}
+use Rattle.std.proofs.lemmas.Bool.{cases_eq, cases_lt, ne_eqb}
 use Rattle.std.proofs.lemmas.Fmt.{decimal_nonempty, decimal_digit, length-decimal-le, first_decimal, digits_decimal, digits_value-decimal, decimal-digits_value}
 use Rattle.tp_model.specs.Digits.{number_after}
 use Rattle.tp_model.proofs.Digits.{digits_are}
-use Rattle.nbd_session.specs.Session.{IsNameOf}
+use Rattle.nbd_session.specs.Session.{IsNameOf, Means}
 
 fits : (id : ℕ) → id < 16777216 → id < 2 ^ 64
 fits id h = omega arith
@@ -50,3 +50,17 @@ found_name name n (Some id) digits is some first h =
 pub no_name : (name : List ℕ) (n : ℕ) (r : Option ℕ) → n ≡ number_after 0 name → MatchOption r (16777216 ≤ n) (λ id. (n < 16777216) × (id ≡ n)) → IfNone r ((id : ℕ) → IsNameOf name id → ⊥)
 no_name name n None is h = large_no_name name (omega arith)
 no_name name n (Some id) is h = tt
+
+pub blank : (name : List ℕ) → (length name == 0) ≡ true → length name ≡ 0
+blank name e = elim (cases_eq (length name) 0) [
+  | inl none ↦ none
+  | inr some ↦ let is : (length name == 0) ≡ false = ne_eqb (length name) 0 some in absurd cc
+]
+
+-- where there is no default the empty name means none
+pub no_default : (r o : Option ℕ) (name : List ℕ) → r ≡ o → length name ≡ 0 → IfNone r ((id : ℕ) → Means o name id → ⊥)
+no_default (Some d) o name is e = tt
+no_default None o name is e = λ id h. elim h [
+  | inl n ↦ empty_no_name name e id n
+  | inr m ↦ let some : None ≡ Some id = is ∙ m.1 in absurd cc
+]

@@ -1,5 +1,5 @@
 -- Ids that are found one after another, and the replies that name them.
-use Rattle.std.proofs.Common.{◌≡◌, ℕ, ◌+◌, ◌*◌, ◌<◌, ◌≤◌, Bool, List, [], ◌∷◌, ◌++◌, length, take, Some, None, refl, sym, ap, subst, ◌∙◌, arith, inl, inr, append_assoc}
+use Rattle.std.proofs.Common.{◌≡◌, ℕ, ◌+◌, ◌*◌, ◌<◌, ◌≤◌, List, [], ◌∷◌, ◌++◌, length, take, Some, None, refl, sym, ap, subst, ◌∙◌, arith, inl, inr, append_assoc}
 use Rattle.std.specs.Prelude.{MatchOption, Option}
 use Rattle.std.specs.Fmt.{decimal}
 use Rattle.std.specs.List.{flat_map}
@@ -11,6 +11,7 @@ use Rattle.tp_model.specs.Calls.{Answer, Call, Found, NextId, Refused}
 use Rattle.nbd_wire.specs.declared.TheConstants.{OPTION_LIST}
 use Rattle.nbd_wire.specs.declared.writing.ReplyType.TheVariants.{Acknowledged, Server}
 use Rattle.nbd_wire.specs.Replies.{option_reply, server_data}
+use Rattle.nbd_session.specs.declared.phase.Terms.{Terms}
 use Rattle.nbd_session.specs.declared.phase.Phase.TheVariants.{Ended, Options}
 use Rattle.nbd_session.specs.Session.{Finding, IsEnough, IsLast, IsRefused, NamesAll, NamesNone, list_reply, name_reply}
 
@@ -68,7 +69,7 @@ module _ {D : Type 0} (outline : D → Outline) (Calls : D → Call → Answer �
     room = omega (arith, h.room, few);
   }
 
-  pub all_named : (start now after : D) (here count at end : ℕ) (out new : List ℕ) (z : Bool) → Named start now here count at out → count ≤ 65536 → IsLast outline Calls here now after
+  pub all_named : (start now after : D) (here count at end : ℕ) (out new : List ℕ) (z : Terms) → Named start now here count at out → count ≤ 65536 → IsLast outline Calls here now after
       → take end new ≡ take at out ++ option_reply OPTION_LIST Acknowledged [] → NamesAll outline Calls z start (take end new) (Options z) after
   unfolding list_reply
   all_named start now after here count at end out new z h few last reply = record {

@@ -1,12 +1,28 @@
 -- Steps to the end of a piece.
-use Rattle.std.proofs.Common.{◌≡◌, ℕ, ◌+◌, ◌<◌, ◌≤◌, Bool, List, ◌++◌, length, take, drop, refl, sym, subst, ◌∙◌}
+use Rattle.std.proofs.Common.{◌≡◌, ℕ, ◌+◌, ◌-◌, ◌*◌, ◌<◌, ◌≤◌, ◌⊎◌, Bool, true, false, arith, inl, inr, List, ◌++◌, length, take, drop, refl, sym, subst, ◌∙◌}
 use Rattle.tp_model.specs.Clauses.{PoolCall, View, ViewLaws}
-use Rattle.nbd_session.specs.Session.{State}
+use Rattle.nbd_session.specs.declared.phase.Phase.{Phase}
+use Rattle.nbd_session.specs.Session.{State, is_at_work, left_in}
 use Rattle.nbd_session.specs.Talk.{Converses}
 use Rattle.nbd_session.specs.Clauses.{Advances, Feeds, IsCalm, IsReady, SparesOthers, held_beside}
 use Rattle.nbd_session.proofs.Counting.{beside_stays, held_there}
 use Rattle.nbd_session.proofs.Talking.{begins, goes_by, joins}
 use Rattle.nbd_session.proofs.Turning.{talks_traced}
+
+-- each step takes something, or makes a part of a request
+cases_bool : (b : Bool) → (b ≡ true) ⊎ (b ≡ false)
+cases_bool true = inl refl
+cases_bool false = inr refl
+
+pub falls : (len at taken : ℕ) (old new : Phase) → at + taken ≤ len → left_in new < 4294967296 → (is_at_work old ≡ true → left_in new < left_in old) → (is_at_work old ≡ false → at < len → 0 < taken)
+    → (at < len) ⊎ (is_at_work old ≡ true) → (len - (at + taken)) * 4294967296 + left_in new < (len - at) * 4294967296 + left_in old
+falls len at taken old new le few works moves test = elim (cases_bool (is_at_work old)) [
+  | inl work ↦ omega (arith, le, works work)
+  | inr idle ↦ elim test [
+    | inl lt ↦ omega (arith, le, few, lt, moves idle lt)
+    | inr work ↦ absurd cc
+  ]
+]
 
 module _ {D : Type 0} (view : View D) (laws : ViewLaws view) where
   fed : (start new : State) (pool after : D) (piece before sent : List ℕ) → Converses view.outline (PoolCall view) start piece pool before sent new after → IsCalm new → IsReady new.phase (view.outline after) (view.more after)

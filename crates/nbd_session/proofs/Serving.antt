@@ -1,5 +1,5 @@
 -- What is sent for a request that the pool answered.
-use Rattle.std.proofs.Common.{◌≡◌, ℕ, ◌+◌, ◌-◌, ◌/◌, ◌%◌, ◌≤◌, List, ◌++◌, length, take, drop, Option, Some, None, sym, ap, subst, ◌∙◌, arith}
+use Rattle.std.proofs.Common.{◌≡◌, ℕ, ◌+◌, ◌-◌, ◌/◌, ◌%◌, ◌≤◌, Bool, List, ◌++◌, length, take, drop, Option, Some, None, sym, ap, subst, ◌∙◌, arith}
 use Rattle.std.specs.Prelude.{IfSome}
 use Rattle.std.specs.List.{concat}
 use Rattle.std.proofs.lemmas.List.{take_all, take_at, drop_at, length-take, length-drop}
@@ -15,8 +15,9 @@ use Rattle.nbd_wire.specs.declared.Request.{Request}
 use Rattle.nbd_wire.specs.Grammar.{Message, command, IsFrame, IsRequest}
 use Rattle.nbd_wire.specs.Reading.{whole_len}
 use Rattle.nbd_wire.specs.Replies.{simple_reply}
+use Rattle.nbd_session.specs.declared.phase.Course.TheVariants.{Listens}
 use Rattle.nbd_session.specs.declared.phase.Phase.TheVariants.{Transmission}
-use Rattle.nbd_session.specs.Requests.{verdict_on}
+use Rattle.nbd_session.specs.Requests.{verdict_in}
 use Rattle.nbd_session.specs.Session.{AnswersText, Performs, Serves, reply_to}
 
 -- bytes of whole sectors are those of their sectors
@@ -56,10 +57,10 @@ module _ {D : Type 0} (view : View D) where
   }
 
   -- a request that was served where it could be, as the text that it is
-  pub served_text : (o : Option ℕ) (sent : ℕ → List ℕ) (pool : D) (volume size : ℕ) (r : Request) (payload text : List ℕ) → whole_len Requests text ≡ length text
+  pub served_text : (o : Option ℕ) (sent : ℕ → List ℕ) (pool : D) (volume size : ℕ) (x : Bool) (r : Request) (payload text : List ℕ) → whole_len Requests text ≡ length text
       → IsRequest (take (whole_len Requests text) text) r payload
-      → IfSome o (λ n. Serves view.outline (PoolCall view) (verdict_on size r) volume size r payload pool (sent n) (Transmission volume size) pool)
-      → IfSome o (λ n. AnswersText view.outline (PoolCall view) Requests (Transmission volume size) text pool (sent n) (Transmission volume size) pool)
-  served_text None sent pool volume size r payload text whole is h = tt
-  served_text (Some n) sent pool volume size r payload text whole is h =
+      → IfSome o (λ n. Serves view.outline (PoolCall view) (verdict_in x size r) volume size x r payload pool (sent n) (Transmission volume size (Listens x)) pool)
+      → IfSome o (λ n. AnswersText view.outline (PoolCall view) Requests (Transmission volume size (Listens x)) text pool (sent n) (Transmission volume size (Listens x)) pool)
+  served_text None sent pool volume size x r payload text whole is h = tt
+  served_text (Some n) sent pool volume size x r payload text whole is h =
       record { message = command r payload; frame = frame_of_text Requests (command r payload) text whole is; answer = h }

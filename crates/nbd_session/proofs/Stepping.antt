@@ -11,47 +11,50 @@ use Rattle.nbd_wire.specs.Grammar.{Message, client_flags, client_option, command
 use Rattle.nbd_wire.specs.Numbers.{number}
 use Rattle.nbd_wire.specs.Reading.{fixed_len, whole_len, wanted, option_at, request_at, is_good_option, is_good_request}
 use Rattle.nbd_wire.proofs.Frames.{whole_stays, wanted_whole, wanted_fixed, wants_more}
+use Rattle.nbd_session.specs.declared.phase.Course.TheVariants.{Listens, Works}
 use Rattle.nbd_session.specs.declared.phase.Phase.{Phase}
 use Rattle.nbd_session.specs.declared.phase.Phase.TheVariants.{Flags, Options, Transmission, Ended}
 use Rattle.nbd_session.specs.Held.{Gathers}
-use Rattle.nbd_session.specs.Buffers.{wanted_in}
-use Rattle.nbd_session.specs.Session.{State, state, kind_of, has_ended, AnswersText, Waits, TakesFrame, IsOver, Steps}
+use Rattle.nbd_session.specs.Buffers.{IsSound, wanted_in}
+use Rattle.nbd_session.specs.Session.{State, state, kind_of, has_ended, left_in, AnswersText, Waits, TakesFrame, IsDeaf, Steps}
 use Rattle.nbd_session.specs.Clauses.{IsCalm, IsOf}
 use Rattle.nbd_session.proofs.Gathering.{take_on}
 
 -- a frame that is read in a phase may come there
 pub frame_of_phase : (phase : Phase) (kind : Kind) (m : Message) (text : List ℕ) → kind_of phase ≡ Some kind → IsFrame kind m text → IsOf phase m
-frame_of_phase Flags kinds.Flags (client_flags b) text e h = tt
-frame_of_phase Flags kinds.Flags malformed text e h = tt
-frame_of_phase Flags kinds.Flags (client_option o p) text e h = absurd h
-frame_of_phase Flags kinds.Flags (command r p) text e h = absurd h
-frame_of_phase Flags kinds.Options m text e h = absurd cc
-frame_of_phase Flags kinds.Requests m text e h = absurd cc
+frame_of_phase (Flags a) kinds.Flags (client_flags b) text e h = tt
+frame_of_phase (Flags a) kinds.Flags malformed text e h = tt
+frame_of_phase (Flags a) kinds.Flags (client_option o p) text e h = absurd h
+frame_of_phase (Flags a) kinds.Flags (command r p) text e h = absurd h
+frame_of_phase (Flags a) kinds.Options m text e h = absurd cc
+frame_of_phase (Flags a) kinds.Requests m text e h = absurd cc
 frame_of_phase (Options z) kinds.Options (client_option o p) text e h = tt
 frame_of_phase (Options z) kinds.Options malformed text e h = tt
 frame_of_phase (Options z) kinds.Options (client_flags b) text e h = absurd h
 frame_of_phase (Options z) kinds.Options (command r p) text e h = absurd h
 frame_of_phase (Options z) kinds.Flags m text e h = absurd cc
 frame_of_phase (Options z) kinds.Requests m text e h = absurd cc
-frame_of_phase (Transmission v n) kinds.Requests (command r p) text e h = h.whole
-frame_of_phase (Transmission v n) kinds.Requests malformed text e h = tt
-frame_of_phase (Transmission v n) kinds.Requests (client_flags b) text e h = absurd h
-frame_of_phase (Transmission v n) kinds.Requests (client_option o p) text e h = absurd h
-frame_of_phase (Transmission v n) kinds.Flags m text e h = absurd cc
-frame_of_phase (Transmission v n) kinds.Options m text e h = absurd cc
+frame_of_phase (Transmission v n (Listens x)) kinds.Requests (command r p) text e h = h.whole
+frame_of_phase (Transmission v n (Listens x)) kinds.Requests malformed text e h = tt
+frame_of_phase (Transmission v n (Listens x)) kinds.Requests (client_flags b) text e h = absurd h
+frame_of_phase (Transmission v n (Listens x)) kinds.Requests (client_option o p) text e h = absurd h
+frame_of_phase (Transmission v n (Listens x)) kinds.Flags m text e h = absurd cc
+frame_of_phase (Transmission v n (Listens x)) kinds.Options m text e h = absurd cc
+frame_of_phase (Transmission v n (Works r)) kind m text e h = absurd cc
 frame_of_phase Ended kind m text e h = absurd cc
 
 -- what is wanted in a phase
 pub wanted_is : (phase : Phase) (kind : Kind) (t : List ℕ) → kind_of phase ≡ Some kind → wanted_in phase t ≡ wanted kind t
-wanted_is Flags kinds.Flags t e = refl
-wanted_is Flags kinds.Options t e = absurd cc
-wanted_is Flags kinds.Requests t e = absurd cc
+wanted_is (Flags a) kinds.Flags t e = refl
+wanted_is (Flags a) kinds.Options t e = absurd cc
+wanted_is (Flags a) kinds.Requests t e = absurd cc
 wanted_is (Options z) kinds.Options t e = refl
 wanted_is (Options z) kinds.Flags t e = absurd cc
 wanted_is (Options z) kinds.Requests t e = absurd cc
-wanted_is (Transmission v n) kinds.Requests t e = refl
-wanted_is (Transmission v n) kinds.Flags t e = absurd cc
-wanted_is (Transmission v n) kinds.Options t e = absurd cc
+wanted_is (Transmission v n (Listens x)) kinds.Requests t e = refl
+wanted_is (Transmission v n (Listens x)) kinds.Flags t e = absurd cc
+wanted_is (Transmission v n (Listens x)) kinds.Options t e = absurd cc
+wanted_is (Transmission v n (Works r)) kind t e = absurd cc
 wanted_is Ended kind t e = absurd cc
 
 fixed_pos : (kind : Kind) → 0 < fixed_len kind
@@ -63,17 +66,27 @@ wanted_pos : (kind : Kind) → 0 < wanted kind []
 wanted_pos kind = let p = fixed_pos kind in let e = wanted_fixed kind [] p in omega arith
 
 pub wanted_at_start : (phase : Phase) → 0 < wanted_in phase []
-wanted_at_start Flags = wanted_pos kinds.Flags
+wanted_at_start (Flags a) = wanted_pos kinds.Flags
 wanted_at_start (Options z) = wanted_pos kinds.Options
-wanted_at_start (Transmission v n) = wanted_pos kinds.Requests
+wanted_at_start (Transmission v n (Listens x)) = wanted_pos kinds.Requests
+wanted_at_start (Transmission v n (Works r)) = omega arith
 wanted_at_start Ended = omega arith
 
 -- the bytes that are held begin no frame
 pub calm_state : (phase : Phase) (filled : ℕ) (input : List ℕ) → filled ≤ length input → filled < wanted_in phase (take filled input) → IsCalm (state phase (take filled input))
-calm_state Flags filled input le lt = wants_more kinds.Flags (take filled input) (let l = length-take-le filled input le in omega arith)
+calm_state (Flags a) filled input le lt = wants_more kinds.Flags (take filled input) (let l = length-take-le filled input le in omega arith)
 calm_state (Options z) filled input le lt = wants_more kinds.Options (take filled input) (let l = length-take-le filled input le in omega arith)
-calm_state (Transmission v n) filled input le lt = wants_more kinds.Requests (take filled input) (let l = length-take-le filled input le in omega arith)
+calm_state (Transmission v n (Works r)) filled input le lt = let e : filled ≡ 0 = omega arith in ap (λ (i : ℕ). take i input) e
+calm_state (Transmission v n (Listens x)) filled input le lt = wants_more kinds.Requests (take filled input) (let l = length-take-le filled input le in omega arith)
 calm_state Ended filled input le lt = let e : filled ≡ 0 = omega arith in ap (λ (n : ℕ). take n input) e
+
+-- what is left of a request is no more than a request may have
+pub sound_few : (phase : Phase) → IsSound phase → left_in phase < 4294967296
+sound_few (Flags a) h = omega arith
+sound_few (Options z) h = omega arith
+sound_few (Transmission v n (Listens x)) h = omega arith
+sound_few (Transmission v n (Works r)) h = h.few
+sound_few Ended h = omega arith
 
 fixed_whole : (kind : Kind) (t : List ℕ) → fixed_len kind ≤ whole_len kind t
 unfolding whole_len
@@ -110,24 +123,42 @@ more_than_held kind old now filled end len wants least fixed exact same =
     ]
 
 not_ended : (phase : Phase) (kind : Kind) → kind_of phase ≡ Some kind → has_ended phase ≡ false
-not_ended Flags kind e = refl
+not_ended (Flags a) kind e = refl
 not_ended (Options z) kind e = refl
-not_ended (Transmission v n) kind e = refl
+not_ended (Transmission v n c) kind e = refl
 not_ended Ended kind e = absurd cc
 
+-- a session that reads no frames holds nothing of one
+deaf_wants : (phase : Phase) (t : List ℕ) → kind_of phase ≡ None → wanted_in phase t ≡ 1
+deaf_wants (Flags a) t e = absurd cc
+deaf_wants (Options z) t e = absurd cc
+deaf_wants (Transmission v n (Listens x)) t e = absurd cc
+deaf_wants (Transmission v n (Works r)) t e = refl
+deaf_wants Ended t e = refl
+
+pub deaf_holds : (phase : Phase) (filled : ℕ) (input : List ℕ) → kind_of phase ≡ None → filled < wanted_in phase (take filled input) → take filled input ≡ []
+deaf_holds phase filled input e lt =
+    let w = deaf_wants phase (take filled input) e in
+    let none : filled ≡ 0 = omega (arith, lt, w) in
+    ap (λ (n : ℕ). take n input) none
+
 module _ {A : Type 0} (outline : A → Outline) (Calls : A → Call → Answer → A → Type 0) where
-  pub steps_over : (phase : Phase) (old new : List ℕ) (p p' : A) (piece : List ℕ) (out : List ℕ) → kind_of phase ≡ None → p' ≡ p
-      → Steps outline Calls (state phase old) p piece (length piece) [] (has_ended phase) (state phase []) p'
-  steps_over Flags old new p p' piece out e same = absurd cc
-  steps_over (Options z) old new p p' piece out e same = absurd cc
-  steps_over (Transmission v n) old new p p' piece out e same = absurd cc
-  steps_over Ended old new p p' piece out e same = record { taken_is = refl; sent_is = refl; ended_is = refl; phase_is = refl; held_is = refl; pool_is = same }
+  -- a step without a frame
+  pub steps_deaf : (phase : Phase) (held : List ℕ) (new : State) (p p' : A) (piece sent : List ℕ) (taken : ℕ) (ended : Bool) → kind_of phase ≡ None → held ≡ []
+      → IsDeaf outline Calls phase (state phase []) p piece taken sent ended new p' → Steps outline Calls (state phase held) p piece taken sent ended new p'
+  steps_deaf phase held new p p' piece sent taken ended e none h =
+      let at : Steps outline Calls (state phase []) p piece taken sent ended new p' =
+      let P : Option Kind → Type 0 = λ o. MatchOption o (IsDeaf outline Calls phase (state phase []) p piece taken sent ended new p')
+      (λ k. Waits outline Calls k (state phase []) p piece taken sent ended new p' ⊎ TakesFrame outline Calls k (state phase []) p piece taken sent ended new p') in
+      subst P (sym e) h in
+      let Q : List ℕ → Type 0 = λ t. Steps outline Calls (state phase t) p piece taken sent ended new p' in
+      subst Q (sym none) at
 
 module _ {A : Type 0} (outline : A → Outline) (Calls : A → Call → Answer → A → Type 0) (phase : Phase) (kind : Kind) (speaks : kind_of phase ≡ Some kind) (old : List ℕ) (p p' : A) (piece : List ℕ) where
   by_kind : (taken : ℕ) (sent : List ℕ) (ended : Bool) (new : State) → Waits outline Calls kind (state phase old) p piece taken sent ended new p' ⊎ TakesFrame outline Calls kind (state phase old) p piece taken sent ended new p'
       → Steps outline Calls (state phase old) p piece taken sent ended new p'
   by_kind taken sent ended new h =
-      let P : Option Kind → Type 0 = λ o. MatchOption o (IsOver outline Calls (state phase old) p piece taken sent ended new p') (λ k. Waits outline Calls k (state phase old) p piece taken sent ended new p' ⊎ TakesFrame outline Calls k (state phase old) p piece taken sent ended new p') in
+      let P : Option Kind → Type 0 = λ o. MatchOption o (IsDeaf outline Calls phase (state phase old) p piece taken sent ended new p') (λ k. Waits outline Calls k (state phase old) p piece taken sent ended new p' ⊎ TakesFrame outline Calls k (state phase old) p piece taken sent ended new p') in
       subst P (sym speaks) h
 
   pub steps_direct : (n : ℕ) (sent : List ℕ) (next : Phase) → old ≡ [] → 0 < n → n ≤ length piece → AnswersText outline Calls kind phase (take n piece) p sent next p'

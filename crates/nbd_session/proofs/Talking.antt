@@ -8,20 +8,14 @@ use Rattle.nbd_wire.specs.declared.Kind.{Kind}
 use Rattle.nbd_wire.specs.declared.Kind.TheVariants as kinds
 use Rattle.nbd_wire.specs.Grammar.{IsPartial}
 use Rattle.nbd_wire.proofs.Frames.{wants_more}
+use Rattle.nbd_session.specs.declared.phase.Course.TheVariants.{Listens, Works}
 use Rattle.nbd_session.specs.declared.phase.Phase.{Phase}
 use Rattle.nbd_session.specs.declared.phase.Phase.TheVariants.{Flags, Options, Transmission, Ended}
-use Rattle.nbd_session.specs.Session.{State, state, kind_of, Waits, TakesFrame, IsOver, Steps}
-use Rattle.nbd_session.specs.Talk.{Talks, waits, over, goes, Converses}
+use Rattle.nbd_session.specs.Session.{State, state, kind_of, Waits, TakesFrame, IsDeaf, Steps}
+use Rattle.nbd_session.specs.Talk.{Talks, waits, over, stops, works, goes, Converses}
 use Rattle.nbd_session.specs.Clauses.{IsCalm}
 use Rattle.nbd_session.proofs.Gathering.{take_on}
 use Rattle.nbd_session.proofs.Stepping.{wanted_is, wanted_at_start}
-
--- only an ended session has no frames
-ended_is : (phase : Phase) → kind_of phase ≡ None → phase ≡ Ended
-ended_is Flags e = absurd cc
-ended_is (Options z) e = absurd cc
-ended_is (Transmission v n) e = absurd cc
-ended_is Ended e = refl
 
 never_both : (phase : Phase) (kind : Kind) → kind_of phase ≡ Some kind → phase ≡ Ended → ⊥
 never_both phase kind e h = let n : kind_of phase ≡ None = ap kind_of h in absurd cc
@@ -40,15 +34,18 @@ module _ {A : Type 0} (outline : A → Outline) (Calls : A → Call → Answer �
 
   -- with nothing to read, nothing is sent
   pub rests : (phase : Phase) (p : A) → Talks outline Calls phase [] p [] (state phase []) p
-  rests Flags p = resting kinds.Flags Flags p refl
+  rests (Flags a) p = resting kinds.Flags (Flags a) p refl
   rests (Options z) p = resting kinds.Options (Options z) p refl
-  rests (Transmission v n) p = resting kinds.Requests (Transmission v n) p refl
+  rests (Transmission v n (Listens x)) p = resting kinds.Requests (Transmission v n (Listens x)) p refl
+  rests (Transmission v n (Works r)) p = stops
   rests Ended p = over
 
   -- after its end a session sends nothing
   ended_talks : {phase : Phase} {text sent : List ℕ} {p p' : A} {new : State} → Talks outline Calls phase text p sent new p' → phase ≡ Ended → (sent ≡ []) × (new ≡ state Ended []) × (p' ≡ p)
   ended_talks (waits kind speaks part) e = absurd (never_both _ kind speaks e)
   ended_talks over e = (refl, refl, refl)
+  ended_talks stops e = absurd cc
+  ended_talks (works v n r first others mid q part talk sent_is) e = absurd cc
   ended_talks (goes kind message frame rest first others mid q speaks is_frame text_is answer talk sent_is) e = absurd (never_both _ kind speaks e)
 
   -- dropped, whatever it was
@@ -59,13 +56,24 @@ module _ {A : Type 0} (outline : A → Outline) (Calls : A → Call → Answer �
       let R : A → Type 0 = λ x. Talks outline Calls Ended text p [] (state Ended []) x in
       subst P (sym h.0) (subst Q (sym h.1) (subst R (sym h.2) over))
 
+  -- a step without a frame
+  by_deaf : (phase : Phase) (old new : State) (p p' : A) (piece sent : List ℕ) (taken : ℕ) (b : Bool) → old.phase ≡ phase
+      → IsDeaf outline Calls phase old p piece taken sent b new p' → Talks outline Calls phase (old.held ++ take taken piece) p sent new p'
+  by_deaf Ended old new p p' piece sent taken b e h = dropped (old.held ++ take taken piece) sent p p' new (h.sent_is, state_is new Ended [] (h.phase_is ∙ e) h.held_is, h.pool_is)
+  by_deaf (Transmission v n (Works r)) old new p p' piece sent taken b e h =
+      let text : old.held ++ take taken piece ≡ [] = ap (λ (x : List ℕ). x ++ take taken piece) h.none ∙ ap (λ (i : ℕ). take i piece) h.taken_is in
+      let P : List ℕ → Type 0 = λ t. Talks outline Calls (Transmission v n (Works r)) t p sent new p' in
+      let R : State → Type 0 = λ s. Talks outline Calls new.phase [] p' [] s p' in
+      let after : Talks outline Calls new.phase [] p' [] new p' = subst R (sym (state_is new new.phase [] refl h.held_is)) (rests new.phase p') in
+      subst P (sym text) (works v n r sent [] new.phase p' h.part after (sym (append-nil sent)))
+  by_deaf (Flags a) old new p p' piece sent taken b e h = absurd h
+  by_deaf (Options z) old new p p' piece sent taken b e h = absurd h
+  by_deaf (Transmission v n (Listens x)) old new p p' piece sent taken b e h = absurd h
+
   by_case : (old new : State) (p p' : A) (piece sent : List ℕ) (taken : ℕ) (b : Bool) (o : Option Kind) → kind_of old.phase ≡ o
-      → MatchOption o (IsOver outline Calls old p piece taken sent b new p') (λ kind. Waits outline Calls kind old p piece taken sent b new p' ⊎ TakesFrame outline Calls kind old p piece taken sent b new p')
+      → MatchOption o (IsDeaf outline Calls old.phase old p piece taken sent b new p') (λ kind. Waits outline Calls kind old p piece taken sent b new p' ⊎ TakesFrame outline Calls kind old p piece taken sent b new p')
       → Talks outline Calls old.phase (old.held ++ take taken piece) p sent new p'
-  by_case old new p p' piece sent taken b None e h =
-      let gone = ended_is old.phase e in
-      let P : Phase → Type 0 = λ x. Talks outline Calls x (old.held ++ take taken piece) p sent new p' in
-      subst P (sym gone) (dropped (old.held ++ take taken piece) sent p p' new (h.sent_is, state_is new Ended [] (h.phase_is ∙ gone) h.held_is, h.pool_is))
+  by_case old new p p' piece sent taken b None e h = by_deaf old.phase old new p p' piece sent taken b refl h
   by_case old new p p' piece sent taken b (Some kind) e (inl w) =
       let text : old.held ++ take taken piece ≡ old.held ++ piece = ap (λ (n : ℕ). old.held ++ take n piece) w.taken_is ∙ ap (λ (x : List ℕ). old.held ++ x) (take_all (length piece) piece (omega arith)) in
       let P : List ℕ → Type 0 = λ t. Talks outline Calls old.phase t p sent new p' in
@@ -87,6 +95,9 @@ module _ {A : Type 0} (outline : A → Outline) (Calls : A → Call → Answer �
       → (more others : List ℕ) (new : State) (p' : A) → Talks outline Calls mid.phase (mid.held ++ more) q others new p' → Talks outline Calls phase (text ++ more) p (sent ++ others) new p'
   goes_on (waits kind speaks part) more others new p' h = h
   goes_on {text = text} {p = p} over more others new p' h = dropped (text ++ more) others p p' new (ended_talks h refl)
+  goes_on stops more others new p' h = h
+  goes_on (works v n r first others' mid q part talk sent_is) more others new p' h =
+      works v n r first (others' ++ others) mid q part (goes_on talk more others new p' h) (ap (λ (x : List ℕ). x ++ others) sent_is ∙ append_assoc first others' others)
   goes_on (goes kind message frame rest first others' mid q speaks is_frame text_is answer talk sent_is) more others new p' h =
       goes kind message frame (rest ++ more) first (others' ++ others) mid q speaks is_frame (ap (λ (x : List ℕ). x ++ more) text_is ∙ append_assoc frame rest more) answer
       (goes_on talk more others new p' h) (ap (λ (x : List ℕ). x ++ others) sent_is ∙ append_assoc first others' others)
@@ -94,9 +105,9 @@ module _ {A : Type 0} (outline : A → Outline) (Calls : A → Call → Answer �
   -- a session that has not read anything is where it was
   calm_case : (s : State) (p : A) (o : Option Kind) → kind_of s.phase ≡ o → MatchOption o (s.held ≡ []) (λ kind. IsPartial kind s.held) → Talks outline Calls s.phase s.held p [] s p
   calm_case s p None e h =
-      let gone = ended_is s.phase e in
-      let P : Phase → Type 0 = λ x. Talks outline Calls x s.held p [] s p in
-      subst P (sym gone) (dropped s.held [] p p s (refl, state_is s Ended [] gone h, refl))
+      let P : List ℕ → Type 0 = λ t. Talks outline Calls s.phase t p [] s p in
+      let R : State → Type 0 = λ x. Talks outline Calls s.phase [] p [] x p in
+      subst P (sym h) (subst R (sym (state_is s s.phase [] refl h)) (rests s.phase p))
   calm_case s p (Some kind) e h = waits kind e h
 
   pub calm_talks : (s : State) (p : A) → IsCalm s → Talks outline Calls s.phase s.held p [] s p

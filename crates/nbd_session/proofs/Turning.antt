@@ -9,9 +9,9 @@ use Rattle.tp_model.proofs.Running.{starts}
 use Rattle.nbd_session.specs.declared.phase.Phase.{Phase}
 use Rattle.nbd_session.specs.Session.{State, LetsGo, Steps}
 use Rattle.nbd_session.specs.Clauses.{PlainCall}
-use Rattle.nbd_session.specs.Talk.{Converses, Talks, goes, over, waits}
+use Rattle.nbd_session.specs.Talk.{Converses, Talks, goes, over, stops, waits, works}
 use Rattle.nbd_session.specs.Turns.{AreLives, AreRuns, AreSame, AreTurns, Asks, Happened, Hears, IsFoundIn, Leaves, Life, Opens, Sessions, StopsIn, TakesTurn, Turn, closed, pool_after, sent_in, sent_to, sessions_after}
-use Rattle.nbd_session.proofs.Following.{answers_likewise, lets_go_likewise, steps_likewise}
+use Rattle.nbd_session.proofs.Following.{answers_likewise, lets_go_likewise, part_likewise, steps_likewise}
 use Rattle.nbd_session.proofs.Advancing.{GoesFrom, from_here, plain_call, traced_call, traced_outline}
 
 module _ {D B : Type 0} (outline : D → Outline) (Calls : D → Call → Answer → D → Type 0) (outline' : B → Outline) (Calls' : B → Call → Answer → B → Type 0) (R : D → B → Type 0)
@@ -22,6 +22,11 @@ module _ {D B : Type 0} (outline : D → Outline) (Calls : D → Call → Answer
       → (b' : B) × Talks outline' Calls' phase text b sent new b' × R p' b'
   talks_likewise b r (waits kind k partial) = (b, waits kind k partial, r)
   talks_likewise b r over = (b, over, r)
+  talks_likewise b r stops = (b, stops, r)
+  talks_likewise {phase} {text} {sent} {p} b r (works v n q first others mid at part talk all) =
+      let x = part_likewise outline Calls outline' Calls' R same call_follows p at b r v n q first mid part in
+      let y = talks_likewise x.0 x.2 talk in
+      (y.0, works v n q first others mid x.0 x.1 y.1 all, y.2)
   talks_likewise {phase} {text} {sent} {p} b r (goes kind message frame rest first others mid q k whole cut answer talks all) =
       let x = answers_likewise outline Calls outline' Calls' R same call_follows p q b r phase mid message first answer in
       let y = talks_likewise x.0 x.2 talks in
@@ -30,7 +35,7 @@ module _ {D B : Type 0} (outline : D → Outline) (Calls : D → Call → Answer
   -- a turn is followed by a turn
   pub turn_follows : (at at' : Sessions) (old new : D) (b : B) (turn : Turn) → R old b → TakesTurn outline Calls at old turn at' new
       → (b' : B) × TakesTurn outline' Calls' at b turn at' b' × R new b'
-  turn_follows at at' old new b (Opens n sent) r h = (b, (refl, h.1, h.2, h.3, h.4), subst (λ (d : D). R d b) (sym h.0) r)
+  turn_follows at at' old new b (Opens n profile sent) r h = (b, (refl, h.1, h.2, h.3, h.4), subst (λ (d : D). R d b) (sym h.0) r)
   turn_follows at at' old new b (Hears n piece taken sent ended) r h =
       let x = steps_likewise outline Calls outline' Calls' R same call_follows old new b r (at n) (at' n) piece sent taken ended h.0 in
       (x.0, (x.1, h.1), x.2)

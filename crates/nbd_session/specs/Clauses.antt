@@ -1,22 +1,25 @@
 -- Trusted reading: the clauses of a session over a pool, of whose volumes nothing may be known.
-use Rattle.std.specs.Prelude.{◌≡◌, ℕ, ◌-◌, ◌<◌, ◌≤◌, ◌==◌, ◌⊎◌, Bool, List, [], length, MatchOption, if◌then◌else◌}
+use Rattle.std.specs.Prelude.{◌≡◌, ℕ, ◌-◌, ◌<◌, ◌≤◌, ◌==◌, ◌⊎◌, Bool, true, false, List, [], length, MatchOption, if◌then◌else◌}
 use Rattle.std.specs.Ordering.{nat_cmp}
 use Rattle.std.specs.FinMap.{FinMap}
 use Rattle.tp_model.specs.Pool.{PlainPool, Outline, hold_count, hold_total}
 use Rattle.tp_model.specs.Calls.{Call, Answer, Takes, Hold, LetGo, Done, holds_after}
 use Rattle.tp_model.specs.Clauses.{Continues, HasTrace, PoolCall, Traced, TracedCall, View, outline_of_traced}
 use Rattle.nbd_wire.specs.Grammar.{Message, client_flags, client_option, command, malformed, payload_len, IsPartial}
+use Rattle.nbd_session.specs.declared.phase.Course.{Course}
+use Rattle.nbd_session.specs.declared.phase.Course.TheVariants.{Listens, Works}
 use Rattle.nbd_session.specs.declared.phase.Phase.{Phase}
 use Rattle.nbd_session.specs.declared.phase.Phase.TheVariants.{Flags, Options, Transmission, Ended}
 use Rattle.nbd_session.specs.Requests.{known_bytes}
-use Rattle.nbd_session.specs.Session.{State, kind_of, LetsGo, Steps}
+use Rattle.nbd_session.specs.Session.{State, kind_of, has_ended, is_at_work, is_extended, left_in, LetsGo, Steps}
 use Rattle.nbd_session.specs.Talk.{Converses}
 
 -- a frame that may come in the phase
 abbrev pub IsOf : Phase → Message → Type 0
-IsOf Flags (client_flags no_zeroes) = Unit {0}
-IsOf (Options no_zeroes) (client_option option payload) = Unit {0}
-IsOf (Transmission volume size) (command r payload) = length payload ≡ payload_len r
+IsOf (Flags profile) (client_flags no_zeroes) = Unit {0}
+IsOf (Options terms) (client_option option payload) = Unit {0}
+IsOf (Transmission volume size (Listens is_extended)) (command r payload) = length payload ≡ payload_len r
+IsOf (Transmission volume size (Works rest)) message = ⊥
 IsOf Ended malformed = ⊥
 IsOf phase malformed = Unit {0}
 IsOf phase _ = ⊥
@@ -24,35 +27,40 @@ IsOf phase _ = ⊥
 -- Before transmission there is room for one hold more. In transmission the volume is held, and has the size that was told when it began: `more` is how
 -- many sectors beyond the pool's own size a volume is known to have.
 abbrev pub IsReady : Phase → Outline → (ℕ → ℕ) → Type 0
-IsReady Flags p more = hold_total p.holds < 64
-IsReady (Options no_zeroes) p more = hold_total p.holds < 64
-IsReady (Transmission volume size) p more = (0 < hold_count p.holds volume) × (size ≡ known_bytes p.geometry more volume)
+IsReady (Flags profile) p more = hold_total p.holds < 64
+IsReady (Options terms) p more = hold_total p.holds < 64
+IsReady (Transmission volume size course) p more = (0 < hold_count p.holds volume) × (size ≡ known_bytes p.geometry more volume)
 IsReady Ended p more = Unit {0}
 
 -- A session that enters transmission holds its volume, and one that leaves it lets its volume go.
 abbrev pub holds_between : Phase → Phase → FinMap nat_cmp ℕ → FinMap nat_cmp ℕ
-holds_between (Options no_zeroes) (Transmission volume size) holds = holds_after holds (Hold volume) Done
-holds_between (Transmission volume size) Ended holds = holds_after holds (LetGo volume) Done
+holds_between (Options terms) (Transmission volume size course) holds = holds_after holds (Hold volume) Done
+holds_between (Transmission volume size course) Ended holds = holds_after holds (LetGo volume) Done
 holds_between old new holds = holds
 
 -- What is held after one frame. An option that ends the session may have held a volume before, whose size was refused: it was let go.
 abbrev pub HoldsFollow : Phase → Phase → FinMap nat_cmp ℕ → FinMap nat_cmp ℕ → Type 0
-HoldsFollow (Options no_zeroes) Ended holds holds' =
+HoldsFollow (Options terms) Ended holds holds' =
     (holds' ≡ holds) ⊎ ((volume : ℕ) × (holds' ≡ holds_after (holds_after holds (Hold volume) Done) (LetGo volume) Done))
 HoldsFollow old new holds holds' = holds' ≡ holds_between old new holds
 
 -- how often a volume is held by others than a session in this phase
 abbrev pub held_beside : Phase → FinMap nat_cmp ℕ → ℕ → ℕ
-held_beside (Transmission volume size) holds id = if volume == id then hold_count holds id - 1 else hold_count holds id
+held_beside (Transmission volume size course) holds id = if volume == id then hold_count holds id - 1 else hold_count holds id
 held_beside phase holds id = hold_count holds id
 
--- Where a session may go by one frame: it keeps its flags, and its volume with its size.
+-- it takes requests of any length that have no data
+abbrev pub takes_long : Course → Bool
+takes_long (Listens is_extended) = is_extended
+takes_long (Works rest) = true
+
+-- Where a session may go by one frame, or one part of a request: it keeps its profile and its flags, and its volume with its size.
 abbrev pub Follows : Phase → Phase → Type 0
-Follows Flags Flags = Unit {0}
-Follows Flags (Options no_zeroes) = Unit {0}
-Follows (Options no_zeroes) (Options same) = no_zeroes ≡ same
-Follows (Options no_zeroes) (Transmission volume size) = Unit {0}
-Follows (Transmission volume size) (Transmission same also) = (volume ≡ same) × (size ≡ also)
+Follows (Flags profile) (Flags same) = profile ≡ same
+Follows (Flags profile) (Options terms) = profile ≡ terms.profile
+Follows (Options terms) (Options same) = terms ≡ same
+Follows (Options terms) (Transmission volume size course) = course ≡ Listens (is_extended terms.profile)
+Follows (Transmission volume size course) (Transmission same also next) = (volume ≡ same) × (size ≡ also) × (takes_long course ≡ takes_long next)
 Follows phase Ended = Unit {0}
 Follows phase _ = ⊥
 
@@ -60,7 +68,7 @@ Follows phase _ = ⊥
 abbrev pub PlainCall : PlainPool → Call → Answer → PlainPool → Type 0
 PlainCall s call answer s' = (made : PlainPool) × Takes s call answer made s'
 
--- no frame of the phase begins what is held, and after its end a session holds nothing
+-- No frame of the phase begins what is held. After its end, and while parts of a request are left, a session holds nothing.
 abbrev pub IsCalm : State → Type 0
 IsCalm s = MatchOption (kind_of s.phase) (s.held ≡ []) (λ kind. IsPartial kind s.held)
 
@@ -83,11 +91,15 @@ module _ {D : Type 0} (view : View D) where
 
   -- One step. What is sent is the answer to the frame that ends in what was taken, as the pool answered the calls that the frame makes of it:
   -- those of NextId for LIST, one of NextId, Hold and VolumeBlocks each at most for another option, and one at most for another frame. One of LetGo may
-  -- be the last, where the session ends.
+  -- be the last, where the session ends. A session that has parts of a request left makes one, and takes nothing.
   pub record Advances (old : State) (pool : D) (piece : List ℕ) (taken : ℕ) (sent : List ℕ) (ended : Bool) (new : State) (after : D) : Type 0 where
     pub steps : Steps view.outline (PoolCall view) old pool piece taken sent ended new after
     pub traced : GoesWithTrace pool after (λ t t'. Steps outline_of_traced (TracedCall view.has_use) old t piece taken sent ended new t')
-    pub moves : 0 < length piece → 0 < taken
+    pub moves : 0 < length piece → is_at_work old.phase ≡ false → 0 < taken
+    pub silent : is_at_work new.phase ≡ true → sent ≡ []
+    pub works : is_at_work old.phase ≡ true → left_in new.phase < left_in old.phase
+    pub few : left_in new.phase < 4294967296
+    pub goes_on : is_at_work old.phase ≡ true → has_ended new.phase ≡ false
     pub inside : taken ≤ length piece
     pub calm : IsCalm new
     pub ready : IsReady new.phase (view.outline after) (view.more after)

@@ -1,8 +1,11 @@
 -- Trusted reading: what becomes of a request of transmission before a pool is asked.
-use Rattle.std.specs.Prelude.{◌≡◌, ℕ, ◌+◌, ◌*◌, ◌/◌, ◌%◌, ◌≤◌, Bool, false, List, [], ◌++◌, ◌==◌, if◌then◌else◌, ◌⊎◌}
+use Rattle.std.specs.Prelude.{◌≡◌, ℕ, ◌+◌, ◌-◌, ◌*◌, ◌/◌, ◌%◌, ◌<◌, ◌≤◌, Bool, false, not, ◌&&◌, ◌||◌, List, [], ◌∷◌, ◌++◌, ◌==◌, if◌then◌else◌, ◌⊎◌, Option, nat_lt}
 use Rattle.std.specs.Option.{option_map_or}
 use Rattle.tp_model.specs.Geometry.{Geometry, sectors_of_volume}
 use Rattle.tp_model.specs.Requests as forms
+use Rattle.tp_model.specs.declared.refusal.NbdError.{NbdError}
+use Rattle.tp_model.specs.declared.refusal.NbdError.TheVariants.{Invalid, NoSpace}
+use Rattle.tp_model.specs.Calls.{Call, Trim, WriteZeroes, first_failed}
 use Rattle.nbd_wire.specs.declared.Request.{Request}
 use Rattle.nbd_wire.specs.declared.TheConstants.{COMMAND_READ, COMMAND_WRITE, COMMAND_DISC, COMMAND_TRIM, COMMAND_WRITE_ZEROES}
 use Rattle.nbd_wire.specs.Grammar.{Message, client_flags, client_option, command, malformed, IsRequest}
@@ -39,6 +42,59 @@ verdict_on size r =
     else if forms.is_write (form_of r) then verdicts.Write
     else if forms.is_trim (form_of r) then verdicts.Trim else verdicts.WriteZeroes)
 
+-- ---- long requests
+
+-- one without data, of more than a MiB
+abbrev pub is_long : Request → Bool
+is_long r = nat_lt 1048576 r.len && (forms.is_trim (form_of r) || forms.is_write_zeroes (form_of r))
+
+-- The error of the first test of it that fails: the tests of a TRIM or WRITE_ZEROES (`form_error`), but for that of the length.
+abbrev pub long_error : ℕ → forms.Request → Option NbdError
+long_error size r = first_failed (
+    (not (forms.has_good_flags r), Invalid)
+    ∷ (not (r.offset % 512 == 0 && r.bytes % 512 == 0), Invalid)
+    ∷ (nat_lt size (r.offset + r.bytes), if forms.is_write_zeroes r then NoSpace else Invalid) ∷ [])
+
+-- An extended session takes requests of any length that have no data.
+abbrev pub verdict_in : Bool → ℕ → Request → Verdict
+verdict_in extended size r = if extended && is_long r then option_map_or verdicts.Refuse (long_error size (form_of r)) verdicts.Long else verdict_on size r
+
+-- the bytes of the most whole blocks that 2048 sectors have
+abbrev pub part_bytes : Geometry → ℕ
+part_bytes g = 512 * (2048 / g.block_sectors * g.block_sectors)
+
+-- Parts end at multiples of that, and with the request, so each but the first begins with a block, and each but the last ends with one.
+abbrev pub up_to_cut : Geometry → Request → ℕ
+up_to_cut g r = part_bytes g - r.offset % part_bytes g
+
+abbrev pub is_last : Geometry → Request → Bool
+is_last g r = nat_lt r.len (up_to_cut g r + 1)
+
+-- how many bytes the next part has
+abbrev pub len_of_part : Geometry → Request → ℕ
+len_of_part g r = if is_last g r then r.len else up_to_cut g r
+
+-- what is left behind so many bytes, and behind the next part
+abbrev pub behind : Request → ℕ → Request
+behind r n = record { flags = r.flags; kind = r.kind; cookie = r.cookie; offset = r.offset + n; len = r.len - n }
+
+abbrev pub rest_of : Geometry → Request → Request
+rest_of g r = behind r (up_to_cut g r)
+
+-- the call of the next part, of which the last one alone has FUA
+abbrev pub part_call : ℕ → Geometry → Request → Call
+part_call id g r =
+    if forms.is_trim (form_of r) then Trim id (r.offset / 512) (len_of_part g r / 512) (has_fua r && is_last g r)
+    else WriteZeroes id (r.offset / 512) (len_of_part g r / 512) (has_no_hole r) (has_fua r && is_last g r)
+
+-- what is left of a long request whose tests held, for a volume of so many bytes
+pub record IsLeft (size : ℕ) (r : Request) : Type 0 where
+  pub some : 0 < r.len
+  pub few : r.len < 4294967296
+  pub offset : r.offset % 512 ≡ 0
+  pub len : r.len % 512 ≡ 0
+  pub inside : r.offset + r.len ≤ size
+
 -- what its tests have shown of a request for some sectors
 pub record IsWhole (size : ℕ) (r : Request) : Type 0 where
   pub offset : r.offset % 512 ≡ 0
@@ -60,6 +116,7 @@ IsTested verdicts.Trim size r = IsWhole size r
 IsTested verdicts.WriteZeroes size r = IsWhole size r
 IsTested verdicts.Flush size r = Unit {0}
 IsTested verdicts.Disconnect size r = Unit {0}
+IsTested verdicts.Long size r = IsLeft size r
 
 -- a READ stands whole at the front of a text
 pub record BeginsWithRead (text : List ℕ) : Type 0 where

@@ -16,11 +16,15 @@ use Rattle.nbd_wire.specs.declared.writing.ReplyType.{ReplyType}
 use Rattle.nbd_wire.specs.declared.writing.ReplyType.TheVariants.{Acknowledged, Server, Information, Unsupported, Invalid, Unknown}
 use Rattle.nbd_wire.specs.Grammar.{Message, client_flags, client_option, command, malformed, IsFrame, IsPartial}
 use Rattle.nbd_wire.specs.Replies.{simple_reply, option_reply, export_info, export_reply, block_size_info, server_data, IsInfo}
+use Rattle.nbd_session.specs.declared.phase.Course.TheVariants.{Listens, Works}
 use Rattle.nbd_session.specs.declared.phase.Phase.{Phase}
 use Rattle.nbd_session.specs.declared.phase.Phase.TheVariants.{Flags, Options, Transmission, Ended}
+use Rattle.nbd_session.specs.declared.phase.Profile.{Profile}
+use Rattle.nbd_session.specs.declared.phase.Profile.TheVariants.{Strict, Extended, WithDefault}
+use Rattle.nbd_session.specs.declared.phase.Terms.{Terms}
 use Rattle.nbd_session.specs.declared.request.Verdict.{Verdict}
 use Rattle.nbd_session.specs.declared.request.Verdict.TheVariants as verdicts
-use Rattle.nbd_session.specs.Requests.{bytes_of_blocks, has_fua, has_no_hole, verdict_on}
+use Rattle.nbd_session.specs.Requests.{bytes_of_blocks, has_fua, has_no_hole, is_last, part_call, rest_of, verdict_in}
 
 -- what a session shows: its phase, and the bytes that it holds of an unfinished frame
 pub record State : Type 0 where
@@ -30,17 +34,59 @@ pub record State : Type 0 where
 abbrev pub state : Phase → List ℕ → State
 state phase held = record { phase = phase; held = held }
 
+-- which frames a session reads: none after its end, and none while parts of a request are left
 abbrev pub kind_of : Phase → Option Kind
-kind_of Flags = Some kinds.Flags
-kind_of (Options no_zeroes) = Some kinds.Options
-kind_of (Transmission volume size) = Some kinds.Requests
+kind_of (Flags profile) = Some kinds.Flags
+kind_of (Options terms) = Some kinds.Options
+kind_of (Transmission volume size (Listens is_extended)) = Some kinds.Requests
+kind_of (Transmission volume size (Works rest)) = None
 kind_of Ended = None
 
 abbrev pub has_ended : Phase → Bool
-has_ended Flags = false
-has_ended (Options no_zeroes) = false
-has_ended (Transmission volume size) = false
+has_ended (Flags profile) = false
+has_ended (Options terms) = false
+has_ended (Transmission volume size course) = false
 has_ended Ended = true
+
+-- parts of a request are left
+abbrev pub is_at_work : Phase → Bool
+is_at_work (Flags profile) = false
+is_at_work (Options terms) = false
+is_at_work (Transmission volume size (Listens is_extended)) = false
+is_at_work (Transmission volume size (Works rest)) = true
+is_at_work Ended = false
+
+-- how many bytes of a request are left
+abbrev pub left_in : Phase → ℕ
+left_in (Flags profile) = 0
+left_in (Options terms) = 0
+left_in (Transmission volume size (Listens is_extended)) = 0
+left_in (Transmission volume size (Works rest)) = rest.len
+left_in Ended = 0
+
+-- ---- what is offered
+
+abbrev pub terms_of : Profile → Bool → Terms
+terms_of profile no_zeroes = record { no_zeroes = no_zeroes; profile = profile }
+
+abbrev pub is_extended : Profile → Bool
+is_extended Strict = false
+is_extended Extended = true
+is_extended (WithDefault volume) = true
+
+-- the volume of the empty name, if there is one
+abbrev pub default_of : Profile → Option ℕ
+default_of Strict = None
+default_of Extended = None
+default_of (WithDefault volume) = if nat_lt volume 16777216 then Some volume else None
+
+-- A session that is extended tells CAN_MULTI_CONN too.
+abbrev pub flags_in : Profile → ℕ → ℕ
+flags_in profile flags = if is_extended profile then 0x100 + flags else flags
+
+-- transmission begins so
+abbrev pub begun : Terms → ℕ → ℕ → Phase
+begun terms id size = Transmission id size (Listens (is_extended terms.profile))
 
 -- ---- what is sent
 
@@ -75,6 +121,10 @@ list_reply ids = flat_map name_reply ids ++ option_reply OPTION_LIST Acknowledge
 abbrev pub IsNameOf : List ℕ → ℕ → Type 0
 IsNameOf name id = (id < 16777216) × (name ≡ decimal id)
 
+-- A name means the volume of an id: it is that id, or it is empty, and the id is the default.
+abbrev pub Means : Option ℕ → List ℕ → ℕ → Type 0
+Means default name id = IsNameOf name id ⊎ ((name ≡ []) × (default ≡ Some id))
+
 -- whether a volume is there, by the least id of a volume from its own on
 abbrev pub is_there : ℕ → Option ℕ → Bool
 is_there id None = false
@@ -92,39 +142,51 @@ abbrev pub IsOutcome : Outcome → List ℕ → Phase → Type 0
 IsOutcome o sent next = (sent ≡ o.sent) × (next ≡ o.next)
 
 -- an option is answered an error, and others may follow it
-abbrev pub option_error : ℕ → ReplyType → Bool → Outcome
-option_error option reply no_zeroes = outcome (option_reply option reply []) (Options no_zeroes)
+abbrev pub option_error : ℕ → ReplyType → Terms → Outcome
+option_error option reply terms = outcome (option_reply option reply []) (Options terms)
 
 -- what an option does that looks for a volume
 pub record VolumeOption : Type 0 where
+  pub default : Option ℕ  -- the volume of the empty name
   pub holds : Bool  -- whether the volume is to be held where it is there
   pub found : ℕ → ℕ → ℕ → Outcome  -- what is done then, by its id, its size in bytes and the transmission flags
-  pub missing : Outcome  -- what is done where it is not there, or the name is no id
+  pub missing : Outcome  -- what is done where it is not there, or the name means none
 
 -- GO holds the volume, tells of it and enters transmission.
-abbrev pub go : Bool → VolumeOption
-go no_zeroes = record {
+abbrev pub go : Terms → VolumeOption
+go terms = record {
+  default = default_of terms.profile;
   holds = true;
-  found = λ id size flags. outcome (info_reply OPTION_GO size flags) (Transmission id size);
-  missing = option_error OPTION_GO Unknown no_zeroes;
+  found = λ id size flags. outcome (info_reply OPTION_GO size (flags_in terms.profile flags)) (begun terms id size);
+  missing = option_error OPTION_GO Unknown terms;
 }
 
 -- INFO tells the same and holds nothing. Other options may follow it.
-abbrev pub info : Bool → VolumeOption
-info no_zeroes = record {
+abbrev pub info : Terms → VolumeOption
+info terms = record {
+  default = default_of terms.profile;
   holds = false;
-  found = λ id size flags. outcome (info_reply OPTION_INFO size flags) (Options no_zeroes);
-  missing = option_error OPTION_INFO Unknown no_zeroes;
+  found = λ id size flags. outcome (info_reply OPTION_INFO size (flags_in terms.profile flags)) (Options terms);
+  missing = option_error OPTION_INFO Unknown terms;
 }
 
 -- EXPORT_NAME holds the volume, tells its size and the flags, and enters transmission. It has no errors: a name that is
 -- not known ends the session.
-abbrev pub export_name : Bool → VolumeOption
-export_name no_zeroes = record {
+abbrev pub export_name : Terms → VolumeOption
+export_name terms = record {
+  default = default_of terms.profile;
   holds = true;
-  found = λ id size flags. outcome (export_reply size flags no_zeroes) (Transmission id size);
+  found = λ id size flags. outcome (export_reply size (flags_in terms.profile flags) terms.no_zeroes) (begun terms id size);
   missing = outcome [] Ended;
 }
+
+-- The next part of a request was made, and answered so: where that part is done and others are left, the session goes on with these, and else the
+-- request is answered as the part was.
+abbrev pub IsMade : ℕ → ℕ → Request → Request → Bool → Answer → List ℕ → Phase → Type 0
+IsMade id size r rest last Done sent next =
+    MatchBool last (IsOutcome (outcome (reply_to r.cookie Done) (Transmission id size (Listens true))) sent next)
+    (IsOutcome (outcome [] (Transmission id size (Works rest))) sent next)
+IsMade id size r rest last answer sent next = IsOutcome (outcome (reply_to r.cookie answer) (Transmission id size (Listens true))) sent next
 
 -- S: pools. outline: a pool's geometry, mode and holds. Calls: that a call of a pool is given an answer, and leaves another pool.
 module _ {S : Type 0} (outline : S → Outline) (Calls : S → Call → Answer → S → Type 0) where
@@ -134,9 +196,9 @@ module _ {S : Type 0} (outline : S → Outline) (Calls : S → Call → Answer �
 
   -- the end of a session lets its volume go
   abbrev pub LetsGo : Phase → S → S → Type 0
-  LetsGo Flags p p' = p' ≡ p
-  LetsGo (Options no_zeroes) p p' = p' ≡ p
-  LetsGo (Transmission volume size) p p' = Calls p (LetGo volume) Done p'
+  LetsGo (Flags profile) p p' = p' ≡ p
+  LetsGo (Options terms) p p' = p' ≡ p
+  LetsGo (Transmission volume size course) p p' = Calls p (LetGo volume) Done p'
   LetsGo Ended p p' = p' ≡ p
 
   -- the session ends, and these are its last bytes
@@ -149,19 +211,28 @@ module _ {S : Type 0} (outline : S → Outline) (Calls : S → Call → Answer �
     pub calls : Calls p call answer p'
     pub sent_is : sent ≡ reply_to cookie answer
 
-  -- a request of a volume of this size, whose tests had this outcome
-  abbrev pub Serves : Verdict → ℕ → ℕ → Request → List ℕ → S → List ℕ → Phase → S → Type 0
-  Serves verdicts.Disconnect id size r payload p sent next p' = Ends [] (Transmission id size) p sent next p'
-  Serves (verdicts.Refuse e) id size r payload p sent next p' = Tells (outcome (simple_reply (nbd_code e) r.cookie []) (Transmission id size)) p sent next p'
-  Serves verdicts.Nothing id size r payload p sent next p' = Tells (outcome (simple_reply 0 r.cookie []) (Transmission id size)) p sent next p'
-  Serves verdicts.Read id size r payload p sent next p' = Performs (Read id (r.offset / 512) (r.len / 512)) r.cookie p sent p' × (next ≡ Transmission id size)
-  Serves verdicts.Write id size r payload p sent next p' =
-      Performs (Write id (r.offset / 512) (sectors_of payload) (has_fua r)) r.cookie p sent p' × (next ≡ Transmission id size)
-  Serves verdicts.Trim id size r payload p sent next p' =
-      Performs (Trim id (r.offset / 512) (r.len / 512) (has_fua r)) r.cookie p sent p' × (next ≡ Transmission id size)
-  Serves verdicts.WriteZeroes id size r payload p sent next p' =
-      Performs (WriteZeroes id (r.offset / 512) (r.len / 512) (has_no_hole r) (has_fua r)) r.cookie p sent p' × (next ≡ Transmission id size)
-  Serves verdicts.Flush id size r payload p sent next p' = Performs Flush r.cookie p sent p' × (next ≡ Transmission id size)
+  -- A request of a volume of this size, whose tests had this outcome. Of a long one nothing is made yet, and all of it is left.
+  abbrev pub Serves : Verdict → ℕ → ℕ → Bool → Request → List ℕ → S → List ℕ → Phase → S → Type 0
+  Serves verdicts.Disconnect id size extended r payload p sent next p' = Ends [] (Transmission id size (Listens extended)) p sent next p'
+  Serves (verdicts.Refuse e) id size extended r payload p sent next p' =
+      Tells (outcome (simple_reply (nbd_code e) r.cookie []) (Transmission id size (Listens extended))) p sent next p'
+  Serves verdicts.Nothing id size extended r payload p sent next p' = Tells (outcome (simple_reply 0 r.cookie []) (Transmission id size (Listens extended))) p sent next p'
+  Serves verdicts.Read id size extended r payload p sent next p' =
+      Performs (Read id (r.offset / 512) (r.len / 512)) r.cookie p sent p' × (next ≡ Transmission id size (Listens extended))
+  Serves verdicts.Write id size extended r payload p sent next p' =
+      Performs (Write id (r.offset / 512) (sectors_of payload) (has_fua r)) r.cookie p sent p' × (next ≡ Transmission id size (Listens extended))
+  Serves verdicts.Trim id size extended r payload p sent next p' =
+      Performs (Trim id (r.offset / 512) (r.len / 512) (has_fua r)) r.cookie p sent p' × (next ≡ Transmission id size (Listens extended))
+  Serves verdicts.WriteZeroes id size extended r payload p sent next p' =
+      Performs (WriteZeroes id (r.offset / 512) (r.len / 512) (has_no_hole r) (has_fua r)) r.cookie p sent p' × (next ≡ Transmission id size (Listens extended))
+  Serves verdicts.Flush id size extended r payload p sent next p' = Performs Flush r.cookie p sent p' × (next ≡ Transmission id size (Listens extended))
+  Serves verdicts.Long id size extended r payload p sent next p' = Tells (outcome [] (Transmission id size (Works r))) p sent next p'
+
+  -- the next part of a request of which so much is left
+  pub record MakesPart (id size : ℕ) (r : Request) (p : S) (sent : List ℕ) (next : Phase) (p' : S) : Type 0 where
+    pub answer : Answer
+    pub calls : Calls p (part_call id (outline p).geometry r) answer p'
+    pub is_made : IsMade id size r (rest_of (outline p).geometry r) (is_last (outline p).geometry r) answer sent next
 
   -- The pool was asked how many blocks a volume has, and answered so. A refusal ends the session, which lets the volume go where it holds it.
   abbrev pub IsSized : Bool → (ℕ → Outcome) → ℕ → Answer → S → List ℕ → Phase → S → Type 0
@@ -206,15 +277,15 @@ module _ {S : Type 0} (outline : S → Outline) (Calls : S → Call → Answer �
     pub calls : Calls p (NextId id) answer looked
     pub finds : Finds o (λ blocks. o.found id (bytes_of_blocks (outline p).geometry blocks) (transmission_flags (outline p))) id answer looked sent next p'
 
-  -- an option with a name that is no id
+  -- an option with a name that means no volume
   pub record IsNameless (o : VolumeOption) (name : List ℕ) (p : S) (sent : List ℕ) (next : Phase) (p' : S) : Type 0 where
-    pub no_id : (id : ℕ) → IsNameOf name id → ⊥
+    pub no_id : (id : ℕ) → Means o.default name id → ⊥
     pub tells : Tells o.missing p sent next p'
 
-  -- an option with a name that is an id
+  -- an option with a name that means one
   pub record IsNamed (o : VolumeOption) (name : List ℕ) (p : S) (sent : List ℕ) (next : Phase) (p' : S) : Type 0 where
     pub id : ℕ
-    pub name_is : IsNameOf name id
+    pub name_is : Means o.default name id
     pub asks : AsksFor o id p sent next p'
 
   -- an option that looks for the volume of a name
@@ -222,9 +293,9 @@ module _ {S : Type 0} (outline : S → Outline) (Calls : S → Call → Answer �
   LooksFor o name p sent next p' = IsNameless o name p sent next p' ⊎ IsNamed o name p sent next p'
 
   -- an option whose data is no name with a list of types
-  pub record IsInvalid (option : ℕ) (no_zeroes : Bool) (payload : List ℕ) (p : S) (sent : List ℕ) (next : Phase) (p' : S) : Type 0 where
+  pub record IsInvalid (option : ℕ) (terms : Terms) (payload : List ℕ) (p : S) (sent : List ℕ) (next : Phase) (p' : S) : Type 0 where
     pub no_info : (name types : List ℕ) → IsInfo payload name types → ⊥
-    pub tells : Tells (option_error option Invalid no_zeroes) p sent next p'
+    pub tells : Tells (option_error option Invalid terms) p sent next p'
 
   -- an option whose data is one
   pub record IsValid (o : VolumeOption) (payload : List ℕ) (p : S) (sent : List ℕ) (next : Phase) (p' : S) : Type 0 where
@@ -234,17 +305,17 @@ module _ {S : Type 0} (outline : S → Outline) (Calls : S → Call → Answer �
     pub looks : LooksFor o name p sent next p'
 
   -- An option of this number that looks for a volume and tells of it. In a failed pool it ends the session, whatever its data.
-  abbrev pub Informs : ℕ → VolumeOption → Bool → List ℕ → S → List ℕ → Phase → S → Type 0
-  Informs option o no_zeroes payload p sent next p' =
+  abbrev pub Informs : ℕ → VolumeOption → Terms → List ℕ → S → List ℕ → Phase → S → Type 0
+  Informs option o terms payload p sent next p' =
       MatchBool (is_failed (outline p).mode)
-      (Ends [] (Options no_zeroes) p sent next p')
-      (IsInvalid option no_zeroes payload p sent next p' ⊎ IsValid o payload p sent next p')
+      (Ends [] (Options terms) p sent next p')
+      (IsInvalid option terms payload p sent next p' ⊎ IsValid o payload p sent next p')
 
   -- The same of an option whose data is the name, whatever it is.
-  abbrev pub Exports : VolumeOption → Bool → List ℕ → S → List ℕ → Phase → S → Type 0
-  Exports o no_zeroes name p sent next p' =
+  abbrev pub Exports : VolumeOption → Terms → List ℕ → S → List ℕ → Phase → S → Type 0
+  Exports o terms name p sent next p' =
       MatchBool (is_failed (outline p).mode)
-      (Ends [] (Options no_zeroes) p sent next p')
+      (Ends [] (Options terms) p sent next p')
       (LooksFor o name p sent next p')
 
   -- Calls of NextId one after another, each for what follows the id that the one before it found: from an id on they found these, and ended so.
@@ -265,12 +336,12 @@ module _ {S : Type 0} (outline : S → Outline) (Calls : S → Call → Answer �
   IsEnough from p p' = p' ≡ p
 
   -- all volumes were found, and are named
-  pub record NamesAll (no_zeroes : Bool) (p : S) (sent : List ℕ) (next : Phase) (p' : S) : Type 0 where
+  pub record NamesAll (terms : Terms) (p : S) (sent : List ℕ) (next : Phase) (p' : S) : Type 0 where
     pub ids : List ℕ
     pub few : length ids ≤ 65536
     pub finding : Finding IsLast 0 ids p p'
     pub sent_is : sent ≡ list_reply ids
-    pub next_is : next ≡ Options no_zeroes
+    pub next_is : next ≡ Options terms
 
   -- a call was refused, or one volume more was found than there may be: that ends the session
   pub record NamesNone (p : S) (sent : List ℕ) (next : Phase) (p' : S) : Type 0 where
@@ -281,29 +352,30 @@ module _ {S : Type 0} (outline : S → Outline) (Calls : S → Call → Answer �
     pub next_is : next ≡ Ended
 
   -- LIST, which has no data, names each volume in the order of the ids. In a failed pool it ends the session, whatever its data.
-  abbrev pub Lists : Bool → List ℕ → S → List ℕ → Phase → S → Type 0
-  Lists no_zeroes payload p sent next p' =
+  abbrev pub Lists : Terms → List ℕ → S → List ℕ → Phase → S → Type 0
+  Lists terms payload p sent next p' =
       MatchBool (is_failed (outline p).mode)
-      (Ends [] (Options no_zeroes) p sent next p')
+      (Ends [] (Options terms) p sent next p')
       (MatchBool (length payload == 0)
-      (NamesAll no_zeroes p sent next p' ⊎ NamesNone p sent next p')
-      (Tells (option_error OPTION_LIST Invalid no_zeroes) p sent next p'))
+      (NamesAll terms p sent next p' ⊎ NamesNone p sent next p')
+      (Tells (option_error OPTION_LIST Invalid terms) p sent next p'))
 
   -- an option, by its number: ABORT is acknowledged and ends the session, whatever its data
-  abbrev pub Chooses : Bool → ℕ → List ℕ → S → List ℕ → Phase → S → Type 0
-  Chooses no_zeroes option payload p sent next p' =
-      MatchBool (option == OPTION_GO) (Informs OPTION_GO (go no_zeroes) no_zeroes payload p sent next p')
-      (MatchBool (option == OPTION_INFO) (Informs OPTION_INFO (info no_zeroes) no_zeroes payload p sent next p')
-      (MatchBool (option == OPTION_EXPORT_NAME) (Exports (export_name no_zeroes) no_zeroes payload p sent next p')
-      (MatchBool (option == OPTION_LIST) (Lists no_zeroes payload p sent next p')
-      (MatchBool (option == OPTION_ABORT) (Ends (option_reply OPTION_ABORT Acknowledged []) (Options no_zeroes) p sent next p')
-      (Tells (option_error option Unsupported no_zeroes) p sent next p')))))
+  abbrev pub Chooses : Terms → ℕ → List ℕ → S → List ℕ → Phase → S → Type 0
+  Chooses terms option payload p sent next p' =
+      MatchBool (option == OPTION_GO) (Informs OPTION_GO (go terms) terms payload p sent next p')
+      (MatchBool (option == OPTION_INFO) (Informs OPTION_INFO (info terms) terms payload p sent next p')
+      (MatchBool (option == OPTION_EXPORT_NAME) (Exports (export_name terms) terms payload p sent next p')
+      (MatchBool (option == OPTION_LIST) (Lists terms payload p sent next p')
+      (MatchBool (option == OPTION_ABORT) (Ends (option_reply OPTION_ABORT Acknowledged []) (Options terms) p sent next p')
+      (Tells (option_error option Unsupported terms) p sent next p')))))
 
   -- One frame: what is sent for it, the next phase, and the pool after it.
   abbrev pub Answers : Phase → Message → S → List ℕ → Phase → S → Type 0
-  Answers Flags (client_flags no_zeroes) p sent next p' = Tells (outcome [] (Options no_zeroes)) p sent next p'
-  Answers (Options no_zeroes) (client_option option payload) p sent next p' = Chooses no_zeroes option payload p sent next p'
-  Answers (Transmission volume size) (command r payload) p sent next p' = Serves (verdict_on size r) volume size r payload p sent next p'
+  Answers (Flags profile) (client_flags no_zeroes) p sent next p' = Tells (outcome [] (Options (terms_of profile no_zeroes))) p sent next p'
+  Answers (Options terms) (client_option option payload) p sent next p' = Chooses terms option payload p sent next p'
+  Answers (Transmission volume size (Listens extended)) (command r payload) p sent next p' = Serves (verdict_in extended size r) volume size extended r payload p sent next p'
+  Answers (Transmission volume size (Works rest)) message p sent next p' = ⊥
   Answers phase malformed p sent next p' = Ends [] phase p sent next p'
   Answers phase _ p sent next p' = ⊥
 
@@ -338,10 +410,24 @@ module _ {S : Type 0} (outline : S → Outline) (Calls : S → Call → Answer �
     pub held_is : new.held ≡ []
     pub pool_is : p' ≡ p
 
+  -- A session whose request has parts left makes the next one, and takes nothing of the piece.
+  pub record GoesOn (volume size : ℕ) (r : Request) (old : State) (p : S) (taken : ℕ) (sent : List ℕ) (ended : Bool) (new : State) (p' : S) : Type 0 where
+    pub part : MakesPart volume size r p sent new.phase p'
+    pub none : old.held ≡ []
+    pub taken_is : taken ≡ 0
+    pub ended_is : ended ≡ has_ended new.phase
+    pub held_is : new.held ≡ []
+
+  -- one that reads no frames
+  abbrev pub IsDeaf : Phase → State → S → List ℕ → ℕ → List ℕ → Bool → State → S → Type 0
+  IsDeaf (Transmission volume size (Works r)) old p piece taken sent ended new p' = GoesOn volume size r old p taken sent ended new p'
+  IsDeaf Ended old p piece taken sent ended new p' = IsOver old p piece taken sent ended new p'
+  IsDeaf phase old p piece taken sent ended new p' = ⊥
+
   -- One step of a session on a piece.
   abbrev pub Steps : State → S → List ℕ → ℕ → List ℕ → Bool → State → S → Type 0
   Steps old p piece taken sent ended new p' =
-      MatchOption (kind_of old.phase) (IsOver old p piece taken sent ended new p')
+      MatchOption (kind_of old.phase) (IsDeaf old.phase old p piece taken sent ended new p')
       (λ kind. Waits kind old p piece taken sent ended new p' ⊎ TakesFrame kind old p piece taken sent ended new p')
 
   -- a text is one frame of the phase, and this is sent for it

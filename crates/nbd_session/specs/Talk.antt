@@ -4,9 +4,11 @@ use Rattle.tp_model.specs.Pool.{Outline}
 use Rattle.tp_model.specs.Calls.{Call, Answer}
 use Rattle.nbd_wire.specs.declared.Kind.{Kind}
 use Rattle.nbd_wire.specs.Grammar.{Message, IsFrame, IsPartial}
+use Rattle.nbd_wire.specs.declared.Request.{Request}
+use Rattle.nbd_session.specs.declared.phase.Course.TheVariants.{Works}
 use Rattle.nbd_session.specs.declared.phase.Phase.{Phase}
-use Rattle.nbd_session.specs.declared.phase.Phase.TheVariants.{Ended}
-use Rattle.nbd_session.specs.Session.{State, state, kind_of, Answers}
+use Rattle.nbd_session.specs.declared.phase.Phase.TheVariants.{Ended, Transmission}
+use Rattle.nbd_session.specs.Session.{State, state, kind_of, Answers, MakesPart}
 
 module _ {S : Type 0} (outline : S → Outline) (Calls : S → Call → Answer → S → Type 0) where
   -- From a phase and a pool, a text is answered so: the bytes that are sent, the session after it, and the pool after
@@ -17,6 +19,12 @@ module _ {S : Type 0} (outline : S → Outline) (Calls : S → Call → Answer �
         → Talks phase text p [] (state phase text) p
     -- the rest of the text after an end is dropped
     over : {text : List ℕ} {p : S} → Talks Ended text p [] (state Ended []) p
+    -- parts of a request are left, and nothing of the text is
+    stops : {volume size : ℕ} {r : Request} {p : S} → Talks (Transmission volume size (Works r)) [] p [] (state (Transmission volume size (Works r)) []) p
+    -- the next part of a request is made, and then the rest
+    works : {text sent : List ℕ} {p p' : S} {new : State} (volume size : ℕ) (r : Request) (first others : List ℕ) (mid : Phase) (q : S)
+        → MakesPart outline Calls volume size r p first mid q → Talks mid text q others new p' → sent ≡ first ++ others
+        → Talks (Transmission volume size (Works r)) text p sent new p'
     -- the first frame is answered, and then the rest
     goes : {phase : Phase} {text sent : List ℕ} {p p' : S} {new : State} (kind : Kind) (message : Message) (frame rest first others : List ℕ) (mid : Phase) (q : S)
         → kind_of phase ≡ Some kind → IsFrame kind message frame → text ≡ frame ++ rest

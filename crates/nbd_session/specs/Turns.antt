@@ -6,14 +6,15 @@ use Rattle.tp_model.specs.PoolStops.{MayBeLeftSince}
 use Rattle.tp_model.specs.Clauses.{Continues, Entry, HasTrace, IsOpened, PoolCall, Traced, TracedCall, View, events_of, outline_of_traced, traced}
 use Rattle.nbd_wire.specs.Replies.{greeting}
 use Rattle.nbd_session.specs.declared.phase.Phase.TheVariants.{Flags, Ended}
+use Rattle.nbd_session.specs.declared.phase.Profile.{Profile}
 use Rattle.nbd_session.specs.Session.{State, state, LetsGo, Steps}
 
 -- ---- turns
 
 pub data Turn : Type 0 where
-  -- a client comes, and is greeted
-  Opens : (session : ℕ) (sent : List ℕ) → Turn
-  -- a session takes so much of a piece, up to the end of one frame, and answers that frame
+  -- a client comes, is offered so much, and is greeted
+  Opens : (session : ℕ) (profile : Profile) (sent : List ℕ) → Turn
+  -- a session takes so much of a piece, up to the end of one frame, and answers that frame, or makes one part of a long request
   Hears : (session : ℕ) (piece : List ℕ) (taken : ℕ) (sent : List ℕ) (ended : Bool) → Turn
   -- a client leaves
   Leaves : (session : ℕ) → Turn
@@ -22,7 +23,7 @@ pub data Turn : Type 0 where
 
 -- what is sent to a session
 abbrev pub sent_in : ℕ → Turn → List ℕ
-sent_in n (Opens session sent) = if session == n then sent else []
+sent_in n (Opens session profile sent) = if session == n then sent else []
 sent_in n (Hears session piece taken sent ended) = if session == n then sent else []
 sent_in n (Leaves session) = []
 sent_in n (Asks call answer) = []
@@ -59,7 +60,7 @@ Others n at at' = (i : ℕ) → i ≢ n → at' i ≡ at i
 -- S: pools. outline: a pool's geometry, mode and holds. Calls: that a call of a pool is given an answer, and leaves another pool.
 module _ {S : Type 0} (outline : S → Outline) (Calls : S → Call → Answer → S → Type 0) where
   abbrev pub TakesTurn : Sessions → S → Turn → Sessions → S → Type 0
-  TakesTurn at p (Opens n sent) at' p' = (p' ≡ p) × Others n at at' × (at n ≡ state Ended []) × (at' n ≡ state Flags []) × (sent ≡ greeting)
+  TakesTurn at p (Opens n profile sent) at' p' = (p' ≡ p) × Others n at at' × (at n ≡ state Ended []) × (at' n ≡ state (Flags profile) []) × (sent ≡ greeting)
   TakesTurn at p (Hears n piece taken sent ended) at' p' = Steps outline Calls (at n) p piece taken sent ended (at' n) p' × Others n at at'
   TakesTurn at p (Leaves n) at' p' = LetsGo outline Calls (at n).phase p p' × Others n at at' × (at' n ≡ state Ended [])
   TakesTurn at p (Asks call answer) at' p' = Calls p call answer p' × ((i : ℕ) → at' i ≡ at i)

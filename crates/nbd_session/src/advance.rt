@@ -1,25 +1,34 @@
 //! A session goes on by a piece.
 
-ghost use Rattle.std.specs.Prelude.{◌≡◌, ◌≤◌, ◌<◌, ◌+◌, Option, Some, length, take};
+ghost use Rattle.std.specs.Prelude.{◌≡◌, ◌≤◌, ◌<◌, ◌+◌, [], true, Option, None, Some, length, take};
 ghost use Rattle.nbd_wire.specs.Reading.{fixed_len, whole_len};
-ghost use Rattle.nbd_session.specs.Session.{AnswersText, Steps, has_ended, kind_of as kind_in, state};
-ghost use Rattle.nbd_session.specs.Buffers.{wanted_in};
+ghost use Rattle.nbd_session.specs.Session.{AnswersText, GoesOn, IsDeaf, Steps, has_ended, is_at_work, kind_of as kind_in, left_in, state};
+ghost use Rattle.nbd_session.specs.Buffers.{IsSound, wanted_in};
+ghost use Rattle.nbd_session.specs.Requests.{IsLeft, known_bytes};
 ghost use Rattle.tp_model.specs.Clauses.{PoolCall};
 ghost use Rattle.nbd_session.specs.Clauses.{Advances, IsReady};
 
 use crate::answer::{MAX_ANSWER, answer};
 use crate::gather::gather;
-use crate::phase::Phase;
-use nbd_wire::{Kind, MAX_FRAME, read_frame, wanted};
-use tp_model::Volumes;
+use crate::parts::make_part;
+use crate::phase::{Course, Phase};
+use nbd_wire::{Kind, MAX_FRAME, Request, read_frame, wanted};
+use tp_model::{DevId, Volumes};
 
 fn kind_of(phase: &Phase) -> Option<Kind>
     ensures { result ≡ kind_in phase.now }
 {
     match phase {
-        Phase::Flags => Some(Kind::Flags),
+        Phase::Flags { .. } => Some(Kind::Flags),
         Phase::Options { .. } => Some(Kind::Options),
-        Phase::Transmission { .. } => Some(Kind::Requests),
+        Phase::Transmission {
+            course: Course::Listens { .. },
+            ..
+        } => Some(Kind::Requests),
+        Phase::Transmission {
+            course: Course::Works { .. },
+            ..
+        } => None,
         Phase::Ended => None,
     }
 }
@@ -44,6 +53,7 @@ fn answer_text<V: Volumes>(
     requires whole { whole_len kind text.now ≡ length text.now }
     requires room { MAX_ANSWER ≤ length out.old }
     ensures answer { AnswersText V.view.outline (PoolCall V.view) kind phase text.now pool.old (take result.1 out.new) result.0 pool.new }
+    ensures sound { IsSound result.0 }
     ensures fits { result.1 ≤ length out.new }
     ensures len { length out.new ≡ length out.old }
 {
@@ -60,6 +70,66 @@ pub struct Advanced {
     pub sent: usize,
 }
 
+/// Makes the next part of a request.
+fn go_on_with<V: Volumes>(
+    volume: DevId,
+    size: u64,
+    rest: Request,
+    out: &mut [u8],
+    pool: &mut V,
+) -> Advanced
+    requires size { size ≡ known_bytes (V.view.outline pool.old).geometry (V.view.more pool.old) volume }
+    requires left { IsLeft size rest }
+    requires room { 16 ≤ length out.old }
+    ensures steps { GoesOn V.view.outline (PoolCall V.view) volume size rest (state (Phase.Transmission volume size (Course.Works rest)) []) pool.old
+        result.taken (take result.sent out.new) (has_ended result.phase) (state result.phase []) pool.new }
+    ensures filled { result.filled ≡ 0 }
+    ensures sound { IsSound result.phase }
+    ensures less { left_in result.phase < rest.len }
+    ensures fits { result.sent ≤ length out.new }
+    ensures len { length out.new ≡ length out.old }
+{
+    let (next, sent) = make_part(pool, volume, size, rest, out);
+    Advanced {
+        phase: next,
+        filled: 0,
+        taken: 0,
+        sent,
+    }
+}
+
+/// Goes on without a frame: makes the next part of a request that has one, or drops a piece behind the end.
+fn go_on<V: Volumes>(phase: Phase, out: &mut [u8], pool: &mut V, piece: &[u8]) -> Advanced
+    requires deaf { kind_in phase ≡ None }
+    requires ready { IsReady phase (V.view.outline pool.old) (V.view.more pool.old) }
+    requires sound { IsSound phase }
+    requires room { 16 ≤ length out.old }
+    ensures steps { IsDeaf V.view.outline (PoolCall V.view) phase (state phase []) pool.old piece.now
+        result.taken (take result.sent out.new) (has_ended result.phase) (state result.phase []) pool.new }
+    ensures filled { result.filled ≡ 0 }
+    ensures sound { IsSound result.phase }
+    ensures less { is_at_work phase ≡ true → left_in result.phase < left_in phase }
+    ensures fits { result.sent ≤ length out.new }
+    ensures len { length out.new ≡ length out.old }
+{
+    match phase {
+        Phase::Transmission {
+            volume,
+            size,
+            course,
+        } => match course {
+            Course::Works { rest } => go_on_with(volume, size, rest, out, pool),
+            Course::Listens { .. } => unreachable!(),
+        },
+        _ => Advanced {
+            phase: Phase::Ended,
+            filled: 0,
+            taken: piece.len(),
+            sent: 0,
+        },
+    }
+}
+
 /// Takes bytes up to the end of one frame. What is sent stands at the front of `out`. A frame that stands whole in the
 /// piece is not copied.
 fn take_frame<V: Volumes>(
@@ -74,23 +144,21 @@ fn take_frame<V: Volumes>(
     requires input { MAX_FRAME ≤ length input.old }
     requires filled { filled ≤ length input.old }
     requires partial { filled < wanted_in phase (take filled input.old) }
+    requires sound { IsSound phase }
     requires out { MAX_ANSWER ≤ length out.old }
     ensures steps { Steps V.view.outline (PoolCall V.view) (state phase (take filled input.old)) pool.old piece.now
         result.taken (take result.sent out.new) (has_ended result.phase)
         (state result.phase (take result.filled input.new)) pool.new }
     ensures filled { result.filled ≤ length input.new }
     ensures partial { result.filled < wanted_in result.phase (take result.filled input.new) }
+    ensures sound { IsSound result.phase }
+    ensures less { is_at_work phase ≡ true → left_in result.phase < left_in phase }
     ensures fits { result.sent ≤ length out.new }
     ensures input_len { length input.new ≡ length input.old }
     ensures out_len { length out.new ≡ length out.old }
 {
     let Some(kind) = kind_of(&phase) else {
-        return Advanced {
-            phase: Phase::Ended,
-            filled: 0,
-            taken: piece.len(),
-            sent: 0,
-        };
+        return go_on(phase, out, pool, piece);
     };
     if filled == 0 {
         let length = wanted(kind, piece);
@@ -136,12 +204,14 @@ pub fn advance<V: Volumes>(
     requires input { MAX_FRAME ≤ length input.old }
     requires filled { filled ≤ length input.old }
     requires partial { filled < wanted_in phase (take filled input.old) }
+    requires sound { IsSound phase }
     requires out { MAX_ANSWER ≤ length out.old }
     ensures advances { Advances V.view (state phase (take filled input.old)) pool.old piece.now
         result.taken (take result.sent out.new) (has_ended result.phase)
         (state result.phase (take result.filled input.new)) pool.new }
     ensures filled { result.filled ≤ length input.new }
     ensures partial { result.filled < wanted_in result.phase (take result.filled input.new) }
+    ensures sound { IsSound result.phase }
     ensures fits { result.sent ≤ length out.new }
     ensures input_len { length input.new ≡ length input.old }
     ensures out_len { length out.new ≡ length out.old }

@@ -7,14 +7,15 @@ ghost use Rattle.tp_model.specs.Calls.{Refused, Read, Write, Trim, WriteZeroes, 
 ghost use Rattle.nbd_wire.specs.Grammar.{payload_len};
 ghost use Rattle.nbd_wire.specs.Reading.{message_of};
 ghost use Rattle.nbd_wire.specs.Replies.{simple_reply};
-ghost use Rattle.nbd_session.specs.Requests.{IsWhole, has_fua, has_no_hole, known_bytes, verdict_on};
-ghost use Rattle.nbd_session.specs.Session.{Answers, LetsGo, Performs, Serves, reply_to};
+ghost use Rattle.nbd_session.specs.Requests.{IsWhole, has_fua, has_no_hole, known_bytes, verdict_in};
+ghost use Rattle.nbd_session.specs.Session.{Answers, LetsGo, Performs, Serves, reply_to, terms_of};
+ghost use Rattle.nbd_session.specs.Buffers.{IsSound};
 ghost use Rattle.tp_model.specs.Clauses.{PoolCall};
 ghost use Rattle.nbd_session.specs.Clauses.{IsOf, IsReady};
 
 use crate::options::choose;
-use crate::phase::Phase;
-use crate::request::{Verdict, judge};
+use crate::phase::{Course, Phase, Profile, Terms};
+use crate::request::{Verdict, judge_in};
 use nbd_wire::{Frame, Request, put_simple_reply_head};
 use tp_model::{DevId, Refusal, Volumes};
 
@@ -22,7 +23,7 @@ use tp_model::{DevId, Refusal, Volumes};
 pub const MAX_ANSWER: usize = 2_097_172;
 
 /// A simple reply without data, at the front.
-fn put_reply(out: &mut [u8], error: u32, cookie: u64) -> usize
+pub(crate) fn put_reply(out: &mut [u8], error: u32, cookie: u64) -> usize
     requires { 16 ≤ length out.old }
     ensures reply { take result out.new ≡ simple_reply error cookie [] }
     ensures fits { result ≤ length out.new }
@@ -32,7 +33,7 @@ fn put_reply(out: &mut [u8], error: u32, cookie: u64) -> usize
 }
 
 /// The reply to a request that the pool refused.
-fn put_refusal(out: &mut [u8], refusal: Refusal, cookie: u64) -> usize
+pub(crate) fn put_refusal(out: &mut [u8], refusal: Refusal, cookie: u64) -> usize
     requires { 16 ≤ length out.old }
     ensures reply { take result out.new ≡ reply_to cookie (Refused refusal) }
     ensures fits { result ≤ length out.new }
@@ -69,14 +70,14 @@ fn read<V: Volumes>(pool: &mut V, volume: DevId, request: &Request, out: &mut [u
 }
 
 /// Whether what a request does is to be kept before it is answered.
-fn wants_fua(request: &Request) -> bool
+pub(crate) fn wants_fua(request: &Request) -> bool
     ensures { result ≡ has_fua request.now }
 {
     request.flags % 2 == 1
 }
 
 /// Whether each block that a WRITE_ZEROES touches is to have a data block afterwards.
-fn wants_no_hole(request: &Request) -> bool
+pub(crate) fn wants_no_hole(request: &Request) -> bool
     ensures { result ≡ has_no_hole request.now }
 {
     request.flags / 2 % 2 == 1
@@ -165,11 +166,23 @@ pub fn end<V: Volumes>(phase: Phase, pool: &mut V) -> Phase
     Phase::Ended
 }
 
+/// Where a session stands that has so much left of a request.
+pub(crate) fn at_work(volume: DevId, size: u64, rest: Request) -> Phase
+    ensures { result ≡ Phase.Transmission volume size (Course.Works rest) }
+{
+    Phase::Transmission {
+        volume,
+        size,
+        course: Course::Works { rest },
+    }
+}
+
 /// The answer to one request of a volume of so many bytes.
 fn serve<V: Volumes>(
     pool: &mut V,
     volume: DevId,
     size: u64,
+    is_extended: bool,
     request: Request,
     payload: &[u8],
     out: &mut [u8],
@@ -178,13 +191,18 @@ fn serve<V: Volumes>(
     requires size { size ≡ known_bytes (V.view.outline pool.old).geometry (V.view.more pool.old) volume }
     requires payload { length payload.now ≡ payload_len request }
     requires room { 1048592 ≤ length out.old }
-    ensures answer { Serves V.view.outline (PoolCall V.view) (verdict_on size request) volume size request payload.now
+    ensures answer { Serves V.view.outline (PoolCall V.view) (verdict_in is_extended size request) volume size is_extended request payload.now
         pool.old (take result.1 out.new) result.0 pool.new }
+    ensures sound { IsSound result.0 }
     ensures fits { result.1 ≤ length out.new }
     ensures len { length out.new ≡ length out.old }
 {
-    let same = Phase::Transmission { volume, size };
-    match judge(size, &request) {
+    let same = Phase::Transmission {
+        volume,
+        size,
+        course: Course::Listens { is_extended },
+    };
+    match judge_in(is_extended, size, &request) {
         Verdict::Disconnect => (end(same, pool), 0),
         Verdict::Refuse(error) => (same, put_reply(out, error.code(), request.cookie)),
         Verdict::Nothing => (same, put_reply(out, 0, request.cookie)),
@@ -193,6 +211,16 @@ fn serve<V: Volumes>(
         Verdict::Trim => (same, trim(pool, volume, &request, out)),
         Verdict::WriteZeroes => (same, write_zeroes(pool, volume, &request, out)),
         Verdict::Flush => (same, flush(pool, request.cookie, out)),
+        Verdict::Long => (at_work(volume, size, request), 0),
+    }
+}
+
+/// Where a session stands behind the client flags.
+fn agree(profile: Profile, no_zeroes: bool) -> Phase
+    ensures { result ≡ Phase.Options (terms_of profile no_zeroes) }
+{
+    Phase::Options {
+        terms: Terms { no_zeroes, profile },
     }
 }
 
@@ -207,20 +235,31 @@ pub fn answer<V: Volumes>(
     requires frame { IsOf phase (message_of frame) }
     requires room { MAX_ANSWER ≤ length out.old }
     ensures answer { Answers V.view.outline (PoolCall V.view) phase (message_of frame.entry) pool.old (take result.1 out.new) result.0 pool.new }
+    ensures sound { IsSound result.0 }
     ensures fits { result.1 ≤ length out.new }
     ensures len { length out.new ≡ length out.old }
 {
     match frame {
         Frame::Malformed => (end(phase, pool), 0),
-        Frame::ClientFlags { no_zeroes } => (Phase::Options { no_zeroes }, 0),
+        Frame::ClientFlags { no_zeroes } => match phase {
+            Phase::Flags { profile } => (agree(profile, no_zeroes), 0),
+            _ => unreachable!(),
+        },
         Frame::ClientOption { option, payload } => match phase {
-            Phase::Options { no_zeroes } => choose(no_zeroes, option, payload, out, pool),
+            Phase::Options { terms } => choose(terms, option, payload, out, pool),
             _ => unreachable!(),
         },
         Frame::Command { request, payload } => match phase {
-            Phase::Transmission { volume, size } => {
-                serve(pool, volume, size, request, payload, out)
-            }
+            Phase::Transmission {
+                volume,
+                size,
+                course,
+            } => match course {
+                Course::Listens { is_extended } => {
+                    serve(pool, volume, size, is_extended, request, payload, out)
+                }
+                Course::Works { .. } => unreachable!(),
+            },
             _ => unreachable!(),
         },
     }

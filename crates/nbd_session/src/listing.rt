@@ -9,7 +9,7 @@ ghost use Rattle.nbd_wire.specs.declared.writing.ReplyType.TheVariants.{Acknowle
 ghost use Rattle.nbd_session.specs.Session.{IsLast, Lists, NamesAll, NamesNone, name_reply};
 
 use crate::options::{answer_error, has_failed};
-use crate::phase::Phase;
+use crate::phase::{Phase, Terms};
 use itoa::Buffer;
 use nbd_wire::{OPTION_LIST, ReplyType, put_option_reply_head, put_server_reply};
 use tp_model::{DevId, Refusal, Volumes};
@@ -56,9 +56,9 @@ fn next_from<V: Volumes>(pool: &mut V, from: u32) -> Result<Option<DevId>, Refus
 }
 
 /// The names of all volumes in one answer. Where the pool refuses to look for one, or finds more than it may have, the session ends.
-fn name_all<V: Volumes>(no_zeroes: bool, out: &mut [u8], pool: &mut V) -> (Phase, usize)
+fn name_all<V: Volumes>(terms: Terms, out: &mut [u8], pool: &mut V) -> (Phase, usize)
     requires room { 2097172 ≤ length out.old }
-    ensures answer { NamesAll V.view.outline (PoolCall V.view) no_zeroes pool.old (take result.1 out.new) result.0 pool.new
+    ensures answer { NamesAll V.view.outline (PoolCall V.view) terms pool.old (take result.1 out.new) result.0 pool.new
         ⊎ NamesNone V.view.outline (PoolCall V.view) pool.old (take result.1 out.new) result.0 pool.new }
     ensures fits { result.1 ≤ length out.new }
     ensures len { length out.new ≡ length out.old }
@@ -73,12 +73,12 @@ fn name_all<V: Volumes>(no_zeroes: bool, out: &mut [u8], pool: &mut V) -> (Phase
                 from = volume.number() + 1;
                 named += 1;
             }
-            Ok(None) => return (Phase::Options { no_zeroes }, put_end(out, at)),
+            Ok(None) => return (Phase::Options { terms }, put_end(out, at)),
             Err(_) => return (Phase::Ended, 0),
         }
     }
     match next_from(pool, from) {
-        Ok(None) => (Phase::Options { no_zeroes }, put_end(out, at)),
+        Ok(None) => (Phase::Options { terms }, put_end(out, at)),
         Ok(Some(_)) => (Phase::Ended, 0),
         Err(_) => (Phase::Ended, 0),
     }
@@ -86,13 +86,13 @@ fn name_all<V: Volumes>(no_zeroes: bool, out: &mut [u8], pool: &mut V) -> (Phase
 
 /// The answer to LIST.
 pub fn list<V: Volumes>(
-    no_zeroes: bool,
+    terms: Terms,
     payload: &[u8],
     out: &mut [u8],
     pool: &mut V,
 ) -> (Phase, usize)
     requires room { 2097172 ≤ length out.old }
-    ensures answer { Lists V.view.outline (PoolCall V.view) no_zeroes payload.now pool.old (take result.1 out.new) result.0 pool.new }
+    ensures answer { Lists V.view.outline (PoolCall V.view) terms payload.now pool.old (take result.1 out.new) result.0 pool.new }
     ensures fits { result.1 ≤ length out.new }
     ensures len { length out.new ≡ length out.old }
 {
@@ -101,7 +101,7 @@ pub fn list<V: Volumes>(
     }
     let len = payload.len();
     if len > 0 {
-        return answer_error(no_zeroes, OPTION_LIST, ReplyType::Invalid, out);
+        return answer_error(terms, OPTION_LIST, ReplyType::Invalid, out);
     }
-    name_all(no_zeroes, out, pool)
+    name_all(terms, out, pool)
 }

@@ -3,8 +3,9 @@
 ghost use Rattle.std.specs.Prelude.{◌≡◌, ◌≤◌, ◌<◌, ℕ, true, false, length, MatchOption, IfSome, IfNone};
 ghost use Rattle.std.specs.Str.{all_ascii_digits};
 ghost use Rattle.tp_model.specs.Digits.{number_after};
-ghost use Rattle.nbd_session.specs.Session.{IsNameOf};
+ghost use Rattle.nbd_session.specs.Session.{IsNameOf, Means, default_of};
 
+use crate::phase::Profile;
 use tp_model::DevId;
 
 /// The number that decimal digits write, where all of a text is such digits.
@@ -52,4 +53,31 @@ pub fn id_of(name: &[u8]) -> Option<DevId>
         None => None,
         Some(number) => checked(number),
     }
+}
+
+/// The volume of the empty name, if there is one.
+fn default_of(profile: Profile) -> Option<DevId>
+    ensures { result ≡ default_of profile }
+{
+    match profile {
+        Profile::Strict | Profile::Extended => None,
+        Profile::WithDefault { volume } => {
+            if volume < 16_777_216 {
+                Some(DevId::new(volume))
+            } else {
+                None
+            }
+        }
+    }
+}
+
+/// The volume that a name means: the empty name means the default.
+pub fn meant(profile: Profile, name: &[u8]) -> Option<DevId>
+    ensures found { IfSome result (λ id. Means (default_of profile) name.now id) }
+    ensures none { IfNone result ((id : ℕ) → Means (default_of profile) name.now id → ⊥) }
+{
+    if name.is_empty() {
+        return default_of(profile);
+    }
+    id_of(name)
 }

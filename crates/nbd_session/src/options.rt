@@ -7,11 +7,11 @@ ghost use Rattle.tp_model.specs.Clauses.{PoolCall};
 ghost use Rattle.nbd_wire.specs.Replies.{option_reply};
 ghost use Rattle.nbd_session.specs.Requests.{bytes_of_blocks};
 ghost use Rattle.nbd_session.specs.Looking.{IsTold, Learns, LooksUp, TakesHold, TakesOn};
-ghost use Rattle.nbd_session.specs.Session.{AsksFor, Chooses, Exports, Informs, IsOutcome, export_name, go, info, info_reply, option_error};
+ghost use Rattle.nbd_session.specs.Session.{AsksFor, Chooses, Exports, Informs, IsOutcome, begun, export_name, flags_in, go, info, info_reply, option_error};
 
 use crate::listing::list;
-use crate::name::id_of;
-use crate::phase::Phase;
+use crate::name::meant;
+use crate::phase::{Course, Phase, Profile, Terms, is_extended};
 use nbd_wire::{
     OPTION_ABORT, OPTION_EXPORT_NAME, OPTION_GO, OPTION_INFO, OPTION_LIST, ReplyType, info_name,
     put_block_size_info, put_export_info, put_export_reply, put_option_reply_head,
@@ -23,6 +23,9 @@ const FLAGS: u16 = 0x6d;
 
 /// The same, with READ_ONLY.
 const READ_ONLY_FLAGS: u16 = 0x6f;
+
+/// The transmission flag CAN_MULTI_CONN.
+const MULTI_CONN: u16 = 0x100;
 
 /// An option reply without data, at the front.
 fn put_option_reply(out: &mut [u8], option: u32, reply: ReplyType) -> usize
@@ -36,18 +39,18 @@ fn put_option_reply(out: &mut [u8], option: u32, reply: ReplyType) -> usize
 
 /// An error in answer to an option, after which others may follow.
 pub(crate) fn answer_error(
-    no_zeroes: bool,
+    terms: Terms,
     option: u32,
     reply: ReplyType,
     out: &mut [u8],
 ) -> (Phase, usize)
     requires { 20 ≤ length out.old }
-    ensures refused { IsOutcome (option_error option reply no_zeroes) (take result.1 out.new) result.0 }
+    ensures refused { IsOutcome (option_error option reply terms) (take result.1 out.new) result.0 }
     ensures fits { result.1 ≤ length out.new }
     ensures len { length out.new ≡ length out.old }
 {
     let sent = put_option_reply(out, option, reply);
-    (Phase::Options { no_zeroes }, sent)
+    (Phase::Options { terms }, sent)
 }
 
 /// The answer to an option that tells of a volume, at the front: the size in bytes, the flags, the block sizes, and ACK.
@@ -72,6 +75,31 @@ fn flags_of(mode: Mode) -> u16
     match mode {
         Mode::ReadOnly => READ_ONLY_FLAGS,
         Mode::Writable | Mode::Failed => FLAGS,
+    }
+}
+
+/// The same where the session is extended, with CAN_MULTI_CONN: what one connection was answered, a FLUSH on another keeps.
+fn flags_in(profile: Profile, flags: u16) -> u16
+    requires { flags < 256 }
+    ensures { result ≡ flags_in profile flags }
+{
+    if is_extended(profile) {
+        MULTI_CONN + flags
+    } else {
+        flags
+    }
+}
+
+/// Where a session stands that begins with transmission.
+fn begin(terms: Terms, volume: DevId, size: u64) -> Phase
+    ensures { result ≡ begun terms volume size }
+{
+    Phase::Transmission {
+        volume,
+        size,
+        course: Course::Listens {
+            is_extended: is_extended(terms.profile),
+        },
     }
 }
 
@@ -169,29 +197,29 @@ fn find<V: Volumes>(pool: &mut V, volume: DevId) -> Result<Option<u64>, Refusal>
 }
 
 /// GO of a volume, which is held from now on.
-fn enter<V: Volumes>(no_zeroes: bool, volume: DevId, out: &mut [u8], pool: &mut V) -> (Phase, usize)
+fn enter<V: Volumes>(terms: Terms, volume: DevId, out: &mut [u8], pool: &mut V) -> (Phase, usize)
     requires ready { hold_total (V.view.outline pool.old).holds < 64 }
     requires room { 86 ≤ length out.old }
-    ensures answer { AsksFor V.view.outline (PoolCall V.view) (go no_zeroes) volume pool.old (take result.1 out.new) result.0 pool.new }
+    ensures answer { AsksFor V.view.outline (PoolCall V.view) (go terms) volume pool.old (take result.1 out.new) result.0 pool.new }
     ensures fits { result.1 ≤ length out.new }
     ensures len { length out.new ≡ length out.old }
 {
-    let flags = flags_of(pool.mode());
+    let flags = flags_in(terms.profile, flags_of(pool.mode()));
     match find_and_hold(pool, volume) {
         Ok(Some(size)) => (
-            Phase::Transmission { volume, size },
+            begin(terms, volume, size),
             put_info_reply(out, OPTION_GO, size, flags),
         ),
-        Ok(None) => answer_error(no_zeroes, OPTION_GO, ReplyType::Unknown, out),
+        Ok(None) => answer_error(terms, OPTION_GO, ReplyType::Unknown, out),
         Err(_) => (Phase::Ended, 0),
     }
 }
 
 /// The answer to GO.
-fn go<V: Volumes>(no_zeroes: bool, payload: &[u8], out: &mut [u8], pool: &mut V) -> (Phase, usize)
+fn go<V: Volumes>(terms: Terms, payload: &[u8], out: &mut [u8], pool: &mut V) -> (Phase, usize)
     requires ready { hold_total (V.view.outline pool.old).holds < 64 }
     requires room { 86 ≤ length out.old }
-    ensures answer { Informs V.view.outline (PoolCall V.view) OPTION_GO (go no_zeroes) no_zeroes payload.now pool.old (take result.1 out.new) result.0 pool.new }
+    ensures answer { Informs V.view.outline (PoolCall V.view) OPTION_GO (go terms) terms payload.now pool.old (take result.1 out.new) result.0 pool.new }
     ensures fits { result.1 ≤ length out.new }
     ensures len { length out.new ≡ length out.old }
 {
@@ -199,36 +227,36 @@ fn go<V: Volumes>(no_zeroes: bool, payload: &[u8], out: &mut [u8], pool: &mut V)
         return (Phase::Ended, 0);
     }
     let Some(name) = info_name(payload) else {
-        return answer_error(no_zeroes, OPTION_GO, ReplyType::Invalid, out);
+        return answer_error(terms, OPTION_GO, ReplyType::Invalid, out);
     };
-    match id_of(name) {
-        None => answer_error(no_zeroes, OPTION_GO, ReplyType::Unknown, out),
-        Some(volume) => enter(no_zeroes, volume, out, pool),
+    match meant(terms.profile, name) {
+        None => answer_error(terms, OPTION_GO, ReplyType::Unknown, out),
+        Some(volume) => enter(terms, volume, out, pool),
     }
 }
 
 /// INFO of a volume, which is not held.
-fn tell<V: Volumes>(no_zeroes: bool, volume: DevId, out: &mut [u8], pool: &mut V) -> (Phase, usize)
+fn tell<V: Volumes>(terms: Terms, volume: DevId, out: &mut [u8], pool: &mut V) -> (Phase, usize)
     requires room { 86 ≤ length out.old }
-    ensures answer { AsksFor V.view.outline (PoolCall V.view) (info no_zeroes) volume pool.old (take result.1 out.new) result.0 pool.new }
+    ensures answer { AsksFor V.view.outline (PoolCall V.view) (info terms) volume pool.old (take result.1 out.new) result.0 pool.new }
     ensures fits { result.1 ≤ length out.new }
     ensures len { length out.new ≡ length out.old }
 {
-    let flags = flags_of(pool.mode());
+    let flags = flags_in(terms.profile, flags_of(pool.mode()));
     match find(pool, volume) {
         Ok(Some(size)) => (
-            Phase::Options { no_zeroes },
+            Phase::Options { terms },
             put_info_reply(out, OPTION_INFO, size, flags),
         ),
-        Ok(None) => answer_error(no_zeroes, OPTION_INFO, ReplyType::Unknown, out),
+        Ok(None) => answer_error(terms, OPTION_INFO, ReplyType::Unknown, out),
         Err(_) => (Phase::Ended, 0),
     }
 }
 
 /// The answer to INFO.
-fn info<V: Volumes>(no_zeroes: bool, payload: &[u8], out: &mut [u8], pool: &mut V) -> (Phase, usize)
+fn info<V: Volumes>(terms: Terms, payload: &[u8], out: &mut [u8], pool: &mut V) -> (Phase, usize)
     requires room { 86 ≤ length out.old }
-    ensures answer { Informs V.view.outline (PoolCall V.view) OPTION_INFO (info no_zeroes) no_zeroes payload.now pool.old (take result.1 out.new) result.0 pool.new }
+    ensures answer { Informs V.view.outline (PoolCall V.view) OPTION_INFO (info terms) terms payload.now pool.old (take result.1 out.new) result.0 pool.new }
     ensures fits { result.1 ≤ length out.new }
     ensures len { length out.new ≡ length out.old }
 {
@@ -236,62 +264,57 @@ fn info<V: Volumes>(no_zeroes: bool, payload: &[u8], out: &mut [u8], pool: &mut 
         return (Phase::Ended, 0);
     }
     let Some(name) = info_name(payload) else {
-        return answer_error(no_zeroes, OPTION_INFO, ReplyType::Invalid, out);
+        return answer_error(terms, OPTION_INFO, ReplyType::Invalid, out);
     };
-    match id_of(name) {
-        None => answer_error(no_zeroes, OPTION_INFO, ReplyType::Unknown, out),
-        Some(volume) => tell(no_zeroes, volume, out, pool),
+    match meant(terms.profile, name) {
+        None => answer_error(terms, OPTION_INFO, ReplyType::Unknown, out),
+        Some(volume) => tell(terms, volume, out, pool),
     }
 }
 
 /// EXPORT_NAME of a volume, which is held from now on.
-fn export<V: Volumes>(
-    no_zeroes: bool,
-    volume: DevId,
-    out: &mut [u8],
-    pool: &mut V,
-) -> (Phase, usize)
+fn export<V: Volumes>(terms: Terms, volume: DevId, out: &mut [u8], pool: &mut V) -> (Phase, usize)
     requires ready { hold_total (V.view.outline pool.old).holds < 64 }
     requires room { 134 ≤ length out.old }
-    ensures answer { AsksFor V.view.outline (PoolCall V.view) (export_name no_zeroes) volume pool.old (take result.1 out.new) result.0 pool.new }
+    ensures answer { AsksFor V.view.outline (PoolCall V.view) (export_name terms) volume pool.old (take result.1 out.new) result.0 pool.new }
     ensures fits { result.1 ≤ length out.new }
     ensures len { length out.new ≡ length out.old }
 {
-    let flags = flags_of(pool.mode());
+    let flags = flags_in(terms.profile, flags_of(pool.mode()));
     match find_and_hold(pool, volume) {
-        Ok(Some(size)) => (
-            Phase::Transmission { volume, size },
-            put_export_reply(out, 0, size, flags, no_zeroes),
-        ),
+        Ok(Some(size)) => {
+            let sent = put_export_reply(out, 0, size, flags, terms.no_zeroes);
+            (begin(terms, volume, size), sent)
+        }
         Ok(None) | Err(_) => (Phase::Ended, 0),
     }
 }
 
 /// The answer to EXPORT_NAME.
 fn export_name<V: Volumes>(
-    no_zeroes: bool,
+    terms: Terms,
     name: &[u8],
     out: &mut [u8],
     pool: &mut V,
 ) -> (Phase, usize)
     requires ready { hold_total (V.view.outline pool.old).holds < 64 }
     requires room { 134 ≤ length out.old }
-    ensures answer { Exports V.view.outline (PoolCall V.view) (export_name no_zeroes) no_zeroes name.now pool.old (take result.1 out.new) result.0 pool.new }
+    ensures answer { Exports V.view.outline (PoolCall V.view) (export_name terms) terms name.now pool.old (take result.1 out.new) result.0 pool.new }
     ensures fits { result.1 ≤ length out.new }
     ensures len { length out.new ≡ length out.old }
 {
     if has_failed(pool.mode()) {
         return (Phase::Ended, 0);
     }
-    match id_of(name) {
+    match meant(terms.profile, name) {
         None => (Phase::Ended, 0),
-        Some(volume) => export(no_zeroes, volume, out, pool),
+        Some(volume) => export(terms, volume, out, pool),
     }
 }
 
 /// The answer to one option.
 pub fn choose<V: Volumes>(
-    no_zeroes: bool,
+    terms: Terms,
     option: u32,
     payload: &[u8],
     out: &mut [u8],
@@ -299,24 +322,24 @@ pub fn choose<V: Volumes>(
 ) -> (Phase, usize)
     requires ready { hold_total (V.view.outline pool.old).holds < 64 }
     requires room { 2097172 ≤ length out.old }
-    ensures answer { Chooses V.view.outline (PoolCall V.view) no_zeroes option payload.now pool.old (take result.1 out.new) result.0 pool.new }
+    ensures answer { Chooses V.view.outline (PoolCall V.view) terms option payload.now pool.old (take result.1 out.new) result.0 pool.new }
     ensures fits { result.1 ≤ length out.new }
     ensures len { length out.new ≡ length out.old }
 {
     if option == OPTION_GO {
-        go(no_zeroes, payload, out, pool)
+        go(terms, payload, out, pool)
     } else if option == OPTION_INFO {
-        info(no_zeroes, payload, out, pool)
+        info(terms, payload, out, pool)
     } else if option == OPTION_EXPORT_NAME {
-        export_name(no_zeroes, payload, out, pool)
+        export_name(terms, payload, out, pool)
     } else if option == OPTION_LIST {
-        list(no_zeroes, payload, out, pool)
+        list(terms, payload, out, pool)
     } else if option == OPTION_ABORT {
         (
             Phase::Ended,
             put_option_reply(out, OPTION_ABORT, ReplyType::Acknowledged),
         )
     } else {
-        answer_error(no_zeroes, option, ReplyType::Unsupported, out)
+        answer_error(terms, option, ReplyType::Unsupported, out)
     }
 }

@@ -4,7 +4,7 @@ ghost use Rattle.std.specs.Prelude.{◌≡◌, ◌<◌, ◌≤◌, [], false, le
 
 use crate::advance::{advance, has_ended_in};
 use crate::answer::{MAX_ANSWER, end};
-use crate::phase::Phase;
+use crate::phase::{Phase, Profile, is_at_work};
 use crate::shared::take_read;
 use nbd_wire::{MAX_FRAME, put_greeting};
 use std::alloc::{AllocError, Global};
@@ -35,7 +35,7 @@ impl Model for Session {
 /// What a step took of the piece, what it sends, and whether the session has ended.
 #[derive(Clone, Copy, Debug)]
 pub struct Step<'a> {
-    /// How many bytes of the piece were taken, at least one where there is one.
+    /// How many bytes of the piece were taken: none where it made a part of a request, else at least one where there is one.
     pub taken: usize,
     /// The answer to the frame, none where it has none.
     pub sent: &'a [u8],
@@ -46,7 +46,7 @@ pub struct Step<'a> {
 /// What a step took of the piece, how many bytes it put into the buffer that it was given, and whether the session has ended.
 #[derive(Clone, Copy, Debug, PartialEq, Eq)]
 pub struct Answered {
-    /// How many bytes of the piece were taken, at least one where there is one.
+    /// How many bytes of the piece were taken: none where it made a part of a request, else at least one where there is one.
     pub taken: usize,
     /// How many bytes the answer to the frame has, 0 where it has none.
     pub sent: usize,
@@ -58,7 +58,7 @@ impl Session {
     ghost use Rattle.std.specs.Borrow.{sem};
     ghost use Rattle.nbd_wire.specs.Replies.{greeting};
     ghost use Rattle.nbd_session.specs.Requests.{BeginsWithRead};
-    ghost use Rattle.nbd_session.specs.Session.{state};
+    ghost use Rattle.nbd_session.specs.Session.{is_at_work, left_in, state};
     ghost use Rattle.nbd_session.specs.Clauses.{Advances, IsCalm, IsReady, Leaves};
     ghost use Rattle.nbd_session.specs.contracts.session.Session.{the_row};
     ghost use mathlib.Core.Option.{none};
@@ -66,8 +66,8 @@ impl Session {
 
     /// A session that has sent and received nothing, or `Memory`, where its buffers are refused. It takes 1,048,604 bytes
     /// for what comes and 2,097,172 for what goes.
-    pub fn open(alloc: Global) -> Result<Session, Refusal>
-        ensures opened { IfOk result (λ s. s ≡ state Phase.Flags []) }
+    pub fn open(alloc: Global, profile: Profile) -> Result<Session, Refusal>
+        ensures opened { IfOk result (λ s. s ≡ state (Phase.Flags profile) []) }
         ensures refused { IfErr result (λ e. e ≡ Refusal.Memory) }
     {
         let Ok(input) = zeroes(alloc, MAX_FRAME) else {
@@ -77,7 +77,7 @@ impl Session {
             return Err(Refusal::Memory);
         };
         Ok(Session {
-            phase: Phase::Flags,
+            phase: Phase::Flags { profile },
             filled: 0,
             input,
             output,
@@ -88,8 +88,16 @@ impl Session {
     pub fn phase(&self) -> Phase
         ensures phase { result ≡ self.now.phase }
         ensures calm { IsCalm self.now }
+        ensures few { left_in self.now.phase < 4294967296 }
     {
         self.phase
+    }
+
+    /// Whether it has a request of which parts are left: each step makes one, and takes nothing, until there is none.
+    pub fn is_at_work(&self) -> bool
+        ensures { result ≡ is_at_work self.now.phase }
+    {
+        is_at_work(self.phase)
     }
 
     /// What is sent before anything comes. It changes nothing.

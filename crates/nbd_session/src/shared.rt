@@ -4,13 +4,13 @@ ghost use Rattle.std.specs.Prelude.{◌≡◌, ◌≤◌, ◌<◌, ◌/◌, ℕ,
 ghost use Rattle.tp_model.specs.Calls.{Read};
 ghost use Rattle.tp_model.specs.Clauses.{PoolCall};
 ghost use Rattle.nbd_wire.specs.Reading.{message_of, whole_len};
-ghost use Rattle.nbd_session.specs.Requests.{BeginsWithRead, IsWhole, is_read_message, known_bytes, verdict_on};
-ghost use Rattle.nbd_session.specs.Session.{AnswersText, Performs, Serves, Steps, state};
+ghost use Rattle.nbd_session.specs.Requests.{BeginsWithRead, IsWhole, is_read_message, known_bytes, verdict_in};
+ghost use Rattle.nbd_session.specs.Session.{AnswersText, Performs, Serves, Steps, is_at_work, state};
 ghost use Rattle.nbd_session.specs.Clauses.{IsReady};
 
 use crate::answer::{MAX_ANSWER, put_read_head};
-use crate::phase::Phase;
-use crate::request::{Verdict, judge};
+use crate::phase::{Course, Phase};
+use crate::request::{Verdict, judge_in};
 use crate::session::Answered;
 use nbd_wire::{COMMAND_READ, Frame, Kind, Request, read_frame, wanted};
 use tp_model::{DevId, SharedVolumes};
@@ -41,18 +41,19 @@ fn serve<V: SharedVolumes>(
     pool: &V,
     volume: DevId,
     size: u64,
+    is_extended: bool,
     request: Request,
     out: &mut [u8],
 ) -> Option<usize>
     requires size { size ≡ known_bytes (V.view.outline pool.now).geometry (V.view.more pool.now) volume }
     requires room { 1048592 ≤ length out.old }
-    ensures answer { (payload : List ℕ) → IfSome result (λ sent. Serves V.view.outline (PoolCall V.view) (verdict_on size request) volume size request payload
-        pool.now (take sent out.new) (Phase.Transmission volume size) pool.now) }
+    ensures answer { (payload : List ℕ) → IfSome result (λ sent. Serves V.view.outline (PoolCall V.view) (verdict_in is_extended size request) volume size is_extended request payload
+        pool.now (take sent out.new) (Phase.Transmission volume size (Course.Listens is_extended)) pool.now) }
     ensures kind { IfSome result (λ sent. request.kind ≡ COMMAND_READ) }
     ensures fits { IfSome result (λ sent. sent ≤ length out.new) }
     ensures len { length out.new ≡ length out.old }
 {
-    match judge(size, &request) {
+    match judge_in(is_extended, size, &request) {
         Verdict::Read => read(pool, volume, &request, out),
         _ => None,
     }
@@ -63,6 +64,7 @@ fn answer_text<V: SharedVolumes>(
     pool: &V,
     volume: DevId,
     size: u64,
+    is_extended: bool,
     text: &[u8],
     out: &mut [u8],
 ) -> Option<usize>
@@ -70,16 +72,48 @@ fn answer_text<V: SharedVolumes>(
     requires fixed { 28 ≤ length text.now }
     requires whole { whole_len Kind.Requests text.now ≡ length text.now }
     requires room { 1048592 ≤ length out.old }
-    ensures answer { IfSome result (λ sent. AnswersText V.view.outline (PoolCall V.view) Kind.Requests (Phase.Transmission volume size) text.now
-        pool.now (take sent out.new) (Phase.Transmission volume size) pool.now) }
+    ensures answer { IfSome result (λ sent. AnswersText V.view.outline (PoolCall V.view) Kind.Requests (Phase.Transmission volume size (Course.Listens is_extended)) text.now
+        pool.now (take sent out.new) (Phase.Transmission volume size (Course.Listens is_extended)) pool.now) }
     ensures begins { IfSome result (λ sent. BeginsWithRead text.now) }
     ensures fits { IfSome result (λ sent. sent ≤ length out.new) }
     ensures len { length out.new ≡ length out.old }
 {
     match read_frame(Kind::Requests, text) {
-        Frame::Command { request, .. } => serve(pool, volume, size, request, out),
+        Frame::Command { request, .. } => serve(pool, volume, size, is_extended, request, out),
         _ => None,
     }
+}
+
+/// Takes the READ with which a piece begins, of a session that holds nothing of a frame, and whose volume has so many bytes.
+fn take_from<V: SharedVolumes>(
+    pool: &V,
+    volume: DevId,
+    size: u64,
+    is_extended: bool,
+    piece: &[u8],
+    out: &mut [u8],
+) -> Option<Answered>
+    requires size { size ≡ known_bytes (V.view.outline pool.now).geometry (V.view.more pool.now) volume }
+    requires room { MAX_ANSWER ≤ length out.old }
+    ensures steps { IfSome result (λ a. Steps V.view.outline (PoolCall V.view) (state (Phase.Transmission volume size (Course.Listens is_extended)) []) pool.now piece.now
+        a.taken (take a.sent out.new) a.ended (state (Phase.Transmission volume size (Course.Listens is_extended)) []) pool.now) }
+    ensures begins { IfSome result (λ a. BeginsWithRead piece.now) }
+    ensures goes_on { IfSome result (λ a. (a.ended ≡ false) × (0 < a.taken) × (a.taken ≤ length piece.now)) }
+    ensures fits { IfSome result (λ a. a.sent ≤ length out.new) }
+    ensures len { length out.new ≡ length out.old }
+{
+    let length = wanted(Kind::Requests, piece);
+    if length > piece.len() {
+        return None;
+    }
+    let Some(sent) = answer_text(pool, volume, size, is_extended, &piece[..length], out) else {
+        return None;
+    };
+    Some(Answered {
+        taken: length,
+        sent,
+        ended: false,
+    })
 }
 
 /// Takes the READ with which a piece begins, of a session that holds nothing of a frame.
@@ -92,26 +126,25 @@ pub fn take_read<V: SharedVolumes>(
     requires ready { IsReady phase (V.view.outline pool.now) (V.view.more pool.now) }
     requires room { MAX_ANSWER ≤ length out.old }
     ensures steps { IfSome result (λ a. Steps V.view.outline (PoolCall V.view) (state phase []) pool.now piece.now a.taken (take a.sent out.new) a.ended (state phase []) pool.now) }
+    ensures idle { IfSome result (λ a. is_at_work phase ≡ false) }
     ensures begins { IfSome result (λ a. BeginsWithRead piece.now) }
     ensures goes_on { IfSome result (λ a. (a.ended ≡ false) × (0 < a.taken) × (a.taken ≤ length piece.now)) }
     ensures fits { IfSome result (λ a. a.sent ≤ length out.new) }
     ensures len { length out.new ≡ length out.old }
 {
-    let Phase::Transmission { volume, size } = phase else {
-        return None;
-    };
-    let length = wanted(Kind::Requests, piece);
-    if length > piece.len() {
-        return None;
+    match phase {
+        Phase::Transmission {
+            volume,
+            size,
+            course,
+        } => match course {
+            Course::Listens { is_extended } => {
+                take_from(pool, volume, size, is_extended, piece, out)
+            }
+            Course::Works { .. } => None,
+        },
+        _ => None,
     }
-    let Some(sent) = answer_text(pool, volume, size, &piece[..length], out) else {
-        return None;
-    };
-    Some(Answered {
-        taken: length,
-        sent,
-        ended: false,
-    })
 }
 
 /// Whether a frame is a READ.

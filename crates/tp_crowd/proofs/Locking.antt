@@ -1,15 +1,16 @@
 -- An ask of a hub, where others may have asked it before.
-use Rattle.std.proofs.Common.{◌≡◌, ◌<◌, ◌≤◌, inl, inr, ℕ, zero, suc, List, [], ◌∷◌, length, take, take-take, length-take-le, refl, sym, subst, arith}
+use Rattle.std.proofs.Common.{◌≡◌, ◌+◌, ◌<◌, ◌≤◌, ◌⊎◌, ◌++◌, ◌∙◌, ap, append_assoc, append-nil, inl, inr, ℕ, zero, suc, List, [], ◌∷◌, length, take, take-take, length-take-le, refl, sym, subst, arith}
 use Rattle.tp_model.specs.Clauses.{View}
 use Rattle.nbd_session.specs.Turns.{Sessions}
-use Rattle.tp_hub.specs.Told.{Told}
-use Rattle.tp_hub.specs.Runs.{Brings, Incoming}
-use Rattle.tp_hub.specs.Desks.{IsAsked, RunsSo}
-use Rattle.tp_crowd.specs.Locked.{SomeRuns}
+use Rattle.std.specs.List.{concat}
+use Rattle.tp_hub.specs.Told.{Answer, Grows, Told}
+use Rattle.tp_hub.specs.Runs.{Brings, Incoming, taken_of}
+use Rattle.tp_hub.specs.Desks.{IsAsked, IsCut, RunsSo}
+use Rattle.tp_crowd.specs.Locked.{ArePartRuns, MakesParts, SomeRun, SomeRuns}
 
-pub some_runs : {D : Type 0} (view : View D) (at at' : Sessions) (p p' : D) (event : Incoming) (events bytes : ℕ) (before after : Told) → IsAsked (λ took answers. RunsSo view at p took answers at' p') event events bytes before after
-    → IsAsked (λ took answers. SomeRuns view took answers) event events bytes before after
-some_runs view at at' p p' event events bytes before after asked = record {
+pub some_run : {D : Type 0} (view : View D) (at at' : Sessions) (p p' : D) (event : Incoming) (events bytes : ℕ) (before after : Told) → IsAsked (λ took answers. RunsSo view at p took answers at' p') event events bytes before after
+    → IsAsked (λ took answers. SomeRun view took answers) event events bytes before after
+some_run view at at' p p' event events bytes before after asked = record {
   answers = asked.answers;
   did = (at, p, at', p', asked.did);
   adds = asked.adds;
@@ -17,6 +18,73 @@ some_runs view at at' p p' event events bytes before after asked = record {
   silent = asked.silent;
   begun = asked.begun;
 }
+
+-- one run is what is known of an ask
+pub at_once : {D : Type 0} (view : View D) (event : Incoming) (events bytes : ℕ) (before after : Told) → IsAsked (λ took answers. SomeRun view took answers) event events bytes before after
+    → IsAsked (λ took answers. SomeRuns view took answers) event events bytes before after
+at_once view event events bytes before after asked = record {
+  answers = asked.answers;
+  did = inl asked.did;
+  adds = asked.adds;
+  cut = asked.cut;
+  silent = asked.silent;
+  begun = asked.begun;
+}
+
+pub some_runs : {D : Type 0} (view : View D) (at at' : Sessions) (p p' : D) (event : Incoming) (events bytes : ℕ) (before after : Told) → IsAsked (λ took answers. RunsSo view at p took answers at' p') event events bytes before after
+    → IsAsked (λ took answers. SomeRuns view took answers) event events bytes before after
+some_runs view at at' p p' event events bytes before after asked = at_once view event events bytes before after (some_run view at at' p p' event events bytes before after asked)
+
+-- ---- parts of a long request
+
+concat_behind : (xs : List (List Answer)) (a : List Answer) → concat (xs ++ a ∷ []) ≡ concat xs ++ a
+concat_behind [] a = append-nil a
+concat_behind (x ∷ xs) a = ap (λ (l : List Answer). x ++ l) (concat_behind xs a) ∙ sym (append_assoc x (concat xs) a)
+
+its_own : (session : ℕ) (piece : List ℕ) (events bytes : ℕ) → IsCut (Brings session piece) events bytes
+    → (taken_of (Brings session piece ∷ []) events bytes ≡ []) ⊎ ((front : List ℕ) × (taken_of (Brings session piece ∷ []) events bytes ≡ Brings session front ∷ []))
+its_own session piece zero zero cut = inl refl
+its_own session piece zero (suc n) cut = inr (take (suc n) piece, refl)
+its_own session piece (suc zero) bytes cut = inr (piece, refl)
+its_own session piece (suc (suc k)) bytes cut = absurd (omega (arith, cut.0))
+
+grows_both : (a b c : Told) (first rest : List Answer) → Grows a b first → Grows b c rest → Grows a c (first ++ rest)
+grows_both a b c first rest g h = record {
+  list = h.list ∙ (ap (λ (l : List Answer). l ++ rest) g.list ∙ append_assoc a.list first rest);
+  room = omega (arith, g.room, h.room);
+  marks = omega (arith, g.marks, h.marks);
+}
+
+module _ {D : Type 0} (view : View D) (session : ℕ) where
+  pub parts_none : (t : Told) → MakesParts view session t t
+  parts_none t = ([], tt, record { list = sym (append-nil t.list); room = omega arith; marks = omega arith })
+
+  are_behind : (xs : List (List Answer)) (a : List Answer) → ArePartRuns view session xs → SomeRun view (Brings session [] ∷ []) a → ArePartRuns view session (xs ++ a ∷ [])
+  are_behind [] a are run = (run, tt)
+  are_behind (x ∷ xs) a are run = (are.0, are_behind xs a are.1 run)
+
+  pub parts_more : (events bytes : ℕ) (before mid after : Told) → MakesParts view session before mid → IsAsked (λ took answers. SomeRun view took answers) (Brings session []) events bytes mid after → MakesParts view session before after
+  parts_more zero bytes before mid after made asked =
+      let none : bytes ≡ 0 = elim asked.cut [ inl is ↦ is | inr lt ↦ absurd (omega (arith, lt)) ] in
+      let adds = subst (λ (l : List Answer). Grows mid after l) (asked.silent refl none) asked.adds in
+      (made.0, made.1, subst (λ (l : List Answer). Grows before after l) (append-nil (concat made.0)) (grows_both before mid after (concat made.0) [] made.2 adds))
+  parts_more (suc zero) bytes before mid after made asked = (
+    made.0 ++ asked.answers ∷ [],
+    are_behind made.0 asked.answers made.1 asked.did,
+    subst (λ (l : List Answer). Grows before after l) (sym (concat_behind made.0 asked.answers)) (grows_both before mid after (concat made.0) asked.answers made.2 asked.adds),
+  )
+  parts_more (suc (suc k)) bytes before mid after made asked = absurd (omega (arith, asked.cut.0))
+
+  pub in_parts : (piece : List ℕ) (events bytes : ℕ) (before mid after : Told) → 0 < events + bytes → IsAsked (λ took answers. SomeRun view took answers) (Brings session piece) events bytes before mid → MakesParts view session mid after
+      → IsAsked (λ took answers. SomeRuns view took answers) (Brings session piece) events bytes before after
+  in_parts piece events bytes before mid after some asked made = record {
+    answers = asked.answers ++ concat made.0;
+    did = inr (record { session = session; first = asked.answers; run = asked.did; is_its = its_own session piece events bytes asked.cut; parts = made.0; are = made.1; answers_are = refl });
+    adds = grows_both before mid after asked.answers (concat made.0) asked.adds made.2;
+    cut = asked.cut;
+    silent = λ none nothing. absurd (omega (arith, some, none, nothing));
+    begun = asked.begun;
+  }
 
 module _ {D : Type 0} (view : View D) (session : ℕ) (piece : List ℕ) (before after : Told) where
   abbrev pub Asked : List ℕ → ℕ → ℕ → Type 0

@@ -128,7 +128,7 @@ turn_of bytes = if begins_as_request bytes then end_of 16 bytes else length byte
 -- a READ stands whole at the front of an event
 abbrev pub IsRead : Incoming → Type 0
 IsRead (Brings session piece) = BeginsWithRead piece
-IsRead (Comes session) = ⊥
+IsRead (Comes session profile) = ⊥
 IsRead (Goes session) = ⊥
 IsRead (Orders line) = ⊥
 IsRead AsksLine = ⊥

@@ -7,6 +7,7 @@ ghost use Rattle.tp_crowd.specs.Locked.{CameOf, IsFrom};
 
 use crate::locked::{Alarm, HubLock, LockedDesk};
 use crate::since::Start;
+use nbd_session::Profile;
 use nbd_wire::MAX_FRAME;
 use std::alloc::{AllocError, Global};
 use std::marker::Brand;
@@ -125,7 +126,14 @@ where
     S: Stream + Drop,
 {
     fn attend(&self, number: u8, mut stream: S) -> bool {
-        carry_stream(self.rt, self.alloc, self.hub, number, &mut stream)
+        carry_stream(
+            self.rt,
+            self.alloc,
+            self.hub,
+            number,
+            Profile::Strict,
+            &mut stream,
+        )
     }
 }
 
@@ -176,6 +184,7 @@ pub(crate) fn carry_stream<R, V, A, K, S>(
     alloc: Global,
     hub: &HubLock<'_, V, A, K>,
     number: u8,
+    profile: Profile,
     stream: &mut S,
 ) -> bool
 where
@@ -191,7 +200,7 @@ where
     };
     let mut out = Answers::new(alloc);
     let mut desk = LockedDesk { rt, alloc, hub };
-    carry(&mut desk, number, stream, &mut buffer, &mut out) != Carried::NoMemory
+    carry(&mut desk, number, profile, stream, &mut buffer, &mut out) != Carried::NoMemory
 }
 
 /// What is left behind so many clients, all of which are gone.

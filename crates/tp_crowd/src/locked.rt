@@ -7,7 +7,7 @@ ghost use Rattle.tp_hub.specs.Desks.{IsAsked};
 ghost use Rattle.tp_hub.specs.Places.{IsWider};
 ghost use Rattle.tp_hub.specs.Serve.{HubRuns};
 ghost use Rattle.tp_crowd.specs.Framing.{IsRead};
-ghost use Rattle.tp_crowd.specs.Locked.{IsFrom, SomeRuns};
+ghost use Rattle.tp_crowd.specs.Locked.{IsFrom, MakesParts, SomeRun, SomeRuns};
 
 use crate::order::{Order, Purpose};
 use crate::since::{Since, Start};
@@ -20,6 +20,9 @@ use std::thread;
 use tp_hub::{Answers, Desk, Event, Hub, Ran};
 use tp_model::{Mode, SharedVolumes, Volumes};
 use tp_msg::Managed;
+
+/// More parts than a request has: each but the first and the last has 513 KiB at least, and a request has less than 4 GiB.
+const MOST_PARTS: u32 = 16_384;
 
 /// So often one whose turn it is lets READs that wait go first: about as long as it takes to wake them.
 const TRIES_BEHIND_READS: u32 = 200;
@@ -133,7 +136,7 @@ impl<'a, V: SharedVolumes, A: Alarm, K: Start<V>> HubLock<'a, V, A, K> {
 }
 
 /// What asks a hub behind a lock, which is taken for one ask and let go before the answers are written. Of a piece that begins with a request at most the first
-/// 16 are asked at once, so that others have the hub between them and the next.
+/// 16 are asked at once, so that others have the hub between them and the next. A long request is asked part by part.
 ///
 /// READs share the lock: while nobody has it alone, any number of them are made at once, each over the same hub, which none of them changes. One that finds
 /// a metadata block neither changed nor held in memory, or whose disk fails, is asked again with the lock alone, as every other event is.
@@ -149,25 +152,59 @@ pub struct LockedDesk<'m, R: Wait, V: Volumes, A: Alarm, K: Start<V>> {
     pub hub: &'m HubLock<'m, V, A, K>,
 }
 
-/// Asks a hub once, and tells whether its pool is failed behind it.
+/// What was taken of an event that had the hub alone, and what is so behind it.
+struct Seen {
+    ran: Ran,
+    is_failed: bool,
+    /// Parts of a request of its session are left.
+    is_at_work: bool,
+}
+
+/// Whether a session has parts of a request left behind an event that brings bytes.
+fn has_work<V: Volumes, K: Start<V>>(hub: &Since<V, K>, hearer: Option<u8>) -> bool
+    requires { IfSome hearer (λ number. number < 64) }
+{
+    match hearer {
+        None => false,
+        Some(number) => hub.is_at_work(number),
+    }
+}
+
+/// The session of an event that brings bytes.
+fn hearer_of(event: &Event<'_>) -> Option<u8>
+    requires { session_of event.now < 64 }
+    ensures { IfSome result (λ number. number < 64) }
+{
+    match *event {
+        Event::Bytes(number, _) | Event::Parted(number, _) => Some(number),
+        _ => None,
+    }
+}
+
+/// Asks a hub once, and tells what is so behind it.
 fn ask_and_look<V: Managed, K: Start<V>>(
     alloc: Global,
     hub: &mut Since<V, K>,
     event: Event<'_>,
     out: &mut Answers,
-) -> (Ran, bool)
+) -> Seen
     requires { session_of event < 64 }
-    ensures asked { IsAsked (λ took answers. HubRuns V.view hub.old took answers hub.new) (incoming event.entry) result.0.events result.0.bytes out.old out.new }
-    ensures failed { result.1 ≡ is_failed (V.view.outline hub.new.pool).mode }
+    ensures asked { IsAsked (λ took answers. HubRuns V.view hub.old took answers hub.new) (incoming event.entry) result.ran.events result.ran.bytes out.old out.new }
+    ensures failed { result.is_failed ≡ is_failed (V.view.outline hub.new.pool).mode }
 {
+    let hearer = hearer_of(&event);
     let ran = hub.ask(alloc, event, out);
-    (ran, hub.mode() == Mode::Failed)
+    Seen {
+        ran,
+        is_failed: hub.mode() == Mode::Failed,
+        is_at_work: has_work(hub, hearer),
+    }
 }
 
 /// What an event wants the hub alone for, by its text alone: a message keeps what was written, and so does a piece that begins with such a request.
 fn purpose_of(event: &Event<'_>) -> Purpose {
     match *event {
-        Event::Bytes(_, piece) if is_to_keep(piece) => Purpose::Keep,
+        Event::Bytes(_, piece) | Event::Parted(_, piece) if is_to_keep(piece) => Purpose::Keep,
         Event::Message(_) => Purpose::Keep,
         _ => Purpose::Change,
     }
@@ -180,9 +217,9 @@ fn ask_alone<R: Wait, V: Managed + SharedVolumes, A: Alarm, K: Start<V>>(
     hub: &HubLock<'_, V, A, K>,
     event: Event<'_>,
     out: &mut Answers,
-) -> Ran
+) -> Seen
     requires { session_of event < 64 }
-    ensures { IsAsked (λ took answers. SomeRuns V.view took answers) (incoming event.entry) result.events result.bytes out.old out.new }
+    ensures { IsAsked (λ took answers. SomeRun V.view took answers) (incoming event.entry) result.ran.events result.ran.bytes out.old out.new }
 {
     let purpose = purpose_of(&event);
     let turn = hub.order.turn(rt, purpose);
@@ -191,15 +228,15 @@ fn ask_alone<R: Wait, V: Managed + SharedVolumes, A: Alarm, K: Start<V>>(
         hub.sync_ahead(rt, &turn);
     }
     let mut guard = hub.alone(rt, &turn);
-    let (ran, is_failed) = ask_and_look(alloc, &mut guard, event, out);
+    let seen = ask_and_look(alloc, &mut guard, event, out);
     drop(guard);
     hub.order.end(purpose, &turn);
     drop(turn);
     drop(device);
-    if is_failed {
+    if seen.is_failed {
         hub.sound();
     }
-    ran
+    seen
 }
 
 /// Asks a hub for the READs with which an event begins, while others may do the same. None where it has to be asked alone.
@@ -246,6 +283,49 @@ fn ask_shared<R: Wait, V: SharedVolumes, A: Alarm, K: Start<V>>(
     ask_beside_others(&hub, event, out)
 }
 
+/// Makes the parts of a long request of a session, where any are left, each in an ask of its own, so that others have the hub between two.
+fn make_parts<R: Wait, V: Managed + SharedVolumes, A: Alarm, K: Start<V>>(
+    rt: &R,
+    alloc: Global,
+    hub: &HubLock<'_, V, A, K>,
+    number: u8,
+    is_at_work: bool,
+    out: &mut Answers,
+)
+    requires { number < 64 }
+    ensures { MakesParts V.view number out.old out.new }
+{
+    let mut is_at_work = is_at_work;
+    for part in 0..MOST_PARTS {
+        if !is_at_work {
+            return;
+        }
+        is_at_work = ask_alone(rt, alloc, hub, Event::Parted(number, &[]), out).is_at_work;
+    }
+    ask_alone(rt, alloc, hub, Event::Bytes(number, &[]), out);
+}
+
+/// Asks the requests of a piece up to a long one, and then for its parts.
+fn ask_parts<R: Wait, V: Managed + SharedVolumes, A: Alarm, K: Start<V>>(
+    rt: &R,
+    alloc: Global,
+    hub: &HubLock<'_, V, A, K>,
+    number: u8,
+    piece: &[u8],
+    out: &mut Answers,
+) -> Ran
+    requires { number < 64 }
+    ensures { IsAsked (λ took answers. SomeRuns V.view took answers) (Brings number piece.now) result.events result.bytes out.old out.new }
+{
+    let seen = ask_alone(rt, alloc, hub, Event::Parted(number, piece), out);
+    let ran = seen.ran;
+    if ran.events == 0 && ran.bytes == 0 {
+        return ran;
+    }
+    make_parts(rt, alloc, hub, number, seen.is_at_work, out);
+    ran
+}
+
 /// Asks a hub behind a lock once: beside others, or where that cannot be, alone.
 fn ask_once<R: Wait, V: Managed + SharedVolumes, A: Alarm, K: Start<V>>(
     rt: &R,
@@ -260,7 +340,10 @@ fn ask_once<R: Wait, V: Managed + SharedVolumes, A: Alarm, K: Start<V>>(
     if let Some(ran) = ask_shared(rt, hub, &event, out) {
         return ran;
     }
-    ask_alone(rt, alloc, hub, event, out)
+    match event {
+        Event::Bytes(number, piece) => ask_parts(rt, alloc, hub, number, piece, out),
+        other => ask_alone(rt, alloc, hub, other, out).ran,
+    }
 }
 
 /// Asks the first requests of a piece, and tells how many bytes these were where it has more.

@@ -43,7 +43,7 @@ impl<V: Volumes, K: Start<V>> Model for Since<V, K> {
 }
 
 impl<V: Volumes, K: Start<V>> Since<V, K> {
-    ghost use Rattle.std.specs.Prelude.{◌≡◌};
+    ghost use Rattle.std.specs.Prelude.{◌≡◌, ◌<◌};
     ghost use Rattle.tp_crowd.specs.Locked.{IsFrom};
 
     /// The hub that it begins with.
@@ -63,6 +63,13 @@ impl<V: Volumes, K: Start<V>> Since<V, K> {
     {
         let Since { hub, of: _ } = self;
         hub
+    }
+
+    /// Whether a session has parts of a request left.
+    pub(crate) fn is_at_work(&self, number: u8) -> bool
+        requires { number < 64 }
+    {
+        self.hub.is_at_work(number)
     }
 
     /// The mode of its pool.

@@ -12,6 +12,7 @@ use crate::locked::{Alarm, HubLock};
 use crate::ruling::{Askers, rule};
 use crate::since::Start;
 use crate::sockets::Socket;
+use nbd_session::Profile;
 use std::alloc::Global;
 use std::marker::Brand;
 use std::net::TcpStream;
@@ -81,7 +82,14 @@ where
         }
         let socket = Socket::new(self.rt, self.alloc, &self.crew, client);
         let mut guest = Guest::new(socket, self.gate.is_over());
-        carry_stream(self.rt, self.alloc, self.hub, number, &mut guest);
+        carry_stream(
+            self.rt,
+            self.alloc,
+            self.hub,
+            number,
+            Profile::Strict,
+            &mut guest,
+        );
         guest.close();
         self.gate.leave(self.rt, number);
     }

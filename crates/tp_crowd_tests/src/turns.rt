@@ -2,6 +2,7 @@
 
 use crate::talk::{FLUSH, GO, READ};
 use crate::waiting::Seen;
+use nbd_session::Profile;
 use std::alloc::{AllocError, Global};
 use std::marker::Brand;
 use std::sync::Wait;
@@ -50,7 +51,7 @@ where
         alloc: rt.alloc(),
         hub: &hub,
     };
-    desk.ask(Event::Open(0), &mut out);
+    desk.ask(Event::Open(0, Profile::Strict), &mut out);
     desk.ask(Event::Bytes(0, GO), &mut out);
     Ok([
         ask_from(&mut desk, text, from[0], &mut out),

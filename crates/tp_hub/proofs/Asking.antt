@@ -49,7 +49,7 @@ module _ {D : Type 0} (view : View D) where
   }
 
   -- nothing was taken
-  pub not_taken : (event : Incoming) (p : D) (before after : Told) → front_of event 0 ≡ [] → ((at : Sessions) → IsPart at event 0 × IsShort at event after) → Grows before after [] → PoolTakes view event p false 0 before after p
+  pub not_taken : (event : Incoming) (p : D) (before after : Told) → front_of event 0 ≡ [] → ((at : Sessions) → IsPart at event 0 × IsShort at event 0 after) → Grows before after [] → PoolTakes view event p false 0 before after p
   not_taken event p before after none part grows = record {
     runs = λ at. subst (λ (l : List Incoming). Runs view.outline (PoolCall view) at p l before after at p) (sym none) (runs_none view.outline (PoolCall view) at at p p before after refl refl grows);
     part = part;

@@ -7,6 +7,7 @@ use Rattle.tp_hub.specs.declared.answers.TheConstants.{MOST_BYTES}
 use Rattle.tp_hub.specs.declared.answers.Mark.{Mark}
 use Rattle.tp_hub.specs.declared.answers.Mark.TheVariants.{Sent, End, Refused, Done, Line}
 use Rattle.tp_hub.specs.Told.{Answer, HasRoom, IsFull, Told, all_sent, told}
+use Rattle.nbd_session.specs.declared.phase.Profile.{Profile}
 use Rattle.tp_hub.specs.Runs.{Brings, Comes, Goes, Incoming, taken_of}
 use Rattle.tp_hub.specs.Desks.{AreAsked, Exchange, IsAsked, IsCut}
 use Rattle.tp_hub.specs.Streams.{Gave, GaveAgain, GaveEnd, GaveNone, Makes, StreamCall, IsSent}
@@ -306,37 +307,37 @@ module _ {D : Type 0} (Did : D → List Incoming → List Answer → D → Type 
       let x : Exchange = record { took = taken_of (Goes n ∷ []) events bytes; answers = a.answers } in
       (x ∷ [], (new, a.did, refl), by_false (is_over ending) _ _ open_ (x, refl, went_away n events bytes a.cut (a.begun has)))
 
-  abbrev CarriesTo : ℕ → Told → D → D → List StreamCall → List StreamCall → Carried → Type 0
-  CarriesTo n out old new told0 told1 ending = (xs : List Exchange) × AreAsked Did old xs new × Makes told0 told1 (λ did. IsCarried n out xs did ending)
+  abbrev CarriesTo : ℕ → Profile → Told → D → D → List StreamCall → List StreamCall → Carried → Type 0
+  CarriesTo n profile out old new told0 told1 ending = (xs : List Exchange) × AreAsked Did old xs new × Makes told0 told1 (λ did. IsCarried n profile out xs did ending)
 
   -- there was no room
-  pub carried_not : (n : ℕ) (out : Told) (old : D) (told0 : List StreamCall) → IsFull out → CarriesTo n out old old told0 told0 NoMemory
-  carried_not n out old told0 full = ([], refl, ([], sym (append-nil told0), inl (refl, inl (refl, full))))
+  pub carried_not : (n : ℕ) (profile : Profile) (out : Told) (old : D) (told0 : List StreamCall) → IsFull out → CarriesTo n profile out old old told0 told0 NoMemory
+  carried_not n profile out old told0 full = ([], refl, ([], sym (append-nil told0), inl (refl, inl (refl, full))))
 
-  came : (n events bytes : ℕ) → IsCut (Comes n) events bytes → 0 < events → taken_of (Comes n ∷ []) events bytes ≡ Comes n ∷ []
-  came n zero bytes cut some = absurd (omega (arith, some))
-  came n (suc zero) bytes cut some = refl
-  came n (suc (suc k)) bytes cut some = absurd (omega (arith, cut.0))
+  came : (n : ℕ) (profile : Profile) (events bytes : ℕ) → IsCut (Comes n profile) events bytes → 0 < events → taken_of (Comes n profile ∷ []) events bytes ≡ Comes n profile ∷ []
+  came n profile zero bytes cut some = absurd (omega (arith, some))
+  came n profile (suc zero) bytes cut some = refl
+  came n profile (suc (suc k)) bytes cut some = absurd (omega (arith, cut.0))
 
-  came_not : (n events bytes : ℕ) → events ≡ 0 → IsCut (Comes n) events bytes → (taken_of (Comes n ∷ []) events bytes ≡ []) × (bytes ≡ 0)
-  came_not n zero bytes e cut = (refl, cut)
-  came_not n (suc k) bytes e cut = absurd (omega (arith, e))
+  came_not : (n : ℕ) (profile : Profile) (events bytes : ℕ) → events ≡ 0 → IsCut (Comes n profile) events bytes → (taken_of (Comes n profile ∷ []) events bytes ≡ []) × (bytes ≡ 0)
+  came_not n profile zero bytes e cut = (refl, cut)
+  came_not n profile (suc k) bytes e cut = absurd (omega (arith, e))
 
-  module _ (n : ℕ) (out : Told) (old mid : D) (told0 told1 : List StreamCall) (events bytes : ℕ) (over said : Bool) (e : Exchanges Did n (Comes n) old mid events bytes told0 told1 over said) where
+  module _ (n : ℕ) (profile : Profile) (out : Told) (old mid : D) (told0 told1 : List StreamCall) (events bytes : ℕ) (over said : Bool) (e : Exchanges Did n (Comes n profile) old mid events bytes told0 told1 over said) where
     abbrev opening_is : Exchange
-    opening_is = record { took = taken_of (Comes n ∷ []) events bytes; answers = e.answers }
+    opening_is = record { took = taken_of (Comes n profile ∷ []) events bytes; answers = e.answers }
 
-    pub carried_none : events ≡ 0 → CarriesTo n out old mid told0 told1 NoMemory
+    pub carried_none : events ≡ 0 → CarriesTo n profile out old mid told0 told1 NoMemory
     carried_none none =
-        let nothing = came_not n events bytes none e.cut in
+        let nothing = came_not n profile events bytes none e.cut in
         let silent = e.silent none nothing.1 in
         let s : IsSaid [] e.calls said = subst (λ (l : List ℕ). IsSaid l e.calls said) (ap all_sent silent) e.says in
         (opening_is ∷ [], (mid, e.did, refl), (e.calls, e.calls_are, inl (s.0, inr (opening_is, refl, nothing.0, silent))))
 
-    pub carried_in_use : 0 < events → over ≡ true → CarriesTo n out old mid told0 told1 InUse
-    carried_in_use some is_over = (opening_is ∷ [], (mid, e.did, refl), (e.calls, e.calls_are, inl (opening_is, said, refl, came n events bytes e.cut some, sym e.over_is ∙ is_over, e.says)))
+    pub carried_in_use : 0 < events → over ≡ true → CarriesTo n profile out old mid told0 told1 InUse
+    carried_in_use some is_over = (opening_is ∷ [], (mid, e.did, refl), (e.calls, e.calls_are, inl (opening_is, said, refl, came n profile events bytes e.cut some, sym e.over_is ∙ is_over, e.says)))
 
-    pub carried_lost : (new : D) → 0 < events → over ≡ false → said ≡ false → LeavesTo n mid new OutputFailed → CarriesTo n out old new told0 told1 OutputFailed
+    pub carried_lost : (new : D) → 0 < events → over ≡ false → said ≡ false → LeavesTo n mid new OutputFailed → CarriesTo n profile out old new told0 told1 OutputFailed
     carried_lost new some not_over lost left = (
       opening_is ∷ left.0,
       (mid, e.did, left.1),
@@ -345,7 +346,7 @@ module _ {D : Type 0} (Did : D → List Incoming → List Answer → D → Type 
         e.calls_are,
         inr (record {
           opening = opening_is;
-          opened = came n events bytes e.cut some;
+          opened = came n profile events bytes e.cut some;
           is_open = sym e.over_is ∙ not_over;
           greeting = e.calls;
           all = said;
@@ -363,7 +364,7 @@ module _ {D : Type 0} (Did : D → List Incoming → List Answer → D → Type 
       ),
     )
 
-    pub carried_on : (between new : D) (told2 : List StreamCall) (ending : Carried) → 0 < events → over ≡ false → said ≡ true → Listened n mid between told1 told2 ending → LeavesTo n between new ending → CarriesTo n out old new told0 told2 ending
+    pub carried_on : (between new : D) (told2 : List StreamCall) (ending : Carried) → 0 < events → over ≡ false → said ≡ true → Listened n mid between told1 told2 ending → LeavesTo n between new ending → CarriesTo n profile out old new told0 told2 ending
     carried_on between new told2 ending some not_over is_said (rounds, last, end, asked, calls, are, stops) left = (
       opening_is ∷ ((asks_in rounds ++ last) ++ left.0),
       (mid, e.did, asked_join mid between new (asks_in rounds ++ last) left.0 asked left.1),
@@ -372,7 +373,7 @@ module _ {D : Type 0} (Did : D → List Incoming → List Answer → D → Type 
         calls ∙ (ap (λ (l : List StreamCall). l ++ (calls_in rounds ++ end)) e.calls_are ∙ append_assoc told0 e.calls (calls_in rounds ++ end)),
         inr (record {
           opening = opening_is;
-          opened = came n events bytes e.cut some;
+          opened = came n profile events bytes e.cut some;
           is_open = sym e.over_is ∙ not_over;
           greeting = e.calls;
           all = said;

@@ -13,7 +13,7 @@ none_served [] e = refl
 none_served (x ∷ xs) e = let l = ap length e in absurd (omega (arith, l))
 
 nothing_taken : (event : Incoming) (events bytes : ℕ) → events ≡ 0 → bytes ≡ 0 → taken_of (event ∷ []) events bytes ≡ []
-nothing_taken (Comes n) zero zero e b = refl
+nothing_taken (Comes n a) zero zero e b = refl
 nothing_taken (Brings n piece) zero zero e b = refl
 nothing_taken (Goes n) zero zero e b = refl
 nothing_taken (Orders line) zero zero e b = refl
@@ -23,7 +23,7 @@ nothing_taken event (suc k) bytes e b = absurd (omega (arith, e))
 nothing_taken event zero (suc k) e b = absurd (omega (arith, b))
 
 cut_is : (at : Sessions) (event : Incoming) (events bytes : ℕ) → events ≤ 1 → IsPartOfNext at (drop events (event ∷ [])) bytes → IsCut event events bytes
-cut_is at (Comes n) zero bytes le part = part
+cut_is at (Comes n a) zero bytes le part = part
 cut_is at (Goes n) zero bytes le part = part
 cut_is at (Orders line) zero bytes le part = part
 cut_is at AsksLine zero bytes le part = part
@@ -43,10 +43,11 @@ has_still before after same room marks has (inr few) =
     absurd (omega (arith, places, marks, has.marks, few))
 
 -- where there is room something is taken
-begun_is : (at : Sessions) (event : Incoming) (events bytes : ℕ) (before after : Told) → events ≤ 1 → IsShortOfNext at (drop events (event ∷ [])) after → (events ≡ 0 → bytes ≡ 0 → after.list ≡ before.list) → IsCut event events bytes
+begun_is : (at : Sessions) (event : Incoming) (events bytes : ℕ) (before after : Told) → events ≤ 1 → IsShortOfNext at (drop events (event ∷ [])) bytes after → (events ≡ 0 → bytes ≡ 0 → after.list ≡ before.list) → IsCut event events bytes
     → before.room ≤ after.room → before.marks ≤ after.marks → HasRoom before → IsBegun event events bytes
-begun_is at (Comes n) events bytes before after le short same cut room marks has = tt
-begun_is at (Brings n piece) zero zero before after le short same cut room marks has = absurd (has_still before after (same refl refl) room marks has short)
+begun_is at (Comes n a) events bytes before after le short same cut room marks has = tt
+begun_is at (Brings n piece) zero zero before after le (inl full) same cut room marks has = absurd (has_still before after (same refl refl) room marks has full)
+begun_is at (Brings n piece) zero zero before after le (inr work) same cut room marks has = let some = work.0 in absurd (omega (arith, some))
 begun_is at (Brings n piece) zero (suc k) before after le short same cut room marks has = omega arith
 begun_is at (Brings n piece) (suc k) bytes before after le short same cut room marks has = omega arith
 begun_is at (Goes n) zero bytes before after le short same cut room marks has = absurd (has_still before after (same refl cut) room marks has short)
@@ -59,7 +60,7 @@ begun_is at (AsksLineOf volume) zero bytes before after le short same cut room m
 begun_is at (AsksLineOf volume) (suc k) bytes before after le short same cut room marks has = omega arith
 
 pub asked : {D : Type 0} (view : View D) (at at' : Sessions) (p p' : D) (event : Incoming) (all : List Incoming) (events bytes : ℕ) (before after : Told) → all ≡ event ∷ [] → events ≤ length all
-    → IsPartOfNext at' (drop events all) bytes → IsShortOfNext at' (drop events all) after → Runs view.outline (PoolCall view) at p (taken_of all events bytes) before after at' p'
+    → IsPartOfNext at' (drop events all) bytes → IsShortOfNext at' (drop events all) bytes after → Runs view.outline (PoolCall view) at p (taken_of all events bytes) before after at' p'
     → IsAsked (λ took answers. RunsSo view at p took answers at' p') event events bytes before after
 asked {D} view at at' p p' event all events bytes before after is le part short run =
     let r = subst (λ l. Runs view.outline (PoolCall view) at p (taken_of l events bytes) before after at' p') is run in
@@ -73,7 +74,7 @@ asked {D} view at at' p p' event all events bytes before after is le part short 
       adds = r.adds;
       cut = cut;
       silent = silent;
-      begun = begun_is at' event events bytes before after one (subst (λ l. IsShortOfNext at' (drop events l) after) is short)
+      begun = begun_is at' event events bytes before after one (subst (λ l. IsShortOfNext at' (drop events l) bytes after) is short)
           (λ none nothing. r.adds.list ∙ (ap (λ l. before.list ++ l) (silent none nothing) ∙ append-nil before.list)) cut r.adds.room r.adds.marks;
     }
 

@@ -82,9 +82,9 @@ length_set (slot ∷ slots) (suc n) new lt =
     omega (arith, a, b, rest)
 
 one_volume : (phase : Phase) → length (volume_in phase) ≤ 1
-one_volume Flags = omega arith
+one_volume (Flags a) = omega arith
 one_volume (Options z) = omega arith
-one_volume (Transmission v size) = omega arith
+one_volume (Transmission v size c) = omega arith
 one_volume Ended = omega arith
 
 one_volume_of : (slot : Option State) → length (volume_of slot) ≤ 1
@@ -135,9 +135,9 @@ module _ (o : Outline) (more : ℕ → ℕ) (slots : Slots) (serves : Serves o m
       omega (arith, same, serves.count, fewer_held slots n lt none)
 
   ready_by : (phase : Phase) → volume_of (slot_at slots n) ≡ volume_in phase → GoesOn o.geometry more phase → IsReady phase o more
-  ready_by Flags is goes = few_holds (ap length is)
+  ready_by (Flags a) is goes = few_holds (ap length is)
   ready_by (Options z) is goes = few_holds (ap length is)
-  ready_by (Transmission v size) is goes = (has_hold o slots n v serves.holds lt is, goes)
+  ready_by (Transmission v size c) is goes = (has_hold o slots n v serves.holds lt is, goes)
   ready_by Ended is goes = absurd goes
 
   pub ready_at : (s : State) → slot_at slots n ≡ Some s → IsReady s.phase o more
@@ -146,9 +146,9 @@ module _ (o : Outline) (more : ℕ → ℕ) (slots : Slots) (serves : Serves o m
       ready_by s.phase (ap volume_of is) slot.0
 
 going_is_open : (g : Geometry) (more : ℕ → ℕ) (phase : Phase) → GoesOn g more phase → has_ended phase ≡ false
-going_is_open g more Flags goes = refl
+going_is_open g more (Flags a) goes = refl
 going_is_open g more (Options z) goes = refl
-going_is_open g more (Transmission v size) goes = refl
+going_is_open g more (Transmission v size c) goes = refl
 going_is_open g more Ended goes = absurd goes
 
 pub open_at : (o : Outline) (more : ℕ → ℕ) (slots : Slots) (n : ℕ) (s : State) → Serves o more slots → slot_at slots n ≡ Some s → has_ended s.phase ≡ false
@@ -166,9 +166,9 @@ module _ (o o' : Outline) (more more' : ℕ → ℕ) (slots slots' : Slots) (hol
     (geometry : o'.geometry ≡ o.geometry) (known : StaysKnown o o' more more') (n : ℕ) where
   goes_still : (phase : Phase) → n < length slots → n < length slots' → volume_of (slot_at slots n) ≡ volume_in phase → volume_of (slot_at slots' n) ≡ volume_in phase
       → GoesOn o.geometry more phase → GoesOn o'.geometry more' phase
-  goes_still Flags lt lt' is is' goes = tt
+  goes_still (Flags a) lt lt' is is' goes = tt
   goes_still (Options z) lt lt' is is' goes = tt
-  goes_still (Transmission v size) lt lt' is is' goes =
+  goes_still (Transmission v size c) lt lt' is is' goes =
       let m = known v (has_hold o slots n v holds lt is) (has_hold o' slots' n v holds' lt' is') in
       goes ∙ (ap (λ (g : Geometry). known_bytes g more v) (sym geometry) ∙ ap (λ (x : ℕ). 512 * (sectors_of_volume o'.geometry + x)) (sym m))
   goes_still Ended lt lt' is is' goes = absurd goes
@@ -253,35 +253,35 @@ held_again rows h v is = ap (λ (m : FinMap nat_cmp ℕ). released (holds_after 
 
 -- the holds move as a session's phases say
 pub moves_between : (rows : List ℕ) (old new : Phase) (h h' : FinMap nat_cmp ℕ) → h ≡ counts_of rows → Follows old new → HoldsFollow old new h h' → HoldsMove (volume_in old) (volume_in new) h h'
-moves_between rows Flags Flags h h' is f e = e
-moves_between rows Flags (Options z) h h' is f e = e
-moves_between rows Flags (Transmission v size) h h' is f e = absurd f
-moves_between rows Flags Ended h h' is f e = e
-moves_between rows (Options z) Flags h h' is f e = absurd f
+moves_between rows (Flags a) (Flags b) h h' is f e = e
+moves_between rows (Flags a) (Options z) h h' is f e = e
+moves_between rows (Flags a) (Transmission v size c) h h' is f e = absurd f
+moves_between rows (Flags a) Ended h h' is f e = e
+moves_between rows (Options z) (Flags a) h h' is f e = absurd f
 moves_between rows (Options z) (Options y) h h' is f e = e
-moves_between rows (Options z) (Transmission v size) h h' is f e = e
+moves_between rows (Options z) (Transmission v size c) h h' is f e = e
 moves_between rows (Options z) Ended h h' is f (inl e) = e
 moves_between rows (Options z) Ended h h' is f (inr (v, e)) = e ∙ held_again rows h v is
-moves_between rows (Transmission v size) Flags h h' is f e = absurd f
-moves_between rows (Transmission v size) (Options z) h h' is f e = absurd f
-moves_between rows (Transmission v size) (Transmission w also) h h' is f e = (f.0, e)
-moves_between rows (Transmission v size) Ended h h' is f e = e
-moves_between rows Ended Flags h h' is f e = absurd f
+moves_between rows (Transmission v size c) (Flags a) h h' is f e = absurd f
+moves_between rows (Transmission v size c) (Options z) h h' is f e = absurd f
+moves_between rows (Transmission v size c) (Transmission w also d) h h' is f e = (f.0, e)
+moves_between rows (Transmission v size c) Ended h h' is f e = e
+moves_between rows Ended (Flags a) h h' is f e = absurd f
 moves_between rows Ended (Options z) h h' is f e = absurd f
-moves_between rows Ended (Transmission v size) h h' is f e = absurd f
+moves_between rows Ended (Transmission v size c) h h' is f e = absurd f
 moves_between rows Ended Ended h h' is f e = e
 
 pub leaves_between : (phase : Phase) (h h' : FinMap nat_cmp ℕ) → h' ≡ holds_between phase Ended h → HoldsMove (volume_in phase) [] h h'
-leaves_between Flags h h' e = e
+leaves_between (Flags a) h h' e = e
 leaves_between (Options z) h h' e = e
-leaves_between (Transmission v size) h h' e = e
+leaves_between (Transmission v size c) h h' e = e
 leaves_between Ended h h' e = e
 
 -- where it goes on
 pub goes_on : (o : Outline) (more : ℕ → ℕ) (phase : Phase) → IsReady phase o more → has_ended phase ≡ false → GoesOn o.geometry more phase
-goes_on o more Flags ready is_open = tt
+goes_on o more (Flags a) ready is_open = tt
 goes_on o more (Options z) ready is_open = tt
-goes_on o more (Transmission v size) ready is_open = ready.1
+goes_on o more (Transmission v size c) ready is_open = ready.1
 goes_on o more Ended ready is_open = absurd cc
 
 -- ---- a session that has ended holds nothing
@@ -290,9 +290,9 @@ pub ended_is : (s : State) → IsCalm s → has_ended s.phase ≡ true → s ≡
 ended_is s calm over = by_phase s.phase s.held calm over
   where
     by_phase : (phase : Phase) (held : List ℕ) → IsCalm (state phase held) → has_ended phase ≡ true → state phase held ≡ state Ended []
-    by_phase Flags held calm over = absurd cc
+    by_phase (Flags a) held calm over = absurd cc
     by_phase (Options z) held calm over = absurd cc
-    by_phase (Transmission v size) held calm over = absurd cc
+    by_phase (Transmission v size c) held calm over = absurd cc
     by_phase Ended held calm over = ap (state Ended) calm
 
 -- ---- no session at all

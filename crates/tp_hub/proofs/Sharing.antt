@@ -4,7 +4,7 @@ use Rattle.std.specs.Prelude.{IfSome}
 use Rattle.std.proofs.lemmas.List.{take_all}
 use Rattle.tp_model.specs.Clauses.{PoolCall, View}
 use Rattle.nbd_session.specs.declared.session.Answered.{Answered}
-use Rattle.nbd_session.specs.Session.{State, has_ended}
+use Rattle.nbd_session.specs.Session.{State, has_ended, is_at_work}
 use Rattle.nbd_session.specs.Clauses.{Advances}
 use Rattle.nbd_session.specs.Turns.{Happened, Sessions}
 use Rattle.tp_hub.specs.declared.hub.Ran.{Ran}
@@ -17,7 +17,7 @@ use Rattle.tp_hub.proofs.Placing.{put_is}
 use Rattle.tp_hub.proofs.Telling.{put_there}
 use Rattle.tp_hub.proofs.Turning.{no_text}
 use Rattle.tp_hub.proofs.Hearing.{keeps_none}
-use Rattle.tp_hub.proofs.Taking.{brings_all}
+use Rattle.tp_hub.proofs.Taking.{brings_all, idle_is_free}
 
 module _ {D : Type 0} (view : View D) where
   -- a READ whose answer was put at a place
@@ -33,10 +33,10 @@ module _ {D : Type 0} (view : View D) where
   )
 
   -- a text that a session heard, as an event
-  heard_runs : (n : ℕ) (s : State) (p : D) (text : List ℕ) (before after : Told) (slot : Option State) → slot ≡ Some s → has_ended s.phase ≡ false → HearsAnywhere view n s p text before after s p
+  heard_runs : (n : ℕ) (s : State) (p : D) (text : List ℕ) (before after : Told) (slot : Option State) → slot ≡ Some s → has_ended s.phase ≡ false → is_at_work s.phase ≡ false → HearsAnywhere view n s p text before after s p
       → (at : Sessions) → at n ≡ shown slot → Runs view.outline (PoolCall view) at p (Brings n text ∷ []) before after at p
-  heard_runs n s p text before after slot some is_open hears at is =
-      let takes = brings_all view n slot s s text p p before after some is_open hears (keeps_none view n (Some s) p) in
+  heard_runs n s p text before after slot some is_open idle hears at is =
+      let takes = brings_all view n slot s s text p p before after some is_open (idle_is_free s.phase text idle) hears (keeps_none view n (Some s) p) in
       subst (λ (r : Sessions). Runs view.outline (PoolCall view) at p (Brings n text ∷ []) before after r p) (put_is at n s (is ∙ ap shown some)) (takes.runs at is)
 
   asked_by : (n : ℕ) (piece : List ℕ) (at : Sessions) (p : D) (events bytes : ℕ) (before after : Told) (took : List Incoming) → Runs view.outline (PoolCall view) at p took before after at p
@@ -70,18 +70,18 @@ module _ {D : Type 0} (view : View D) where
       subst (λ (k : ℕ). IsAskedStill view n piece at p k bytes before after) (sym e) (subst (λ (k : ℕ). IsAskedStill view n piece at p 1 k before after) (sym b) (asked_whole n piece at p a before after run is))
 
   -- so much of a piece was heard, if anything was
-  pub asked_slot : (o : Option Ran) (n : ℕ) (s : State) (p : D) (piece : List ℕ) (a : ℕ) (before after : Told) (slot : Option State) → slot ≡ Some s → has_ended s.phase ≡ false
+  pub asked_slot : (o : Option Ran) (n : ℕ) (s : State) (p : D) (piece : List ℕ) (a : ℕ) (before after : Told) (slot : Option State) → slot ≡ Some s → has_ended s.phase ≡ false → is_at_work s.phase ≡ false
       → HearsAnywhere view n s p (take a piece) before after s p → IfSome o (λ r. (0 < a) × IsRan a (length piece) r.events r.bytes)
       → (at : Sessions) → at n ≡ shown slot → IfSome o (λ r. IsAskedStill view n piece at p r.events r.bytes before after)
-  asked_slot None n s p piece a before after slot some is_open hears ran at is = tt
-  asked_slot (Some r) n s p piece a before after slot some is_open hears ran at is =
-      asked_so n piece at p a r.events r.bytes before after (heard_runs n s p (take a piece) before after slot some is_open hears at is) ran.0 ran.1
+  asked_slot None n s p piece a before after slot some is_open idle hears ran at is = tt
+  asked_slot (Some r) n s p piece a before after slot some is_open idle hears ran at is =
+      asked_so n piece at p a r.events r.bytes before after (heard_runs n s p (take a piece) before after slot some is_open idle hears at is) ran.0 ran.1
 
   -- and where nothing was
-  pub heard_nothing : (n : ℕ) (s : State) (p : D) (piece : List ℕ) (a : ℕ) (before after : Told) → HearsAnywhere view n s p (take a piece) before after s p → a ≡ 0 → IsWider before after
-  heard_nothing n s p piece a before after hears none =
+  pub heard_nothing : (n : ℕ) (s : State) (p : D) (piece : List ℕ) (a : ℕ) (before after : Told) → is_at_work s.phase ≡ false → HearsAnywhere view n s p (take a piece) before after s p → a ≡ 0 → IsWider before after
+  heard_nothing n s p piece a before after idle hears none =
       let x = subst (λ (k : ℕ). HearsAnywhere view n s p (take k piece) before after s p) none hears (λ i. s) refl in
-      let grows = subst (λ (l : List (Happened D)). Grows before after (answers_in l)) (no_text (λ i. s) n x.turns x.takes) x.adds in
+      let grows = subst (λ (l : List (Happened D)). Grows before after (answers_in l)) (no_text (λ i. s) n x.turns idle x.takes) x.adds in
       record { list = grows.list ∙ append-nil before.list; room = grows.room; marks = grows.marks }
 
   -- the same of a hub

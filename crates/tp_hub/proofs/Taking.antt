@@ -1,11 +1,11 @@
 -- One event at the place of its session.
-use Rattle.std.proofs.Common.{◌≡◌, ℕ, zero, suc, ◌+◌, ◌<◌, Bool, true, false, List, [], ◌∷◌, ◌++◌, length, take, drop, Option, Some, None, get_or, inl, inr, refl, sym, ap, subst, ◌∙◌, arith, append_assoc, append-nil}
-use Rattle.std.specs.Prelude.{MatchBool, map, not, slice_set}
+use Rattle.std.proofs.Common.{◌⊎◌, ◌≢◌, ◌≤◌, ◌≡◌, ℕ, zero, suc, ◌+◌, ◌<◌, Bool, true, false, List, [], ◌∷◌, ◌++◌, length, take, drop, Option, Some, None, get_or, inl, inr, refl, sym, ap, subst, ◌∙◌, arith, append_assoc, append-nil}
+use Rattle.std.specs.Prelude.{◌==◌, MatchBool, map, not, slice_set}
 use Rattle.std.specs.FinMap.{empty}
 use Rattle.std.proofs.Math.Seq.{drop-cons}
 use Rattle.std.proofs.Math.ListN.{get_or-map}
-use Rattle.std.proofs.lemmas.Bool.{cases_eq}
-use Rattle.std.proofs.lemmas.List.{get_or-set_other, get_or-set_same, get_or_read, length-map, take-append-drop, take_more}
+use Rattle.std.proofs.lemmas.Bool.{cases_eq, eq-eqb, ne_eqb}
+use Rattle.std.proofs.lemmas.List.{get_or-set_other, get_or-set_same, get_or_read, length-map, take-append-drop, take_all, take_more}
 use Rattle.tp_model.specs.Pool.{Outline}
 use Rattle.tp_model.specs.Calls.{Call}
 use Rattle.tp_model.specs.Calls as calls
@@ -14,14 +14,16 @@ use Rattle.tp_model.specs.declared.refusal.Refusal.TheVariants.{NoSession, Sessi
 use Rattle.tp_model.specs.Clauses.{PoolCall, View}
 use Rattle.nbd_wire.specs.Replies.{greeting}
 use Rattle.nbd_session.specs.declared.phase.Phase.TheVariants.{Flags, Ended}
-use Rattle.nbd_session.specs.Session.{State, state, LetsGo, has_ended}
+use Rattle.nbd_session.specs.declared.phase.Phase.{Phase}
+use Rattle.nbd_session.specs.declared.phase.Profile.{Profile}
+use Rattle.nbd_session.specs.Session.{State, state, LetsGo, has_ended, is_at_work}
 use Rattle.nbd_session.specs.Clauses.{IsCalm, Leaves}
 use Rattle.nbd_session.specs.Turns.{AreTurns, Happened, Opens, Sessions, TakesTurn, Turn, closed, pool_after, sessions_after}
 use Rattle.nbd_session.specs.Turns as turns
 use Rattle.tp_hub.specs.Told.{Answer, Closes, Grows, IsFull, Refuses, Says, Told}
 use Rattle.tp_hub.specs.declared.event.Event.{Event}
-use Rattle.tp_hub.specs.Runs.{AreServed, AsksLine, AsksLineOf, Brings, Comes, Goes, Incoming, Orders, IsAnswered, IsPart, IsPartOfNext, IsShort, IsShortOfNext, Runs, Served, answered_in, answers_in, events_in, front_of, front_of_next, incoming, session_in, taken_of, turns_in}
-use Rattle.tp_hub.specs.Places.{HearsAnywhere, IsTaken, KeepsServing, SlotTakes, put, taken_part, IsOpenSlot, IsReadySlot, TakesEvent}
+use Rattle.tp_hub.specs.Runs.{AreServed, AsksLine, AsksLineOf, Brings, Comes, Goes, Incoming, Orders, IsAnswered, is_busy, IsPart, IsPartOfNext, IsShort, IsShortOfNext, Runs, Served, answered_in, answers_in, events_in, front_of, front_of_next, incoming, session_in, taken_of, turns_in}
+use Rattle.tp_hub.specs.Places.{HearsAnywhere, IsRest, IsTaken, KeepsServing, SlotTakes, put, taken_part, IsOpenSlot, IsReadySlot, TakesEvent}
 use Rattle.tp_hub.specs.Serving.{AreLeaving, LeaveTo, Serves, Slots, sessions_of, shown, slot_at, volume_in, volume_of, GoesOn}
 use Rattle.tp_hub.proofs.Placing.{HoldsMove, leaves_between, none_by, none_hold, none_open, open_at, put_is, put_other, put_same, ready_at, serves_set, sessions_set}
 use Rattle.tp_hub.proofs.Turning.{grows_then, no_text, pool_join, sessions_join, turns_join}
@@ -56,10 +58,36 @@ ended_at at n slot is none = ap (λ (s : State). has_ended s.phase) is ∙ ap (�
 open_there : (at : Sessions) (n : ℕ) (s : State) (slot : Option State) → at n ≡ shown slot → slot ≡ Some s → has_ended s.phase ≡ false → has_ended (at n).phase ≡ false
 open_there at n s slot is some is_open = ap (λ (r : State). has_ended r.phase) is ∙ (ap (λ (o : Option State). has_ended (shown o).phase) some ∙ is_open)
 
+-- whether a session takes text
+busy_there : (at : Sessions) (n : ℕ) (s : State) (slot : Option State) (piece : List ℕ) (b : Bool) → at n ≡ shown slot → slot ≡ Some s → is_busy s.phase piece ≡ b → is_busy (at n).phase piece ≡ b
+busy_there at n s slot piece b is some busy = ap (λ (r : State). is_busy r.phase piece) is ∙ (ap (λ (o : Option State). is_busy (shown o).phase piece) some ∙ busy)
+
+free_there : (at : Sessions) (n : ℕ) (s : State) (slot : Option State) (piece : List ℕ) → at n ≡ shown slot → slot ≡ Some s → is_busy s.phase piece ≡ false → is_busy (at n).phase piece ≡ false
+free_there at n s slot piece is some free = busy_there at n s slot piece false is some free
+
+pub idle_is_free : (phase : Phase) (piece : List ℕ) → is_at_work phase ≡ false → is_busy phase piece ≡ false
+idle_is_free phase [] idle = refl
+idle_is_free phase (byte ∷ bytes) idle = idle
+
+pub no_text_is_free : (phase : Phase) (piece : List ℕ) → piece ≡ [] → is_busy phase piece ≡ false
+no_text_is_free phase piece none = ap (is_busy phase) none
+
+pub no_bytes : (piece : List ℕ) → (length piece == 0) ≡ true → piece ≡ []
+no_bytes [] e = refl
+no_bytes (byte ∷ bytes) e = let some : length (byte ∷ bytes) ≢ 0 = λ none. absurd (omega (arith, none)) in let is : (length (byte ∷ bytes) == 0) ≡ false = ne_eqb (length (byte ∷ bytes)) 0 some in absurd cc
+
+pub some_bytes : (piece : List ℕ) → (length piece == 0) ≡ false → 0 < length piece
+some_bytes [] e = let is : (length {A = ℕ} [] == 0) ≡ true = eq-eqb 0 0 refl in absurd cc
+some_bytes (byte ∷ bytes) e = omega arith
+
+pub work_is_busy : (phase : Phase) (piece : List ℕ) → is_at_work phase ≡ true → 0 < length piece → is_busy phase piece ≡ true
+work_is_busy phase [] work some = absurd (omega (arith, some))
+work_is_busy phase (byte ∷ bytes) work some = work
+
 module _ {D : Type 0} (view : View D) where
   -- nothing was taken
   pub takes_nothing : (event : Incoming) (slot : Option State) (p : D) (before after : Told) → Grows before after [] → front_of event 0 ≡ []
-      → ((at : Sessions) → at (session_in event) ≡ shown slot → IsPart at event 0 × IsShort at event after) → SlotTakes view event slot p false 0 before after slot p
+      → ((at : Sessions) → at (session_in event) ≡ shown slot → IsPart at event 0 × IsShort at event 0 after) → SlotTakes view event slot p false 0 before after slot p
   takes_nothing event slot p before after grows none part = record {
     runs = λ at is. subst (λ l. Runs view.outline (PoolCall view) at p l before after (put at (session_in event) (shown slot)) p) (sym none)
         (runs_none view.outline (PoolCall view) at (put at (session_in event) (shown slot)) p p before after (sym (put_is at (session_in event) (shown slot) is)) refl grows);
@@ -80,9 +108,9 @@ module _ {D : Type 0} (view : View D) where
   pub takes_no_room : (event : Incoming) (slot : Option State) (p : D) (before after : Told) → Grows before after [] → front_of event 0 ≡ [] → ((at : Sessions) → IsPart at event 0) → IsFull after → SlotTakes view event slot p false 0 before after slot p
   takes_no_room event slot p before after grows none part full = takes_nothing event slot p before after grows none (λ at is. (part at, short event at))
     where
-      short : (event : Incoming) (at : Sessions) → IsShort at event after
-      short (Comes n) at = inl full
-      short (Brings n piece) at = full
+      short : (event : Incoming) (at : Sessions) → IsShort at event 0 after
+      short (Comes n a) at = inl full
+      short (Brings n piece) at = inl full
       short (Goes n) at = full
       short (Orders line) at = full
       short AsksLine at = full
@@ -91,20 +119,20 @@ module _ {D : Type 0} (view : View D) where
   -- ---- a client comes
 
   -- there was no memory for its session
-  pub comes_to_nothing : (n : ℕ) (slot : Option State) (p : D) (before after : Told) → slot ≡ None → Grows before after [] → SlotTakes view (Comes n) slot p false 0 before after slot p
-  comes_to_nothing n slot p before after none grows = takes_nothing (Comes n) slot p before after grows refl (λ at is. (refl, inr (ended_at at n slot is none)))
+  pub comes_to_nothing : (n : ℕ) (a : Profile) (slot : Option State) (p : D) (before after : Told) → slot ≡ None → Grows before after [] → SlotTakes view (Comes n a) slot p false 0 before after slot p
+  comes_to_nothing n a slot p before after none grows = takes_nothing (Comes n a) slot p before after grows refl (λ at is. (refl, inr (ended_at at n slot is none)))
 
-  pub comes_to_open : (n : ℕ) (slot : Option State) (s : State) (p : D) (before after : Told) → slot ≡ Some s → has_ended s.phase ≡ false → Grows before after (Refuses SessionInUse ∷ []) → SlotTakes view (Comes n) slot p true 0 before after slot p
-  comes_to_open n slot s p before after some is_open grows =
-      takes_refused (Comes n) slot p SessionInUse before after grows (λ at is. by_false (has_ended (at n).phase) _ _ (open_there at n s slot is some is_open) (refl, refl))
+  pub comes_to_open : (n : ℕ) (a : Profile) (slot : Option State) (s : State) (p : D) (before after : Told) → slot ≡ Some s → has_ended s.phase ≡ false → Grows before after (Refuses SessionInUse ∷ []) → SlotTakes view (Comes n a) slot p true 0 before after slot p
+  comes_to_open n a slot s p before after some is_open grows =
+      takes_refused (Comes n a) slot p SessionInUse before after grows (λ at is. by_false (has_ended (at n).phase) _ _ (open_there at n s slot is some is_open) (refl, refl))
 
-  pub comes : (n : ℕ) (slot : Option State) (s : State) (p : D) (before after : Told) → slot ≡ None → s ≡ state Flags [] → IsCalm s → Grows before after (Says n greeting ∷ []) → SlotTakes view (Comes n) slot p true 0 before after (Some s) p
-  comes n slot s p before after none fresh calm grows = record {
+  pub comes : (n : ℕ) (a : Profile) (slot : Option State) (s : State) (p : D) (before after : Told) → slot ≡ None → s ≡ state (Flags a) [] → IsCalm s → Grows before after (Says n greeting ∷ []) → SlotTakes view (Comes n a) slot p true 0 before after (Some s) p
+  comes n a slot s p before after none fresh calm grows = record {
     runs = λ at is.
-        let h : Happened D = record { turn = Opens n greeting; sessions = put at n s; pool = p } in
+        let h : Happened D = record { turn = Opens n a greeting; sessions = put at n s; pool = p } in
         let was : at n ≡ state Ended [] = is ∙ ap shown none in
-        let turn : TakesTurn view.outline (PoolCall view) at p (Opens n greeting) (put at n s) p = (refl, (λ i ne. put_other at n s i ne), was, put_same at n s ∙ fresh, refl) in
-        runs_one view.outline (PoolCall view) at (put at n s) p p (Comes n) (h ∷ []) (Says n greeting ∷ []) before after
+        let turn : TakesTurn view.outline (PoolCall view) at p (Opens n a greeting) (put at n s) p = (refl, (λ i ne. put_other at n s i ne), was, put_same at n s ∙ fresh, refl) in
+        runs_one view.outline (PoolCall view) at (put at n s) p p (Comes n a) (h ∷ []) (Says n greeting ∷ []) before after
         (by_true (has_ended (at n).phase) _ _ (ended_at at n slot is none) (greeting, (h, refl, refl), refl)) (turn, tt) refl refl grows;
     part = λ at is. refl;
     keeps = λ slots lt is serves.
@@ -115,6 +143,17 @@ module _ {D : Type 0} (view : View D) where
 
   -- ---- a client sends a piece
 
+  -- there was no room, and the session has parts of a request left
+  pub brings_nothing : (n : ℕ) (slot : Option State) (old : State) (piece : List ℕ) (p : D) (before after : Told) → slot ≡ Some old → Grows before after [] → IsFull after → SlotTakes view (Brings n piece) slot p false 0 before after slot p
+  brings_nothing n slot old piece p before after some grows full = takes_nothing (Brings n piece) slot p before after grows refl (λ at here. (inl refl, inl full))
+
+  -- while it has, it takes no text
+  pub brings_to_busy : (n : ℕ) (slot : Option State) (old : State) (piece : List ℕ) (p : D) (before after : Told) → slot ≡ Some old → has_ended old.phase ≡ false → is_busy old.phase piece ≡ true → Grows before after (Refuses SessionInUse ∷ [])
+      → SlotTakes view (Brings n piece) slot p true 0 before after slot p
+  brings_to_busy n slot old piece p before after some is_open busy grows =
+      takes_refused (Brings n piece) slot p SessionInUse before after grows (λ at is.
+      by_false (has_ended (at n).phase) _ _ (open_there at n old slot is some is_open) (by_true (is_busy (at n).phase piece) _ _ (busy_there at n old slot piece true is some busy) (refl, refl)))
+
   pub brings_to_none : (n : ℕ) (slot : Option State) (piece : List ℕ) (p : D) (whole : Bool) (bytes : ℕ) (before after : Told) → slot ≡ None → (whole ≡ true → Grows before after (Refuses NoSession ∷ [])) → (whole ≡ false → Grows before after [])
       → (whole ≡ false → IsFull after) → bytes ≡ 0 → SlotTakes view (Brings n piece) slot p whole bytes before after slot p
   brings_to_none n slot piece p true bytes before after none spoke silent full is =
@@ -122,52 +161,73 @@ module _ {D : Type 0} (view : View D) where
       (takes_refused (Brings n piece) slot p NoSession before after (spoke refl) (λ at here. by_true (has_ended (at n).phase) _ _ (ended_at at n slot here none) (refl, refl)))
   brings_to_none n slot piece p false bytes before after none spoke silent full is =
       subst (λ b. SlotTakes view (Brings n piece) slot p false b before after slot p) (sym is)
-      (takes_nothing (Brings n piece) slot p before after (silent refl) refl (λ at here. (inl refl, full refl)))
+      (takes_nothing (Brings n piece) slot p before after (silent refl) refl (λ at here. (inl refl, inl (full refl))))
 
-  pub brings_all : (n : ℕ) (slot : Option State) (old new : State) (piece : List ℕ) (p p' : D) (before after : Told) → slot ≡ Some old → has_ended old.phase ≡ false → HearsAnywhere view n old p piece before after new p'
+  pub brings_all : (n : ℕ) (slot : Option State) (old new : State) (piece : List ℕ) (p p' : D) (before after : Told) → slot ≡ Some old → has_ended old.phase ≡ false → is_busy old.phase piece ≡ false → HearsAnywhere view n old p piece before after new p'
       → KeepsServing view n (Some old) p (Some new) p' → SlotTakes view (Brings n piece) slot p true 0 before after (Some new) p'
-  brings_all n slot old new piece p p' before after some is_open hears keeps = record {
+  brings_all n slot old new piece p p' before after some is_open free hears keeps = record {
     runs = λ at is.
         let x = hears at (is ∙ ap shown some) in
         runs_one view.outline (PoolCall view) at (put at n new) p p' (Brings n piece) x.turns (answers_in x.turns) before after
-        (by_false (has_ended (at n).phase) _ _ (open_there at n old slot is some is_open) (record { text = piece; dropped = []; cut = sym (append-nil piece); takes = x.takes; all = inl refl }, refl))
+        (by_false (has_ended (at n).phase) _ _ (open_there at n old slot is some is_open) (by_false (is_busy (at n).phase piece) _ _ (free_there at n old slot piece is some free) (record { text = piece; dropped = []; cut = sym (append-nil piece); takes = x.takes; all = inl refl }, refl)))
         x.are x.sessions_are x.pool_is x.adds;
     part = λ at is. refl;
     keeps = subst (λ (o : Option State). KeepsServing view n o p (Some new) p') (sym some) keeps;
   }
 
-  pub brings_end : (n : ℕ) (slot : Option State) (old new : State) (piece : List ℕ) (a : ℕ) (p p' : D) (before after : Told) → slot ≡ Some old → has_ended old.phase ≡ false → HearsAnywhere view n old p (take a piece) before after new p'
+  pub brings_end : (n : ℕ) (slot : Option State) (old new : State) (piece : List ℕ) (a : ℕ) (p p' : D) (before after : Told) → slot ≡ Some old → has_ended old.phase ≡ false → is_busy old.phase piece ≡ false → HearsAnywhere view n old p (take a piece) before after new p'
       → new ≡ state Ended [] → KeepsServing view n (Some old) p None p' → SlotTakes view (Brings n piece) slot p true 0 before after None p'
-  brings_end n slot old new piece a p p' before after some is_open hears over keeps = record {
+  brings_end n slot old new piece a p p' before after some is_open free hears over keeps = record {
     runs = λ at is.
         let x = hears at (is ∙ ap shown some) in
         let gone : has_ended (sessions_after at x.turns n).phase ≡ true = ap (λ (r : Sessions). has_ended (r n).phase) x.sessions_are ∙ (ap (λ (r : State). has_ended r.phase) (put_same at n new) ∙ ap (λ (r : State). has_ended r.phase) over) in
         runs_one view.outline (PoolCall view) at (put at n (state Ended [])) p p' (Brings n piece) x.turns (answers_in x.turns) before after
-        (by_false (has_ended (at n).phase) _ _ (open_there at n old slot is some is_open) (record { text = take a piece; dropped = drop a piece; cut = sym (take-append-drop a piece); takes = x.takes; all = inr gone }, refl))
+        (by_false (has_ended (at n).phase) _ _ (open_there at n old slot is some is_open) (by_false (is_busy (at n).phase piece) _ _ (free_there at n old slot piece is some free) (record { text = take a piece; dropped = drop a piece; cut = sym (take-append-drop a piece); takes = x.takes; all = inr gone }, refl)))
         x.are (x.sessions_are ∙ ap (put at n) over) x.pool_is x.adds;
     part = λ at is. refl;
     keeps = subst (λ (o : Option State). KeepsServing view n o p None p') (sym some) keeps;
   }
 
-  pub brings_part : (n : ℕ) (slot : Option State) (old new : State) (piece : List ℕ) (a : ℕ) (p p' : D) (before after : Told) → slot ≡ Some old → has_ended old.phase ≡ false → a < length piece → HearsAnywhere view n old p (take a piece) before after new p'
-      → has_ended new.phase ≡ false → KeepsServing view n (Some old) p (Some new) p' → IsFull after → SlotTakes view (Brings n piece) slot p false a before after (Some new) p'
-  brings_part n slot old new piece zero p p' before after some is_open lt hears goes keeps full = record {
+  pub brings_part : (n : ℕ) (slot : Option State) (old new : State) (piece : List ℕ) (a : ℕ) (p p' : D) (before after : Told) → slot ≡ Some old → has_ended old.phase ≡ false → is_at_work old.phase ≡ false → a < length piece → HearsAnywhere view n old p (take a piece) before after new p'
+      → has_ended new.phase ≡ false → KeepsServing view n (Some old) p (Some new) p' → IsFull after ⊎ ((0 < a) × (is_at_work new.phase ≡ true)) → SlotTakes view (Brings n piece) slot p false a before after (Some new) p'
+  brings_part n slot old new piece zero p p' before after some is_open idle lt hears goes keeps (inr work) = let some = work.0 in absurd (omega (arith, some))
+  brings_part n slot old new piece zero p p' before after some is_open idle lt hears goes keeps (inl full) = record {
     runs = λ at is.
         let x = hears at (is ∙ ap shown some) in
-        let none = no_text at n x.turns x.takes in
+        let none = no_text at n x.turns (ap (λ (r : State). is_at_work r.phase) (is ∙ ap shown some) ∙ idle) x.takes in
         runs_none view.outline (PoolCall view) at (put at n new) p p' before after (sym (ap (sessions_after at) none) ∙ x.sessions_are) (sym (ap (pool_after p) none) ∙ x.pool_is) (subst (λ (l : List (Happened D)). Grows before after (answers_in l)) none x.adds);
-    part = λ at is. (inl refl, full);
+    part = λ at is. (inl refl, inl full);
     keeps = subst (λ (o : Option State). KeepsServing view n o p (Some new) p') (sym some) keeps;
   }
-  brings_part n slot old new piece (suc a) p p' before after some is_open lt hears goes keeps full = record {
+  brings_part n slot old new piece (suc a) p p' before after some is_open idle lt hears goes keeps cause = record {
     runs = λ at is.
         let x = hears at (is ∙ ap shown some) in
         runs_one view.outline (PoolCall view) at (put at n new) p p' (Brings n (take (suc a) piece)) x.turns (answers_in x.turns) before after
-        (by_false (has_ended (at n).phase) _ _ (open_there at n old slot is some is_open) (record { text = take (suc a) piece; dropped = []; cut = sym (append-nil (take (suc a) piece)); takes = x.takes; all = inl refl }, refl))
+        (by_false (has_ended (at n).phase) _ _ (open_there at n old slot is some is_open) (by_false (is_busy (at n).phase (take (suc a) piece)) _ _ (free_there at n old slot (take (suc a) piece) is some (idle_is_free old.phase (take (suc a) piece) idle)) (record { text = take (suc a) piece; dropped = []; cut = sym (append-nil (take (suc a) piece)); takes = x.takes; all = inl refl }, refl)))
         x.are x.sessions_are x.pool_is x.adds;
-    part = λ at is. (inr (lt, ap (λ (r : State). has_ended r.phase) is ∙ goes), full);
+    part = λ at is. (inr (lt, ap (λ (r : State). has_ended r.phase) is ∙ goes), short at is cause);
     keeps = subst (λ (o : Option State). KeepsServing view n o p (Some new) p') (sym some) keeps;
   }
+    where
+      short : (at : Sessions) → at n ≡ shown (Some new) → IsFull after ⊎ ((0 < suc a) × (is_at_work new.phase ≡ true)) → IsFull after ⊎ ((0 < suc a) × (is_at_work (at n).phase ≡ true))
+      short at is (inl full) = inl full
+      short at is (inr work) = inr (work.0, ap (λ (r : State). is_at_work r.phase) is ∙ work.1)
+
+  -- what was heard up to where a long request begins
+  pub brings_parted : (n : ℕ) (slot : Option State) (old new : State) (piece : List ℕ) (whole : Bool) (left a : ℕ) (p p' : D) (before after : Told) → slot ≡ Some old → has_ended old.phase ≡ false → is_at_work old.phase ≡ false
+      → IsRest whole left a (length piece) → 0 < a → a ≤ length piece → HearsAnywhere view n old p (take a piece) before after new p' → has_ended new.phase ≡ false → KeepsServing view n (Some old) p (Some new) p' → is_at_work new.phase ≡ true
+      → SlotTakes view (Brings n piece) slot p whole left before after (Some new) p'
+  brings_parted n slot old new piece true left a p p' before after some is_open idle rest pos le hears goes keeps work =
+      let all : take a piece ≡ piece = take_all a piece (omega (arith, rest.0)) in
+      subst (λ (k : ℕ). SlotTakes view (Brings n piece) slot p true k before after (Some new) p') (sym rest.1)
+      (brings_all n slot old new piece p p' before after some is_open (idle_is_free old.phase piece idle) (subst (λ (t : List ℕ). HearsAnywhere view n old p t before after new p') all hears) keeps)
+  brings_parted n slot old new piece false left a p p' before after some is_open idle rest pos le hears goes keeps work =
+      let lt : a < length piece = omega (arith, le, less a (length piece) rest.0 le) in
+      subst (λ (k : ℕ). SlotTakes view (Brings n piece) slot p false k before after (Some new) p') (sym rest.1)
+      (brings_part n slot old new piece a p p' before after some is_open idle lt hears goes keeps (inr (pos, work)))
+    where
+      less : (i k : ℕ) → i ≢ k → i ≤ k → i < k
+      less i k ne le = elim (cases_eq i k) [ inl e ↦ absurd (ne e) | inr _ ↦ omega (arith, le, ne) ]
 
   -- ---- a client goes
 
@@ -346,7 +406,7 @@ module _ {D : Type 0} (view : View D) where
 
   pub run_stops : (at : Sessions) (p : D) (slots new : Slots) (q r : D) (events : List Event) (i : ℕ) (d : Event) (whole : Bool) (bytes : ℕ) (before between after : Told) → i < length events → not whole ≡ true
       → RunsHere at p (take i (map incoming events)) before between (sessions_of slots) q → TakesEvent view (incoming (get_or events i d)) slots q whole bytes between after new r
-      → RunsHere at p (taken_of (map incoming events) i bytes) before after (sessions_of new) r × IsPartOfNext (sessions_of new) (drop i (map incoming events)) bytes × IsShortOfNext (sessions_of new) (drop i (map incoming events)) after
+      → RunsHere at p (taken_of (map incoming events) i bytes) before after (sessions_of new) r × IsPartOfNext (sessions_of new) (drop i (map incoming events)) bytes × IsShortOfNext (sessions_of new) (drop i (map incoming events)) bytes after
   run_stops at p slots new q r events i d whole bytes before between after lt stops runs takes =
       let all : List Incoming = map incoming events in
       let long : i < length all = rw length-map lt in
@@ -356,11 +416,11 @@ module _ {D : Type 0} (view : View D) where
       let is_false = false_is whole stops in
       let runs_part : RunsHere (sessions_of slots) q (front_of e bytes) between after (sessions_of new) r =
       subst (λ b. RunsHere (sessions_of slots) q (taken_part e b bytes) between after (sessions_of new) r) is_false takes.runs in
-      let part : IsPart (sessions_of new) e bytes × IsShort (sessions_of new) e after = subst (λ b. IsTaken (sessions_of new) e b bytes after) is_false takes.part in (
+      let part : IsPart (sessions_of new) e bytes × IsShort (sessions_of new) e bytes after = subst (λ b. IsTaken (sessions_of new) e b bytes after) is_false takes.part in (
         runs_join view.outline (PoolCall view) at (sessions_of slots) (sessions_of new) p q r (take i all) (front_of_next (drop i all) bytes) before between after runs
             (subst (λ l. RunsHere (sessions_of slots) q l between after (sessions_of new) r) (sym part_is) runs_part),
         subst (λ (l : List Incoming). IsPartOfNext (sessions_of new) l bytes) (sym (drop-cons all i (incoming d) long)) (subst (λ (x : Incoming). IsPart (sessions_of new) x bytes) (sym e_is) part.0),
-        subst (λ (l : List Incoming). IsShortOfNext (sessions_of new) l after) (sym (drop-cons all i (incoming d) long)) (subst (λ (x : Incoming). IsShort (sessions_of new) x after) (sym e_is) part.1),
+        subst (λ (l : List Incoming). IsShortOfNext (sessions_of new) l bytes after) (sym (drop-cons all i (incoming d) long)) (subst (λ (x : Incoming). IsShort (sessions_of new) x bytes after) (sym e_is) part.1),
       )
 
   pub run_goes_on : (at : Sessions) (p : D) (slots new : Slots) (q r : D) (events : List Event) (i : ℕ) (d : Event) (whole : Bool) (bytes : ℕ) (before between after : Told) → i < length events → not whole ≡ false

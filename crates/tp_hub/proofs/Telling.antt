@@ -185,6 +185,10 @@ pub on_err : {A E P : Type 0} (r : Result A E) → is_err r ≡ true → OnErr r
 on_err (Ok x) e p = absurd cc
 on_err (Err x) e p = p
 
+pub on_ok : {A E P : Type 0} (r : Result A E) → is_err r ≡ false → OnOk r P → P
+on_ok (Ok x) e p = p
+on_ok (Err x) e p = absurd cc
+
 pub on_err_so : {A E : Type 0} (P : Type 0) (r : Result A E) → P → OnErr r P
 on_err_so P (Ok x) p = tt
 on_err_so P (Err x) p = p

@@ -5,6 +5,7 @@ use Rattle.tp_model.specs.Pool.{PlainPool}
 use Rattle.tp_model.specs.Clauses.{Continues, HasTrace, PoolCall, Traced, TracedCall, View, ViewLaws, outline_of_traced}
 use Rattle.tp_model.proofs.Running as running
 use Rattle.nbd_session.specs.Clauses.{GoesWithTrace}
+use Rattle.nbd_session.specs.declared.phase.Profile.{Profile}
 use Rattle.nbd_session.specs.Session.{has_ended}
 use Rattle.nbd_session.specs.Turns.{AreSame, Happened, Sessions, Turn, pool_after, sessions_after}
 use Rattle.nbd_session.proofs.Turning as turning
@@ -16,9 +17,9 @@ use Rattle.tp_hub.specs.declared.hub.Ran.{Ran}
 use Rattle.tp_hub.specs.Told.{Answer, Grows, Told}
 use Rattle.tp_hub.specs.Desks.{AreAsked, Exchange, IsAsked, RanSo, RunsSo}
 use Rattle.tp_hub.specs.Serve.{HubRuns, IsServedBy, PlainRuns, with_pool}
-use Rattle.tp_hub.specs.Serving.{AllLeave, AllLeaveSo, AreLeaving, HubState, LeaveSo, LeaveTo, sessions_of}
+use Rattle.tp_hub.specs.Serving.{AreLeaving, HubState, LeaveSo, LeaveTo, sessions_of}
 use Rattle.tp_hub.specs.Streams.{StreamCall}
-use Rattle.tp_hub.specs.Runs.{AreServed, AsksLine, AsksLineOf, Brings, Comes, Goes, Incoming, IsAnswered, IsCalled, IsOnly, Orders, TellsDone, TellsLine, call_of, Runs, Served, TakesText, answered_in, answers_in, answers_of, events_in, turns_in}
+use Rattle.tp_hub.specs.Runs.{AreServed, AsksLine, AsksLineOf, Brings, Comes, Goes, Incoming, IsAnswered, IsCalled, IsOnly, Orders, TellsDone, TellsLine, call_of, is_busy, Runs, Served, TakesText, answered_in, answers_in, answers_of, events_in, turns_in}
 
 map_bool : (b : Bool) (P Q P' Q' : Type 0) → (P → P') → (Q → Q') → MatchBool b P Q → MatchBool b P' Q'
 map_bool true P Q P' Q' f g h = f h
@@ -71,10 +72,10 @@ module _ {D : Type 0} (view : View D) (laws : ViewLaws view) (from : D) (s : Pla
   called_same d t hs ks call Tells answers are a = (a.0, only_same d t hs ks _ are a.1, a.2)
 
   answered_same : (at : Sessions) (d : D) (t : Traced) (hs : List (Happened D)) (ks : List (Happened Traced)) (event : Incoming) (answers : List Answer) → AreSame view from s d t hs ks → IsAnswered at event hs answers → IsAnswered at event ks answers
-  answered_same at d t hs ks (Comes n) answers are h =
+  answered_same at d t hs ks (Comes n profile) answers are h =
       map_bool (has_ended (at n).phase) _ _ _ _ (λ a. (a.0, only_same d t hs ks _ are a.1, a.2 ∙ sym (answers_same d t hs ks are))) (λ r. (none_same d t hs ks are r.0, r.1)) h
   answered_same at d t hs ks (Brings n piece) answers are h =
-      map_bool (has_ended (at n).phase) _ _ _ _ (λ r. (none_same d t hs ks are r.0, r.1)) (λ a. (
+      map_bool (has_ended (at n).phase) _ _ _ _ (λ r. (none_same d t hs ks are r.0, r.1)) (λ b. map_bool (is_busy (at n).phase piece) _ _ _ _ (λ r. (none_same d t hs ks are r.0, r.1)) (λ a. (
         record {
           text = a.0.text;
           dropped = a.0.dropped;
@@ -83,7 +84,7 @@ module _ {D : Type 0} (view : View D) (laws : ViewLaws view) (from : D) (s : Pla
           all = subst (λ (r : Sessions). (a.0.dropped ≡ []) ⊎ (has_ended (r n).phase ≡ true)) (turning.same_sessions view laws from s at d t hs ks are) a.0.all;
         },
         a.1 ∙ sym (answers_same d t hs ks are),
-      )) h
+      )) b) h
   answered_same at d t hs ks (Goes n) answers are h =
       map_bool (has_ended (at n).phase) _ _ _ _ (λ r. (none_same d t hs ks are r.0, r.1)) (λ a. (only_same d t hs ks _ are a.0, a.1 ∙ sym (answers_same d t hs ks are))) h
   answered_same at d t hs ks (Orders line) answers are h = map_result (reading line) _ _ _ _ (λ m a. called_same d t hs ks (call_of m) TellsDone answers are a) (λ reason r. (none_same d t hs ks are r.0, r.1)) h
@@ -199,13 +200,13 @@ module _ {D : Type 0} (view : View D) (laws : ViewLaws view) where
       (λ t u w one rest. (with_pool mid u, one, rest)) (ran_goes (sessions_of a.slots) (sessions_of mid.slots) a.pool mid.pool x.took x.answers asked.1) (asks_go mid b xs asked.2)
 
   -- one client
-  pub serving_goes : (old new : HubState D) (calls calls' : List StreamCall) (out : Told) (ending : Carried) → IsServedBy (HubRuns view) old new calls calls' out ending
-      → GoesWithTrace view old.pool new.pool (λ t t'. IsServedBy (PlainRuns view) (with_pool old t) (with_pool new t') calls calls' out ending)
-  serving_goes old new calls calls' out ending (inl h) =
-      goes_so old.pool new.pool _ (λ t t'. IsServedBy (PlainRuns view) (with_pool old t) (with_pool new t') calls calls' out ending)
+  pub serving_goes : (profile : Profile) (old new : HubState D) (calls calls' : List StreamCall) (out : Told) (ending : Carried) → IsServedBy (HubRuns view) profile old new calls calls' out ending
+      → GoesWithTrace view old.pool new.pool (λ t t'. IsServedBy (PlainRuns view) profile (with_pool old t) (with_pool new t') calls calls' out ending)
+  serving_goes profile old new calls calls' out ending (inl h) =
+      goes_so old.pool new.pool _ (λ t t'. IsServedBy (PlainRuns view) profile (with_pool old t) (with_pool new t') calls calls' out ending)
       (λ t t' is. inl (h.0, is, h.2, h.3)) (asks_go old new [] h.1)
-  serving_goes old new calls calls' out ending (inr h) =
-      goes_so old.pool new.pool _ (λ t t'. IsServedBy (PlainRuns view) (with_pool old t) (with_pool new t') calls calls' out ending)
+  serving_goes profile old new calls calls' out ending (inr h) =
+      goes_so old.pool new.pool _ (λ t t'. IsServedBy (PlainRuns view) profile (with_pool old t) (with_pool new t') calls calls' out ending)
       (λ t t' asked. inr (h.0, h.1, (h.2.0, asked, h.2.2))) (asks_go old new h.2.0 h.2.1)
 
   -- ---- the end of all

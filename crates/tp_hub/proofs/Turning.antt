@@ -1,5 +1,5 @@
 -- Turns one after another.
-use Rattle.std.proofs.Common.{◌≡◌, ℕ, ◌≤◌, Bool, List, [], ◌∷◌, ◌++◌, length, take, Option, Some, None, ◌⊎◌, inl, inr, refl, sym, ap, subst, ◌∙◌, arith, append_assoc, append-nil, length-append, length-take}
+use Rattle.std.proofs.Common.{◌≡◌, ℕ, ◌≤◌, Bool, false, List, [], ◌∷◌, ◌++◌, length, take, Option, Some, None, ◌⊎◌, inl, inr, refl, sym, ap, subst, ◌∙◌, arith, append_assoc, append-nil, length-append, length-take}
 use Rattle.std.specs.Prelude.{MatchOption}
 use Rattle.std.proofs.lemmas.List.{take_all}
 use Rattle.tp_model.specs.Pool.{Outline}
@@ -7,7 +7,10 @@ use Rattle.tp_model.specs.Calls.{Call}
 use Rattle.tp_model.specs.Calls as calls
 use Rattle.nbd_wire.specs.declared.Kind.{Kind}
 use Rattle.nbd_wire.specs.Grammar.{IsFrame}
-use Rattle.nbd_session.specs.Session.{State, Steps, Waits, TakesFrame, IsOver, kind_of}
+use Rattle.nbd_session.specs.declared.phase.Course.TheVariants.{Listens, Works}
+use Rattle.nbd_session.specs.declared.phase.Phase.{Phase}
+use Rattle.nbd_session.specs.declared.phase.Phase.TheVariants.{Flags, Options, Transmission, Ended}
+use Rattle.nbd_session.specs.Session.{State, Steps, Waits, TakesFrame, IsDeaf, is_at_work, kind_of}
 use Rattle.nbd_session.specs.Turns.{AreTurns, Happened, Sessions, pool_after, sessions_after}
 use Rattle.tp_hub.specs.Told.{Answer, Told, Grows}
 use Rattle.tp_hub.specs.Runs.{TakesText, answers_in, answers_of}
@@ -57,10 +60,11 @@ text_join at n one two [] ys a b = subst (λ t. TakesText at n (t ++ two) ys) (s
 text_join at n one two (x ∷ xs) ys (piece, rest, sent, ended, is_open, is, some, text, more) b =
     (piece, rest ++ two, sent, ended, is_open, is, some, ap (λ t. t ++ two) text ∙ append_assoc piece rest two, text_join x.sessions n rest two xs ys more b)
 
--- no text, no turns
-pub no_text : {S : Type 0} (at : Sessions) (n : ℕ) (xs : List (Happened S)) → TakesText at n [] xs → xs ≡ []
-no_text at n [] a = refl
-no_text at n (x ∷ xs) (piece, rest, sent, ended, is_open, is, some, text, more) = let l = length-append piece rest in let e : 0 ≡ length (piece ++ rest) = ap length text in absurd (omega (arith, some, l, e))
+-- no text, no turns, where no parts of a request are left
+pub no_text : {S : Type 0} (at : Sessions) (n : ℕ) (xs : List (Happened S)) → is_at_work (at n).phase ≡ false → TakesText at n [] xs → xs ≡ []
+no_text at n [] idle a = refl
+no_text at n (x ∷ xs) idle (piece, rest, sent, ended, is_open, is, inr work, text, more) = absurd cc
+no_text at n (x ∷ xs) idle (piece, rest, sent, ended, is_open, is, inl some, text, more) = let l = length-append piece rest in let e : 0 ≡ length (piece ++ rest) = ap length text in absurd (omega (arith, some, l, e))
 
 -- ---- a step took no more than what it took
 
@@ -82,10 +86,17 @@ module _ {S : Type 0} (outline : S → Outline) (Calls : S → Call → calls.An
       all_of : taken ≡ length piece → take taken piece ≡ piece
       all_of e = take_all taken piece (omega (arith, e))
 
-      by_kind : (o : Option Kind) → MatchOption o (IsOver outline Calls old p piece taken sent ended new p') (λ kind. Waits outline Calls kind old p piece taken sent ended new p' ⊎ TakesFrame outline Calls kind old p piece taken sent ended new p')
-          → MatchOption o (IsOver outline Calls old p (take taken piece) (length (take taken piece)) sent ended new p')
+      by_deaf : (phase : Phase) → IsDeaf outline Calls phase old p piece taken sent ended new p' → IsDeaf outline Calls phase old p (take taken piece) (length (take taken piece)) sent ended new p'
+      by_deaf (Transmission v size (Works r)) h = record { part = h.part; none = h.none; taken_is = len ∙ h.taken_is; ended_is = h.ended_is; held_is = h.held_is }
+      by_deaf Ended h = record { taken_is = refl; sent_is = h.sent_is; ended_is = h.ended_is; phase_is = h.phase_is; held_is = h.held_is; pool_is = h.pool_is }
+      by_deaf (Flags a) h = absurd h
+      by_deaf (Options z) h = absurd h
+      by_deaf (Transmission v size (Listens x)) h = absurd h
+
+      by_kind : (o : Option Kind) → MatchOption o (IsDeaf outline Calls old.phase old p piece taken sent ended new p') (λ kind. Waits outline Calls kind old p piece taken sent ended new p' ⊎ TakesFrame outline Calls kind old p piece taken sent ended new p')
+          → MatchOption o (IsDeaf outline Calls old.phase old p (take taken piece) (length (take taken piece)) sent ended new p')
           (λ kind. Waits outline Calls kind old p (take taken piece) (length (take taken piece)) sent ended new p' ⊎ TakesFrame outline Calls kind old p (take taken piece) (length (take taken piece)) sent ended new p')
-      by_kind None h = record { taken_is = refl; sent_is = h.sent_is; ended_is = h.ended_is; phase_is = h.phase_is; held_is = h.held_is; pool_is = h.pool_is }
+      by_kind None h = by_deaf old.phase h
       by_kind (Some kind) (inl h) = subst (λ t. Waits outline Calls kind old p t (length t) sent ended new p' ⊎ TakesFrame outline Calls kind old p t (length t) sent ended new p') (sym (all_of h.taken_is))
           (inl (record { partial = h.partial; taken_is = refl; sent_is = h.sent_is; ended_is = h.ended_is; phase_is = h.phase_is; held_is = h.held_is; pool_is = h.pool_is }))
       by_kind (Some kind) (inr h) = inr (record {

@@ -3,6 +3,7 @@ use Rattle.std.specs.Prelude.{◌≡◌, ℕ, ◌-◌, ◌^◌, ◌<◌, ◌≤�
 use Rattle.tp_hub.specs.declared.answers.TheConstants.{MOST_BYTES}
 use Rattle.tp_hub.specs.declared.answers.Mark.{Mark}
 use Rattle.tp_hub.specs.declared.answers.Mark.TheVariants.{Sent, End, Refused, Done, Line}
+use Rattle.nbd_session.specs.declared.phase.Profile.{Profile}
 use Rattle.tp_hub.specs.Told.{Accepts, Answer, Closes, Lines, IsFull, Refuses, Says, Told, all_sent}
 use Rattle.tp_hub.specs.Runs.{Brings, Comes, Goes, Incoming, taken_of}
 use Rattle.tp_hub.specs.Desks.{Exchange, IsBegun, IsCut}
@@ -122,15 +123,15 @@ abbrev pub IsLeft : ℕ → List Exchange → Carried → Type 0
 IsLeft n asks ending = MatchBool (is_over ending) (asks ≡ []) ((x : Exchange) × (asks ≡ x ∷ []) × (x.took ≡ Goes n ∷ []))
 
 -- There was no memory for answers, which this buffer shows, or for a session, or its number was taken. Nothing is read.
-abbrev pub IsTurnedAway : ℕ → Told → List Exchange → List StreamCall → Carried → Type 0
-IsTurnedAway n out asks calls NoMemory = (calls ≡ []) × (((asks ≡ []) × IsFull out) ⊎ ((x : Exchange) × (asks ≡ x ∷ []) × (x.took ≡ []) × (x.answers ≡ [])))
-IsTurnedAway n out asks calls InUse = (x : Exchange) × (all : Bool) × (asks ≡ x ∷ []) × (x.took ≡ Comes n ∷ []) × (closes_in n x.answers ≡ true) × IsSaid (all_sent x.answers) calls all
-IsTurnedAway n out asks calls _ = ⊥
+abbrev pub IsTurnedAway : ℕ → Profile → Told → List Exchange → List StreamCall → Carried → Type 0
+IsTurnedAway n profile out asks calls NoMemory = (calls ≡ []) × (((asks ≡ []) × IsFull out) ⊎ ((x : Exchange) × (asks ≡ x ∷ []) × (x.took ≡ []) × (x.answers ≡ [])))
+IsTurnedAway n profile out asks calls InUse = (x : Exchange) × (all : Bool) × (asks ≡ x ∷ []) × (x.took ≡ Comes n profile ∷ []) × (closes_in n x.answers ≡ true) × IsSaid (all_sent x.answers) calls all
+IsTurnedAway n profile out asks calls _ = ⊥
 
--- A session was opened, its greeting written, then round after round, up to its end.
-pub record IsServed (n : ℕ) (asks : List Exchange) (calls : List StreamCall) (ending : Carried) : Type 0 where
+-- A session was opened with this profile, its greeting written, then round after round, up to its end.
+pub record IsServed (n : ℕ) (profile : Profile) (asks : List Exchange) (calls : List StreamCall) (ending : Carried) : Type 0 where
   pub opening : Exchange
-  pub opened : opening.took ≡ Comes n ∷ []
+  pub opened : opening.took ≡ Comes n profile ∷ []
   pub is_open : closes_in n opening.answers ≡ false
   pub greeting : List StreamCall
   pub all : Bool
@@ -146,5 +147,5 @@ pub record IsServed (n : ℕ) (asks : List Exchange) (calls : List StreamCall) (
   pub calls_are : calls ≡ greeting ++ (calls_in rounds ++ end)
 
 -- One client: its coming, what was read and answered, and its end.
-abbrev pub IsCarried : ℕ → Told → List Exchange → List StreamCall → Carried → Type 0
-IsCarried n out asks calls ending = IsTurnedAway n out asks calls ending ⊎ IsServed n asks calls ending
+abbrev pub IsCarried : ℕ → Profile → Told → List Exchange → List StreamCall → Carried → Type 0
+IsCarried n profile out asks calls ending = IsTurnedAway n profile out asks calls ending ⊎ IsServed n profile asks calls ending

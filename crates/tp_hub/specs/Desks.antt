@@ -12,7 +12,7 @@ use Rattle.tp_hub.specs.Runs.{AsksLine, AsksLineOf, Brings, Comes, Goes, Incomin
 abbrev pub IsCut : Incoming → ℕ → ℕ → Type 0
 IsCut event (suc n) bytes = (n ≡ 0) × (bytes ≡ 0)
 IsCut (Brings session piece) zero bytes = (bytes ≡ 0) ⊎ (bytes < length piece)
-IsCut (Comes session) zero bytes = bytes ≡ 0
+IsCut (Comes session profile) zero bytes = bytes ≡ 0
 IsCut (Goes session) zero bytes = bytes ≡ 0
 IsCut (Orders line) zero bytes = bytes ≡ 0
 IsCut AsksLine zero bytes = bytes ≡ 0
@@ -25,7 +25,7 @@ IsBegun (Goes session) events bytes = 0 < events
 IsBegun (Orders line) events bytes = 0 < events
 IsBegun AsksLine events bytes = 0 < events
 IsBegun (AsksLineOf volume) events bytes = 0 < events
-IsBegun (Comes session) events bytes = Unit {0}
+IsBegun (Comes session profile) events bytes = Unit {0}
 
 -- One event was asked: so much of it was taken, and these answers were added. Where nothing was taken nothing is answered, and where one longest
 -- answer fits something is taken.

@@ -1,15 +1,15 @@
 -- Internal: what one event makes of the place of its session.
-use Rattle.std.specs.Prelude.{◌≡◌, ℕ, ◌<◌, ◌≤◌, Bool, true, false, List, [], ◌∷◌, length, take, Option, Some, None, slice_set, if◌then◌else◌, ◌==◌, ◌⊎◌}
+use Rattle.std.specs.Prelude.{◌≡◌, ◌≢◌, ℕ, ◌<◌, ◌≤◌, Bool, true, false, List, [], ◌∷◌, length, take, Option, Some, None, slice_set, if◌then◌else◌, ◌==◌, ◌⊎◌}
 use Rattle.tp_model.specs.Pool.{Outline}
 use Rattle.tp_model.specs.Calls.{Call}
 use Rattle.tp_model.specs.Calls as calls
 use Rattle.tp_model.specs.Clauses.{PoolCall, View}
 use Rattle.nbd_session.specs.declared.phase.Phase.TheVariants.{Ended}
-use Rattle.nbd_session.specs.Session.{State, state, has_ended}
+use Rattle.nbd_session.specs.Session.{State, state, has_ended, is_at_work}
 use Rattle.nbd_session.specs.Clauses.{Advances, IsReady}
 use Rattle.nbd_session.specs.Turns.{AreTurns, Happened, Sessions, pool_after, sessions_after}
 use Rattle.tp_hub.specs.declared.slot.Heard.{Heard}
-use Rattle.tp_hub.specs.declared.slot.Heard.TheVariants.{Whole, Over, Stopped}
+use Rattle.tp_hub.specs.declared.slot.Heard.TheVariants.{Whole, Over, Stopped, Parted}
 use Rattle.tp_hub.specs.Told.{Answer, Told, Grows, IsFull}
 use Rattle.tp_hub.specs.Desks.{IsAsked, RunsSo}
 use Rattle.tp_hub.specs.Runs.{Brings, Incoming, IsPart, IsShort, Runs, TakesText, answers_in, front_of, session_in}
@@ -36,11 +36,16 @@ taken_part event false bytes = front_of event bytes
 -- what was taken of it leaves its session so
 abbrev pub IsTaken : Sessions → Incoming → Bool → ℕ → Told → Type 0
 IsTaken at event true bytes out = bytes ≡ 0
-IsTaken at event false bytes out = IsPart at event bytes × IsShort at event out
+IsTaken at event false bytes out = IsPart at event bytes × IsShort at event bytes out
 
 -- So many bytes of a piece, as events and bytes of the next: the whole piece is one event.
 abbrev pub IsRan : ℕ → ℕ → ℕ → ℕ → Type 0
 IsRan taken len events bytes = ((taken < len) × (events ≡ 0) × (bytes ≡ taken)) ⊎ ((taken ≡ len) × (events ≡ 1) × (bytes ≡ 0))
+
+-- so many bytes of a piece of this length were taken, or all of it
+abbrev pub IsRest : Bool → ℕ → ℕ → ℕ → Type 0
+IsRest true left bytes len = (bytes ≡ len) × (left ≡ 0)
+IsRest false left bytes len = (bytes ≢ len) × (left ≡ bytes)
 
 -- nothing but the room changed, which did not shrink
 pub record IsWider (before after : Told) : Type 0 where
@@ -66,13 +71,16 @@ module _ {D : Type 0} (view : View D) where
   abbrev pub KeepsServing : ℕ → Option State → D → Option State → D → Type 0
   KeepsServing n old p new p' = (slots : Slots) → n < length slots → slot_at slots n ≡ old → Serves (view.outline p) (view.more p) slots → Serves (view.outline p') (view.more p') (slice_set slots n new)
 
-  -- how much of a piece was heard
-  abbrev pub HearsSo : ℕ → State → D → List ℕ → Told → Told → State → D → Heard → Type 0
-  HearsSo n old p piece before after new p' Whole = HearsAnywhere n old p piece before after new p' × (has_ended new.phase ≡ false) × KeepsServing n (Some old) p (Some new) p'
-  HearsSo n old p piece before after new p' Over =
+  -- how much of a piece was heard, and whether parts of a request may be left
+  abbrev pub HearsSo : ℕ → Bool → State → D → List ℕ → Told → Told → State → D → Heard → Type 0
+  HearsSo n parted old p piece before after new p' Whole = HearsAnywhere n old p piece before after new p' × (has_ended new.phase ≡ false) × KeepsServing n (Some old) p (Some new) p'
+  HearsSo n parted old p piece before after new p' Over =
       (at : ℕ) × HearsAnywhere n old p (take at piece) before after new p' × (new ≡ state Ended []) × KeepsServing n (Some old) p None p'
-  HearsSo n old p piece before after new p' (Stopped at) =
+  HearsSo n parted old p piece before after new p' (Stopped at) =
       (at < length piece) × HearsAnywhere n old p (take at piece) before after new p' × (has_ended new.phase ≡ false) × KeepsServing n (Some old) p (Some new) p' × IsFull after
+  HearsSo n parted old p piece before after new p' (Parted at) =
+      (parted ≡ true) × (0 < at) × (at ≤ length piece) × HearsAnywhere n old p (take at piece) before after new p' × (has_ended new.phase ≡ false) × KeepsServing n (Some old) p (Some new) p'
+      × (is_at_work new.phase ≡ true)
 
   -- So many bytes of a piece are a READ that was answered so, by which neither the session nor the pool changed.
   abbrev pub IsRead : State → D → List ℕ → ℕ → List ℕ → Type 0

@@ -5,7 +5,9 @@ use Rattle.tp_model.specs.declared.refusal.Refusal.TheVariants.{BadDeviceId, NoS
 use Rattle.tp_model.specs.Pool.{Outline}
 use Rattle.tp_model.specs.Calls.{Call}
 use Rattle.tp_model.specs.Calls as calls
-use Rattle.nbd_session.specs.Session.{has_ended}
+use Rattle.nbd_session.specs.declared.phase.Phase.{Phase}
+use Rattle.nbd_session.specs.declared.phase.Profile.{Profile}
+use Rattle.nbd_session.specs.Session.{has_ended, is_at_work}
 use Rattle.nbd_session.specs.Turns.{Turn, Opens, Hears, Leaves, Asks, Happened, Sessions, AreTurns, sessions_after, pool_after}
 use Rattle.tp_hub.specs.declared.event.Event.{Event}
 use Rattle.tp_hub.specs.declared.event.Event.TheVariants as kinds
@@ -18,7 +20,7 @@ use Rattle.tp_hub.specs.Told.{Answer, Accepts, Lines, Says, Closes, Refuses, Tol
 
 -- what comes to the hub, as data
 pub data Incoming : Type 0 where
-  Comes : (session : ℕ) → Incoming
+  Comes : (session : ℕ) (profile : Profile) → Incoming
   Brings : (session : ℕ) (piece : List ℕ) → Incoming
   Goes : (session : ℕ) → Incoming
   -- a line that is to be a message to the pool
@@ -28,8 +30,9 @@ pub data Incoming : Type 0 where
   AsksLineOf : (volume : ℕ) → Incoming
 
 abbrev pub incoming : Event → Incoming
-incoming (kinds.Open session) = Comes session
+incoming (kinds.Open session profile) = Comes session profile
 incoming (kinds.Bytes session piece) = Brings session piece.now
+incoming (kinds.Parted session piece) = Brings session piece.now
 incoming (kinds.Hangup session) = Goes session
 incoming (kinds.Message line) = Orders line.now
 incoming kinds.Status = AsksLine
@@ -37,15 +40,16 @@ incoming (kinds.ThinStatus volume) = AsksLineOf volume
 
 -- its session; an event of the pool has none, for which 0 stands
 abbrev pub session_of : Event → ℕ
-session_of (kinds.Open session) = session
+session_of (kinds.Open session profile) = session
 session_of (kinds.Bytes session piece) = session
+session_of (kinds.Parted session piece) = session
 session_of (kinds.Hangup session) = session
 session_of (kinds.Message line) = 0
 session_of kinds.Status = 0
 session_of (kinds.ThinStatus volume) = 0
 
 abbrev pub session_in : Incoming → ℕ
-session_in (Comes session) = session
+session_in (Comes session profile) = session
 session_in (Brings session piece) = session
 session_in (Goes session) = session
 session_in (Orders line) = 0
@@ -56,7 +60,7 @@ session_in (AsksLineOf volume) = 0
 abbrev pub front_of : Incoming → ℕ → List Incoming
 front_of (Brings session piece) zero = []
 front_of (Brings session piece) (suc n) = Brings session (take (suc n) piece) ∷ []
-front_of (Comes session) bytes = []
+front_of (Comes session profile) bytes = []
 front_of (Goes session) bytes = []
 front_of (Orders line) bytes = []
 front_of AsksLine bytes = []
@@ -73,7 +77,7 @@ taken_of all events bytes = take events all ++ front_of_next (drop events all) b
 -- Of an event so many bytes were taken: fewer than its piece has, and its session is open.
 abbrev pub IsPart : Sessions → Incoming → ℕ → Type 0
 IsPart at (Brings session piece) bytes = (bytes ≡ 0) ⊎ ((bytes < length piece) × (has_ended (at session).phase ≡ false))
-IsPart at (Comes session) bytes = bytes ≡ 0
+IsPart at (Comes session profile) bytes = bytes ≡ 0
 IsPart at (Goes session) bytes = bytes ≡ 0
 IsPart at (Orders line) bytes = bytes ≡ 0
 IsPart at AsksLine bytes = bytes ≡ 0
@@ -83,19 +87,20 @@ abbrev pub IsPartOfNext : Sessions → List Incoming → ℕ → Type 0
 IsPartOfNext at [] bytes = bytes ≡ 0
 IsPartOfNext at (event ∷ events) bytes = IsPart at event bytes
 
--- An event is left for a cause: one longest answer does not fit, or the event is a client that comes, whose session is not open, so that it wanted memory of its own.
-abbrev pub IsShort : Sessions → Incoming → Told → Type 0
-IsShort at (Comes session) out = IsFull out ⊎ (has_ended (at session).phase ≡ true)
-IsShort at (Brings session piece) out = IsFull out
-IsShort at (Goes session) out = IsFull out
-IsShort at (Orders line) out = IsFull out
-IsShort at AsksLine out = IsFull out
-IsShort at (AsksLineOf volume) out = IsFull out
+-- An event is left for a cause: one longest answer does not fit; or the event is a client that comes, whose session is not open, so that it wanted memory of its own;
+-- or a long request ended what was taken of it, whose parts are to be asked for.
+abbrev pub IsShort : Sessions → Incoming → ℕ → Told → Type 0
+IsShort at (Comes session profile) bytes out = IsFull out ⊎ (has_ended (at session).phase ≡ true)
+IsShort at (Brings session piece) bytes out = IsFull out ⊎ ((0 < bytes) × (is_at_work (at session).phase ≡ true))
+IsShort at (Goes session) bytes out = IsFull out
+IsShort at (Orders line) bytes out = IsFull out
+IsShort at AsksLine bytes out = IsFull out
+IsShort at (AsksLineOf volume) bytes out = IsFull out
 
 -- where events are left, the first of them is left for a cause
-abbrev pub IsShortOfNext : Sessions → List Incoming → Told → Type 0
-IsShortOfNext at [] out = Unit {0}
-IsShortOfNext at (event ∷ events) out = IsShort at event out
+abbrev pub IsShortOfNext : Sessions → List Incoming → ℕ → Told → Type 0
+IsShortOfNext at [] bytes out = Unit {0}
+IsShortOfNext at (event ∷ events) bytes out = IsShort at event bytes out
 
 -- ---- answers
 
@@ -110,7 +115,7 @@ closed_if session false = []
 
 -- what is answered in a turn
 abbrev pub answers_of : Turn → List Answer
-answers_of (Opens session sent) = Says session sent ∷ []
+answers_of (Opens session profile sent) = Says session sent ∷ []
 answers_of (Hears session piece taken sent ended) = said session sent ++ closed_if session ended
 answers_of (Leaves session) = Closes session ∷ []
 answers_of (Asks call answer) = []
@@ -121,12 +126,12 @@ answers_in (h ∷ hs) = answers_of h.turn ++ answers_in hs
 
 -- ---- one event
 
--- The session takes this text, turn by turn, and is open before each.
+-- The session takes this text, turn by turn, and is open before each. A turn takes something of it, or makes a part of a request, of which parts were left.
 abbrev pub TakesText : {S : Type 0} → Sessions → ℕ → List ℕ → List (Happened S) → Type 0
 TakesText at n text [] = text ≡ []
 TakesText at n text (h ∷ hs) =
     (piece rest sent : List ℕ) × (ended : Bool) × (has_ended (at n).phase ≡ false) × (h.turn ≡ Hears n piece (length piece) sent ended)
-    × (0 < length piece) × (text ≡ piece ++ rest) × TakesText h.sessions n rest hs
+    × ((0 < length piece) ⊎ (is_at_work (at n).phase ≡ true)) × (text ≡ piece ++ rest) × TakesText h.sessions n rest hs
 
 -- The session takes all of the piece, or what stands up to its end: the rest is dropped.
 pub record TakesPiece {S : Type 0} (at : Sessions) (n : ℕ) (piece : List ℕ) (turns : List (Happened S)) : Type 0 where
@@ -180,13 +185,19 @@ IsCalled call Tells turns answers = (answer : calls.Answer) × IsOnly turns (Ask
 abbrev pub IsOrdered : {S : Type 0} → List ℕ → List (Happened S) → List Answer → Type 0
 IsOrdered line turns answers = MatchResult (reading line) (λ m. IsCalled (call_of m) TellsDone turns answers) (λ reason. IsRefused reason turns answers)
 
+-- While parts of its request are left a session takes no text.
+abbrev pub is_busy : Phase → List ℕ → Bool
+is_busy phase [] = false
+is_busy phase (byte ∷ bytes) = is_at_work phase
+
 -- The turns and the answers of an event. A client comes where the session is not open; it is heard, and it goes, where it is open. An event of the pool
 -- is one call of it at most, which changes no session.
 abbrev pub IsAnswered : {S : Type 0} → Sessions → Incoming → List (Happened S) → List Answer → Type 0
-IsAnswered at (Comes n) turns answers =
-    MatchBool (has_ended (at n).phase) ((sent : List ℕ) × IsOnly turns (Opens n sent) × (answers ≡ answers_in turns)) (IsRefused SessionInUse turns answers)
+IsAnswered at (Comes n profile) turns answers =
+    MatchBool (has_ended (at n).phase) ((sent : List ℕ) × IsOnly turns (Opens n profile sent) × (answers ≡ answers_in turns)) (IsRefused SessionInUse turns answers)
 IsAnswered at (Brings n piece) turns answers =
-    MatchBool (has_ended (at n).phase) (IsRefused NoSession turns answers) (TakesPiece at n piece turns × (answers ≡ answers_in turns))
+    MatchBool (has_ended (at n).phase) (IsRefused NoSession turns answers)
+    (MatchBool (is_busy (at n).phase piece) (IsRefused SessionInUse turns answers) (TakesPiece at n piece turns × (answers ≡ answers_in turns)))
 IsAnswered at (Goes n) turns answers =
     MatchBool (has_ended (at n).phase) (IsRefused NoSession turns answers) (IsOnly turns (Leaves n) × (answers ≡ answers_in turns))
 IsAnswered at (Orders line) turns answers = IsOrdered line turns answers

@@ -4,6 +4,7 @@ use Rattle.tp_model.specs.Pool.{Outline}
 use Rattle.tp_model.specs.Calls.{Call}
 use Rattle.tp_model.specs.Calls as calls
 use Rattle.tp_model.specs.Clauses.{PoolCall, Traced, TracedCall, View, outline_of_traced}
+use Rattle.nbd_session.specs.declared.phase.Profile.{Profile}
 use Rattle.tp_hub.specs.Told.{Answer, Told}
 use Rattle.tp_hub.specs.Runs.{Incoming}
 use Rattle.tp_hub.specs.Serving.{HubState, Slots, sessions_of, slot_at}
@@ -42,10 +43,10 @@ module _ {D : Type 0} (view : View D) where
 -- Ran: what runs of a hub are, over one kind of pool.
 module _ {S : Type 0} (Ran : HubState S → List Incoming → List Answer → HubState S → Type 0) where
   -- The client was carried over runs of the hub, under this number.
-  abbrev pub IsServedAs : ℕ → HubState S → HubState S → List StreamCall → List StreamCall → Told → Carried → Type 0
-  IsServedAs n old new calls calls' out ending = (xs : List Exchange) × AreAsked Ran old xs new × Makes calls calls' (λ did. IsCarried n out xs did ending)
+  abbrev pub IsServedAs : ℕ → Profile → HubState S → HubState S → List StreamCall → List StreamCall → Told → Carried → Type 0
+  IsServedAs n profile old new calls calls' out ending = (xs : List Exchange) × AreAsked Ran old xs new × Makes calls calls' (λ did. IsCarried n profile out xs did ending)
 
   -- All numbers are open, and nothing was done; or the client was carried under the least that is not.
-  abbrev pub IsServedBy : HubState S → HubState S → List StreamCall → List StreamCall → Told → Carried → Type 0
-  IsServedBy old new calls calls' out ending =
-      (AreAllOpen old.slots × (new ≡ old) × (calls' ≡ calls) × (ending ≡ InUse)) ⊎ ((n : ℕ) × IsLeastFree old.slots n × IsServedAs n old new calls calls' out ending)
+  abbrev pub IsServedBy : Profile → HubState S → HubState S → List StreamCall → List StreamCall → Told → Carried → Type 0
+  IsServedBy profile old new calls calls' out ending =
+      (AreAllOpen old.slots × (new ≡ old) × (calls' ≡ calls) × (ending ≡ InUse)) ⊎ ((n : ℕ) × IsLeastFree old.slots n × IsServedAs n profile old new calls calls' out ending)

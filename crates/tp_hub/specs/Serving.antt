@@ -34,9 +34,9 @@ sessions_of slots n = shown (slot_at slots n)
 -- ---- what they hold
 
 abbrev pub volume_in : Phase → List ℕ
-volume_in Flags = []
-volume_in (Options no_zeroes) = []
-volume_in (Transmission volume size) = volume ∷ []
+volume_in (Flags profile) = []
+volume_in (Options terms) = []
+volume_in (Transmission volume size course) = volume ∷ []
 volume_in Ended = []
 
 abbrev pub volume_of : Option State → List ℕ
@@ -50,9 +50,9 @@ held_by (slot ∷ slots) = volume_of slot ++ held_by slots
 
 -- a session that goes on, over a pool of this geometry, of whose volumes so many sectors more than its own size are known
 abbrev pub GoesOn : Geometry → (ℕ → ℕ) → Phase → Type 0
-GoesOn g more Flags = Unit {0}
-GoesOn g more (Options no_zeroes) = Unit {0}
-GoesOn g more (Transmission volume size) = size ≡ known_bytes g more volume
+GoesOn g more (Flags profile) = Unit {0}
+GoesOn g more (Options terms) = Unit {0}
+GoesOn g more (Transmission volume size course) = size ≡ known_bytes g more volume
 GoesOn g more Ended = ⊥
 
 abbrev pub IsSlot : Geometry → (ℕ → ℕ) → Option State → Type 0

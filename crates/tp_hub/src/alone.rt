@@ -13,6 +13,7 @@ use crate::desk::Desk;
 use crate::event::Event;
 use crate::hub::{Hub, Ran};
 use crate::stream::Stream;
+use nbd_session::Profile;
 use std::alloc::Global;
 use tp_msg::Managed;
 
@@ -37,6 +38,7 @@ fn serve_as<V: Managed, S: Stream>(
     alloc: Global,
     hub: Hub<V>,
     number: u8,
+    profile: Profile,
     stream: &mut S,
     buffer: &mut Vec<u8>,
     out: &mut Answers,
@@ -44,13 +46,13 @@ fn serve_as<V: Managed, S: Stream>(
     requires number { number < 64 }
     requires room { 0 < length buffer.old.items }
     requires empty { out.old.list ≡ [] }
-    ensures served { IsServedAs (HubRuns V.view) number hub result.0 (S.calls stream.old) (S.calls stream.new) out.new result.1 }
+    ensures served { IsServedAs (HubRuns V.view) number profile hub result.0 (S.calls stream.old) (S.calls stream.new) out.new result.1 }
     ensures empty { out.new.list ≡ [] }
     ensures wide { out.old.room ≤ out.new.room }
     ensures long { out.old.marks ≤ out.new.marks }
 {
     let mut desk = OwnDesk { alloc, hub };
-    let ending = carry(&mut desk, number, stream, buffer, out);
+    let ending = carry(&mut desk, number, profile, stream, buffer, out);
     let OwnDesk { alloc: _, hub } = desk;
     (hub, ending)
 }
@@ -60,14 +62,15 @@ fn serve_as<V: Managed, S: Stream>(
 pub fn serve<V: Managed, S: Stream>(
     alloc: Global,
     hub: Hub<V>,
+    profile: Profile,
     stream: &mut S,
     buffer: &mut Vec<u8>,
     out: &mut Answers,
 ) -> (Hub<V>, Carried)
     requires room { 0 < length buffer.old.items }
     requires empty { out.old.list ≡ [] }
-    ensures served { IsServedBy (HubRuns V.view) hub result.0 (S.calls stream.old) (S.calls stream.new) out.new result.1 }
-    ensures traced { GoesWithTrace V.view hub.pool result.0.pool (λ t t'. IsServedBy (PlainRuns V.view) (with_pool hub t) (with_pool result.0 t')
+    ensures served { IsServedBy (HubRuns V.view) profile hub result.0 (S.calls stream.old) (S.calls stream.new) out.new result.1 }
+    ensures traced { GoesWithTrace V.view hub.pool result.0.pool (λ t t'. IsServedBy (PlainRuns V.view) profile (with_pool hub t) (with_pool result.0 t')
         (S.calls stream.old) (S.calls stream.new) out.new result.1) }
     ensures empty { out.new.list ≡ [] }
     ensures wide { out.old.room ≤ out.new.room }
@@ -75,6 +78,6 @@ pub fn serve<V: Managed, S: Stream>(
 {
     match hub.free_number() {
         None => (hub, Carried::InUse),
-        Some(number) => serve_as(alloc, hub, number, stream, buffer, out),
+        Some(number) => serve_as(alloc, hub, number, profile, stream, buffer, out),
     }
 }

@@ -12,6 +12,7 @@ use crate::desk::Desk;
 use crate::event::Event;
 use crate::hub::Ran;
 use crate::stream::{Received, Stream, send_all};
+use nbd_session::Profile;
 
 /// How a client ended.
 #[derive(Clone, Copy, Debug, PartialEq, Eq)]
@@ -211,7 +212,7 @@ fn hang_up<D: Desk>(desk: &mut D, number: u8, ending: Carried, out: &mut Answers
     out.clear();
 }
 
-/// Carries a client: opens a session, asks what is read, in order and once, writes and flushes the answers of each ask before the next one, and at the end has
+/// Carries a client: opens a session with its profile, asks what is read, in order and once, writes and flushes the answers of each ask before the next one, and at the end has
 /// the session leave, unless it ended before. Where the stream failed, what went out is a beginning of the answers.
 ///
 /// Room for one longest answer is made first, so that each ask takes something and the client's end is told for certain. The buffer keeps all
@@ -219,6 +220,7 @@ fn hang_up<D: Desk>(desk: &mut D, number: u8, ending: Carried, out: &mut Answers
 pub fn carry<D: Desk, S: Stream>(
     desk: &mut D,
     number: u8,
+    profile: Profile,
     stream: &mut S,
     buffer: &mut Vec<u8>,
     out: &mut Answers,
@@ -226,7 +228,7 @@ pub fn carry<D: Desk, S: Stream>(
     requires number { number < 64 }
     requires room { 0 < length buffer.old.items }
     requires empty { out.old.list ≡ [] }
-    ensures carried { (xs : List Exchange) × AreAsked D.asks desk.old xs desk.new × Makes (S.calls stream.old) (S.calls stream.new) (λ did. IsCarried number out.new xs did result) }
+    ensures carried { (xs : List Exchange) × AreAsked D.asks desk.old xs desk.new × Makes (S.calls stream.old) (S.calls stream.new) (λ did. IsCarried number profile out.new xs did result) }
     ensures empty { out.new.list ≡ [] }
     ensures wide { out.old.room ≤ out.new.room }
     ensures long { out.old.marks ≤ out.new.marks }
@@ -234,7 +236,7 @@ pub fn carry<D: Desk, S: Stream>(
     if out.make_room().is_err() {
         return Carried::NoMemory;
     }
-    let opened = exchange(desk, number, Event::Open(number), stream, out);
+    let opened = exchange(desk, number, Event::Open(number, profile), stream, out);
     if opened.ran.events == 0 {
         return Carried::NoMemory;
     }

@@ -1,12 +1,17 @@
 //! What comes to the hub.
 
+use nbd_session::Profile;
+
 /// One event: of a session, which are numbered from 0 to 63, or of the pool.
 #[derive(Clone, Copy, Debug)]
 pub enum Event<'a> {
-    /// A client comes, and takes the number of a session that is not open.
-    Open(u8),
+    /// A client comes, takes the number of a session that is not open, and is offered so much.
+    Open(u8, Profile),
     /// A session's client sends a piece, cut anywhere.
     Bytes(u8, &'a [u8]),
+    /// The same, up to where a long request begins; where parts of one are left, one of them, and no text may come. Who asks so may have others asked between
+    /// two parts.
+    Parted(u8, &'a [u8]),
     /// A session's client goes.
     Hangup(u8),
     /// A line of text that is to be a message to the pool.

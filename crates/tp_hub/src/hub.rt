@@ -5,6 +5,7 @@ ghost use Rattle.std.specs.FinMap.{empty};
 ghost use Rattle.tp_model.specs.Clauses.{PoolCall};
 ghost use Rattle.tp_hub.specs.Runs.{IsPartOfNext, IsShortOfNext, Runs, incoming, session_of, taken_of};
 ghost use Rattle.tp_hub.specs.Places.{TakesEvent};
+ghost use Rattle.nbd_session.specs.Session.{is_at_work};
 ghost use Rattle.tp_hub.specs.Serve.{AreAllOpen, IsLeastFree};
 ghost use Rattle.tp_hub.specs.Serving.{AllLeave, Serves, sessions_of, slot_at};
 
@@ -12,7 +13,7 @@ use crate::answers::Answers;
 use crate::event::Event;
 use crate::orders::{take_message, take_status, take_thin_status};
 use crate::shared::ask_place;
-use crate::slot::{Took, hear_slot, leave_place, leave_slot, open_slot};
+use crate::slot::{Took, hear_slot, leave_place, leave_slot, open_slot, part_slot};
 use nbd_session::Session;
 use std::alloc::Global;
 use std::marker::Model;
@@ -47,7 +48,8 @@ impl<V: Volumes> Model for Hub<V> {
 }
 
 impl<V: Volumes> Hub<V> {
-    ghost use Rattle.std.specs.Prelude.{◌≡◌, None, IfSome};
+    ghost use Rattle.std.specs.Prelude.{◌≡◌, ◌<◌, None, IfSome};
+    ghost use Rattle.nbd_session.specs.Session.{is_at_work};
     ghost use Rattle.tp_hub.specs.Serve.{AreAllOpen, IsLeastFree};
     ghost use Rattle.std.specs.FinMap.{empty};
     ghost use Rattle.tp_model.specs.Clauses.{TracedCall, outline_of_traced};
@@ -73,6 +75,14 @@ impl<V: Volumes> Hub<V> {
         ensures none { result ≡ None → AreAllOpen self.now.slots }
     {
         least_free(&self.sessions)
+    }
+
+    /// Whether a session has parts of a request left.
+    pub fn is_at_work(&self, number: u8) -> bool
+        requires { number < 64 }
+        ensures { result ≡ is_at_work (sessions_of self.now.slots number).phase }
+    {
+        at_work(&self.sessions, number)
     }
 
     /// The mode of its pool.
@@ -132,7 +142,9 @@ impl<V: Managed> Hub<V> {
     /// Takes events one after another, and adds their answers. What is sent is that of the sessions' turns, in the order of the events.
     ///
     /// `Open` of a session that is open is refused `SessionInUse`, `Bytes` and `Hangup` of one that is not `NoSession`. What stands
-    /// in a piece behind its session's end is dropped.
+    /// in a piece behind its session's end is dropped. The parts of a long request are made one behind the other, each in a turn of its own, and no session has any
+    /// left behind `Bytes`: `Parted` stops where the first one is to be made, and makes one of them where it brings no text. Text for a session that has parts left
+    /// is refused `SessionInUse`.
     ///
     /// A line that is no message is refused for its text (`UnknownMessage`, `BadSyntax` or `BadDeviceId`), and the pool is not asked; for any other line the
     /// pool is asked once, and `Done` or its refusal answers it. A status line is the pool's at its turn; that of a volume whose number is over 16777215 is
@@ -148,7 +160,7 @@ impl<V: Managed> Hub<V> {
         ensures traced { GoesWithTrace V.view self.old.pool self.new.pool (λ t t'. Runs outline_of_traced (TracedCall V.view.has_use) (sessions_of self.old.slots) t
             (taken_of (map incoming events.now) result.events result.bytes) out.old out.new (sessions_of self.new.slots) t') }
         ensures part { IsPartOfNext (sessions_of self.new.slots) (drop result.events (map incoming events.now)) result.bytes }
-        ensures short { IsShortOfNext (sessions_of self.new.slots) (drop result.events (map incoming events.now)) out.new }
+        ensures short { IsShortOfNext (sessions_of self.new.slots) (drop result.events (map incoming events.now)) result.bytes out.new }
         ensures within { result.events ≤ length events.now }
     {
         run_events(&mut self.sessions, &mut self.pool, alloc, events, out)
@@ -162,6 +174,18 @@ fn is_open(sessions: &[Option<Session>; SESSIONS], number: u8) -> bool
     ensures { result ≡ is_some (slot_at sessions.now number) }
 {
     sessions[usize::from(number)].is_some()
+}
+
+/// Whether the session of a number has parts of a request left.
+fn at_work(sessions: &[Option<Session>; SESSIONS], number: u8) -> bool
+    requires count { length sessions.now ≡ 64 }
+    requires number { number < 64 }
+    ensures { result ≡ is_at_work (sessions_of sessions.now number).phase }
+{
+    match &sessions[usize::from(number)] {
+        None => false,
+        Some(session) => session.is_at_work(),
+    }
 }
 
 /// The least number that is not open, or None where all are.
@@ -198,7 +222,7 @@ fn run_events<V: Managed>(
     ensures runs { Runs V.view.outline (PoolCall V.view) (sessions_of sessions.old) pool.old
         (taken_of (map incoming events.now) result.events result.bytes) out.old out.new (sessions_of sessions.new) pool.new }
     ensures part { IsPartOfNext (sessions_of sessions.new) (drop result.events (map incoming events.now)) result.bytes }
-    ensures short { IsShortOfNext (sessions_of sessions.new) (drop result.events (map incoming events.now)) out.new }
+    ensures short { IsShortOfNext (sessions_of sessions.new) (drop result.events (map incoming events.now)) result.bytes out.new }
     ensures within { result.events ≤ length events.now }
     ensures serves { Serves (V.view.outline pool.new) (V.view.more pool.new) sessions.new }
 {
@@ -230,11 +254,20 @@ fn take_event<V: Managed>(
     ensures { TakesEvent V.view (incoming event.now) sessions.old pool.old result.whole result.bytes out.old out.new sessions.new pool.new }
 {
     match *event {
-        Event::Open(number) => {
-            open_slot::<V>(&mut sessions[usize::from(number)], alloc, number, out)
+        Event::Open(number, profile) => {
+            open_slot::<V>(
+                &mut sessions[usize::from(number)],
+                alloc,
+                number,
+                profile,
+                out,
+            )
         }
         Event::Bytes(number, piece) => {
             hear_slot(&mut sessions[usize::from(number)], pool, number, piece, out)
+        }
+        Event::Parted(number, piece) => {
+            part_slot(&mut sessions[usize::from(number)], pool, number, piece, out)
         }
         Event::Hangup(number) => {
             leave_slot(&mut sessions[usize::from(number)], pool, number, out)

@@ -3,6 +3,7 @@
 ghost use Rattle.std.specs.Prelude.{◌≡◌, ℕ, List, [], ◌∷◌, ◌++◌};
 ghost use Rattle.tp_model.specs.Pool.{PlainPool};
 ghost use Rattle.tp_model.specs.Clauses.{HasTrace, PoolCall, Traced, TracedCall, outline_of_traced};
+ghost use Rattle.nbd_session.specs.declared.phase.Profile.{Profile};
 ghost use Rattle.nbd_session.specs.Clauses.{GoesWithTrace};
 ghost use Rattle.nbd_session.specs.Turns.{AreSame, AreTurns, Sessions, closed, pool_after, sessions_after};
 ghost use Rattle.tp_hub.specs.Told.{Told};
@@ -69,7 +70,7 @@ pub fn asks_are_traced<V: Volumes>()
 /// Where two clients come, and the first sends a text and then the second, each is greeted, and the second is heard over the pool that the first
 /// left; what one sends changes nothing of the other's session.
 pub fn two_are_heard_in_turn<V: Volumes>()
-    ensures { (pool new : V) (first second : List ℕ) (before out : Told) (after : Sessions)
-        → Runs V.view.outline (PoolCall V.view) closed pool (Comes 0 ∷ Comes 1 ∷ Brings 0 first ∷ Brings 1 second ∷ []) before out after new
-        → InTurn V.view.outline (PoolCall V.view) pool first second before out after new }
+    ensures { (one two : Profile) (pool new : V) (first second : List ℕ) (before out : Told) (after : Sessions)
+        → Runs V.view.outline (PoolCall V.view) closed pool (Comes 0 one ∷ Comes 1 two ∷ Brings 0 first ∷ Brings 1 second ∷ []) before out after new
+        → InTurn V.view.outline (PoolCall V.view) one two pool first second before out after new }
 {}

@@ -10,6 +10,7 @@ ghost use Rattle.tp_hub.specs.Serving.{AllLeave};
 use crate::answers::Answers;
 use crate::event::Event;
 use crate::hub::{Hub, Ran};
+use nbd_session::Profile;
 use std::alloc::Global;
 use tp_msg::Managed;
 
@@ -24,13 +25,13 @@ pub fn serve_two<'x, V: Managed>(
 ) -> (V, Ran)
     requires { (V.view.outline pool).holds ≡ empty }
     ensures serves { (after : Sessions) × (mid : V)
-        × (result.1.events ≡ 4 → InTurn V.view.outline (PoolCall V.view) pool first.now second.now out.old out.new after mid) × AllLeave V.view after mid result.0 }
+        × (result.1.events ≡ 4 → InTurn V.view.outline (PoolCall V.view) Profile.Strict Profile.Strict pool first.now second.now out.old out.new after mid) × AllLeave V.view after mid result.0 }
     ensures free { (V.view.outline result.0).holds ≡ empty }
 {
     let mut hub = Hub::new(pool);
     let events = [
-        Event::Open(0),
-        Event::Open(1),
+        Event::Open(0, Profile::Strict),
+        Event::Open(1, Profile::Strict),
         Event::Bytes(0, first),
         Event::Bytes(1, second),
     ];

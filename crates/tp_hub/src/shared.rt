@@ -1,7 +1,7 @@
 //! READs of one session that are answered by shared reads, while nothing else is done to the hub.
 
 ghost use Rattle.std.specs.Prelude.{◌≡◌, ◌<◌, ◌≤◌, None, false, length, take, IfSome};
-ghost use Rattle.nbd_session.specs.Session.{has_ended};
+ghost use Rattle.nbd_session.specs.Session.{has_ended, is_at_work};
 ghost use Rattle.nbd_session.specs.Clauses.{IsReady};
 ghost use Rattle.nbd_session.specs.Turns.{Sessions};
 ghost use Rattle.tp_hub.specs.Places.{HearsAnywhere, IsAskedStill, IsRan, IsReadySlot, IsWider};
@@ -22,6 +22,7 @@ fn hear<V: SharedVolumes>(
 ) -> usize
     requires ready { IsReady session.now.phase (V.view.outline pool.now) (V.view.more pool.now) }
     requires open { has_ended session.now.phase ≡ false }
+    requires idle { is_at_work session.now.phase ≡ false }
     ensures hears { HearsAnywhere V.view number session.now pool.now (take result piece.now) out.old out.new session.now pool.now }
     ensures within { result ≤ length piece.now }
 {
@@ -72,6 +73,9 @@ fn ask_slot<V: SharedVolumes>(
     match slot {
         None => None,
         Some(session) => {
+            if session.is_at_work() {
+                return None;
+            }
             let bytes = hear(session, pool, number, piece, out);
             ran(bytes, piece.len())
         }

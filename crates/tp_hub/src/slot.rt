@@ -1,18 +1,18 @@
 //! One session at its place.
 
-ghost use Rattle.std.specs.Prelude.{◌≡◌, ℕ, None, true, false, [], ◌∷◌};
+ghost use Rattle.std.specs.Prelude.{◌≡◌, ℕ, None, Some, true, false, [], ◌∷◌};
 ghost use Rattle.tp_model.specs.declared.refusal.Refusal.TheVariants.{NoSession};
-ghost use Rattle.nbd_session.specs.Session.{has_ended, state};
+ghost use Rattle.nbd_session.specs.Session.{has_ended, is_at_work, state};
 ghost use Rattle.nbd_session.specs.Turns.{Sessions};
 ghost use Rattle.nbd_session.specs.Clauses.{IsCalm, IsReady};
 ghost use Rattle.nbd_wire.specs.Replies.{greeting};
 ghost use Rattle.tp_hub.specs.Runs.{Brings, Comes, Goes};
 ghost use Rattle.tp_hub.specs.Told.{Grows, HasRoom, IsFull, Refuses, Says};
-ghost use Rattle.tp_hub.specs.Places.{HearsSo, IsOpenSlot, IsReadySlot, KeepsServing, SlotTakes, put};
+ghost use Rattle.tp_hub.specs.Places.{HearsAnywhere, HearsSo, IsOpenSlot, IsReadySlot, IsRest, KeepsServing, SlotTakes, put};
 ghost use Rattle.tp_hub.specs.Serving.{LeaveTo, shown};
 
 use crate::answers::{Answers, Mark};
-use nbd_session::{Phase, Session};
+use nbd_session::{Phase, Profile, Session};
 use std::alloc::Global;
 use tp_model::{Refusal, Volumes};
 
@@ -44,19 +44,39 @@ pub enum Heard {
     Over,
     /// There was no memory behind so many bytes.
     Stopped(usize),
+    /// A long request ended so many bytes, and its parts are left.
+    Parted(usize),
 }
 
-/// A session hears a piece. Room is made before each step.
+/// A session makes the parts that are left of a request, if there are any. None of them but the last says something, so room for one longest answer will do.
+fn work_off<V: Volumes>(session: &mut Session, pool: &mut V, number: u8, out: &mut Answers)
+    requires ready { IsReady session.old.phase (V.view.outline pool.old) (V.view.more pool.old) }
+    requires goes_on { has_ended session.old.phase ≡ false }
+    requires room { is_at_work session.old.phase ≡ true → HasRoom out.old }
+    ensures hears { HearsAnywhere V.view number session.old pool.old [] out.old out.new session.new pool.new }
+    ensures keeps { KeepsServing V.view number (Some session.old) pool.old (Some session.new) pool.new }
+    ensures ready { IsReady session.new.phase (V.view.outline pool.new) (V.view.more pool.new) }
+    ensures goes_on { has_ended session.new.phase ≡ false }
+    ensures idle { is_at_work session.new.phase ≡ false }
+{
+    while session.is_at_work() {
+        out.hear(session, pool, number, &[]);
+    }
+}
+
+/// A session hears a piece, and makes the parts of its long requests, unless it is to stop there. Room is made before each step that takes something.
 fn hear<V: Volumes>(
     session: &mut Session,
     pool: &mut V,
     number: u8,
     piece: &[u8],
+    is_parted: bool,
     out: &mut Answers,
 ) -> Heard
     requires ready { IsReady session.old.phase (V.view.outline pool.old) (V.view.more pool.old) }
     requires open { has_ended session.old.phase ≡ false }
-    ensures { HearsSo V.view number session.old pool.old piece.now out.old out.new session.new pool.new result }
+    requires idle { is_at_work session.old.phase ≡ false }
+    ensures { HearsSo V.view number is_parted session.old pool.old piece.now out.old out.new session.new pool.new result }
 {
     let _ = session.phase();
     let mut at = 0;
@@ -69,6 +89,10 @@ fn hear<V: Volumes>(
             return Heard::Over;
         }
         at += step.taken;
+        if is_parted && session.is_at_work() {
+            return Heard::Parted(at);
+        }
+        work_off(session, pool, number, out);
     }
     Heard::Whole
 }
@@ -105,10 +129,11 @@ pub fn open_slot<V: Volumes>(
     slot: &mut Option<Session>,
     alloc: Global,
     number: u8,
+    profile: Profile,
     out: &mut Answers,
 ) -> Took
     requires { IsOpenSlot slot.old }
-    ensures { (pool : V) → SlotTakes V.view (Comes number) slot.old pool result.whole result.bytes out.old out.new slot.new pool }
+    ensures { (pool : V) → SlotTakes V.view (Comes number profile) slot.old pool result.whole result.bytes out.old out.new slot.new pool }
 {
     if out.make_room().is_err() {
         return NOTHING;
@@ -120,7 +145,7 @@ pub fn open_slot<V: Volumes>(
             });
             WHOLE
         }
-        None => match Session::open(alloc) {
+        None => match Session::open(alloc, profile) {
             Err(_) => NOTHING,
             Ok(mut session) => {
                 greet(&mut session, number, out);
@@ -129,6 +154,32 @@ pub fn open_slot<V: Volumes>(
             }
         },
     }
+}
+
+/// A session that has parts of a request left makes them where no text comes, and else refuses that: it is asked to make them first.
+fn go_on<V: Volumes>(
+    session: &mut Session,
+    pool: &mut V,
+    number: u8,
+    piece: &[u8],
+    out: &mut Answers,
+) -> Took
+    requires ready { IsReady session.old.phase (V.view.outline pool.old) (V.view.more pool.old) }
+    requires open { has_ended session.old.phase ≡ false }
+    requires work { is_at_work session.old.phase ≡ true }
+    ensures { SlotTakes V.view (Brings number piece.now) (Some session.old) pool.old result.whole result.bytes out.old out.new (Some session.new) pool.new }
+{
+    if out.make_room().is_err() {
+        return NOTHING;
+    }
+    if !piece.is_empty() {
+        out.note(Mark::Refused {
+            reason: Refusal::SessionInUse,
+        });
+        return WHOLE;
+    }
+    work_off(session, pool, number, out);
+    WHOLE
 }
 
 /// A session's client sends a piece.
@@ -144,12 +195,82 @@ pub fn hear_slot<V: Volumes>(
 {
     match slot {
         None => refuse(out),
-        Some(session) => match hear(session, pool, number, piece, out) {
+        Some(session) if session.is_at_work() => go_on(session, pool, number, piece, out),
+        Some(session) => match hear(session, pool, number, piece, false, out) {
             Heard::Whole => WHOLE,
             Heard::Stopped(bytes) => Took {
                 whole: false,
                 bytes,
             },
+            Heard::Parted(_) => unreachable!(),
+            Heard::Over => {
+                *slot = None;
+                WHOLE
+            }
+        },
+    }
+}
+
+/// A session that has parts of a request left makes one where no text comes, and else refuses that.
+fn make_part<V: Volumes>(
+    session: &mut Session,
+    pool: &mut V,
+    number: u8,
+    piece: &[u8],
+    out: &mut Answers,
+) -> Took
+    requires ready { IsReady session.old.phase (V.view.outline pool.old) (V.view.more pool.old) }
+    requires open { has_ended session.old.phase ≡ false }
+    requires work { is_at_work session.old.phase ≡ true }
+    ensures { SlotTakes V.view (Brings number piece.now) (Some session.old) pool.old result.whole result.bytes out.old out.new (Some session.new) pool.new }
+{
+    if out.make_room().is_err() {
+        return NOTHING;
+    }
+    if !piece.is_empty() {
+        out.note(Mark::Refused {
+            reason: Refusal::SessionInUse,
+        });
+        return WHOLE;
+    }
+    out.hear(session, pool, number, piece);
+    WHOLE
+}
+
+/// So many bytes of a piece, or all of it.
+fn up_to(bytes: usize, len: usize) -> Took
+    ensures { IsRest result.whole result.bytes bytes len }
+{
+    if bytes == len {
+        return WHOLE;
+    }
+    Took {
+        whole: false,
+        bytes,
+    }
+}
+
+/// The same up to where a long request begins, or one part of one.
+pub fn part_slot<V: Volumes>(
+    slot: &mut Option<Session>,
+    pool: &mut V,
+    number: u8,
+    piece: &[u8],
+    out: &mut Answers,
+) -> Took
+    requires { IsReadySlot slot.old (V.view.outline pool.old) (V.view.more pool.old) }
+    ensures { SlotTakes V.view (Brings number piece.now) slot.old pool.old result.whole result.bytes out.old out.new slot.new pool.new }
+{
+    match slot {
+        None => refuse(out),
+        Some(session) if session.is_at_work() => make_part(session, pool, number, piece, out),
+        Some(session) => match hear(session, pool, number, piece, true, out) {
+            Heard::Whole => WHOLE,
+            Heard::Stopped(bytes) => Took {
+                whole: false,
+                bytes,
+            },
+            Heard::Parted(bytes) => up_to(bytes, piece.len()),
             Heard::Over => {
                 *slot = None;
                 WHOLE

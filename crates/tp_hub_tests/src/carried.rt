@@ -4,6 +4,7 @@ ghost use Rattle.std.specs.Prelude.{◌≡◌, ◌<◌, IfOk, length};
 use crate::script::{KEPT, Script};
 use crate::talk::{ALL_GIVEN, ANSWERED, GONE, GREETED, HEARD, READS_IN_A_PIECE, one_talk, reads};
 use crate::watched::Watched;
+use nbd_session::Profile;
 use std::alloc::Global;
 use std::test::Fail;
 use tp_hub::{Answers, Carried, Event, Hub, HubDesk, MOST_BYTES, carry, serve};
@@ -32,7 +33,7 @@ fn carry_alone(alloc: Global, client: &mut Script<'_>) -> Result<(Carried, usize
         alloc,
         hub: &mut hub,
     };
-    let ending = carry(&mut desk, 5, client, &mut buffer, &mut out);
+    let ending = carry(&mut desk, 5, Profile::Strict, client, &mut buffer, &mut out);
     let HubDesk { alloc: _, hub: _ } = desk;
     Ok((ending, hub.into_pool().held()))
 }
@@ -112,7 +113,14 @@ fn carry_watched(alloc: Global, client: &mut Script<'_>) -> Result<(Carried, u64
         asks: 0,
         most: 0,
     };
-    let ending = carry(&mut watched, 5, client, &mut buffer, &mut out);
+    let ending = carry(
+        &mut watched,
+        5,
+        Profile::Strict,
+        client,
+        &mut buffer,
+        &mut out,
+    );
     let Watched { desk, asks, most } = watched;
     let HubDesk { alloc: _, hub: _ } = desk;
     let _ = hub.into_pool();
@@ -147,10 +155,17 @@ fn serve_beside(
 {
     let mut hub = Hub::new(blank_shelf(alloc)?);
     let mut out = Answers::new(alloc);
-    let ran = hub.run(alloc, &[Event::Open(0), Event::Open(2)], &mut out);
+    let ran = hub.run(
+        alloc,
+        &[
+            Event::Open(0, Profile::Strict),
+            Event::Open(2, Profile::Strict),
+        ],
+        &mut out,
+    );
     out.clear();
     let free = hub.free_number();
-    let (hub, ending) = serve(alloc, hub, client, buffer, &mut out);
+    let (hub, ending) = serve(alloc, hub, Profile::Strict, client, buffer, &mut out);
     let told = (ran.events, free, ending, client.taken, hub.free_number());
     Ok((told, hub.into_pool().held()))
 }

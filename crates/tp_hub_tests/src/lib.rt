@@ -8,6 +8,8 @@ mod hubs;
 #[cfg(test)]
 mod lines;
 #[cfg(test)]
+mod long;
+#[cfg(test)]
 mod messages;
 #[cfg(test)]
 mod resumed;

@@ -2,6 +2,7 @@
 
 use crate::hubs::blank_hub;
 use crate::talk::{DONE, GO_0, GONE, GREETED, HALF, WRITE, refused, sent};
+use nbd_session::Profile;
 use std::alloc::Global;
 use std::test::Fail;
 use tp_hub::{Answers, Event, Hub, Mark, Ran};
@@ -20,7 +21,7 @@ fn run_between<V: Managed>(alloc: Global, hub: &mut Hub<V>, out: &mut Answers) -
     hub.run(
         alloc,
         &[
-            Event::Open(1),
+            Event::Open(1, Profile::Strict),
             Event::Message(b"set_transaction_id 0 7"),
             Event::Bytes(1, GO_0),
             Event::Status,

@@ -2,6 +2,7 @@
 
 use crate::hubs::blank_hub;
 use crate::talk::{ALL_GIVEN, GIVEN, GO_0, GONE, GREETED, READ, numbered_reads, repeated};
+use nbd_session::Profile;
 use std::alloc::{AllocError, Global};
 use std::test::Fail;
 use tp_hub::{Answers, Event, Hub, MOST_BYTES, Mark};
@@ -83,7 +84,11 @@ fn run_on<V: Managed>(alloc: Global, hub: &mut Hub<V>, text: &[u8], out: &mut An
 /// How many bytes answer GO of session 0, and what the runs of a piece behind it come to.
 fn came_behind_go(alloc: Global, mut hub: Hub<Shelf>, text: &[u8]) -> (usize, Came) {
     let mut out = Answers::new(alloc);
-    hub.run(alloc, &[Event::Open(0), Event::Bytes(0, GO_0)], &mut out);
+    hub.run(
+        alloc,
+        &[Event::Open(0, Profile::Strict), Event::Bytes(0, GO_0)],
+        &mut out,
+    );
     let answered = out.bytes().len();
     let came = run_on(alloc, &mut hub, text, &mut out);
     let _ = hub.into_pool();
@@ -124,8 +129,8 @@ fn run_again<V: Managed>(
         let rest = text.get(at..).unwrap_or(&[]);
         let all = [
             Event::Message(b"set_transaction_id 0 1"),
-            Event::Open(0),
-            Event::Open(1),
+            Event::Open(0, Profile::Strict),
+            Event::Open(1, Profile::Strict),
             Event::Bytes(0, rest),
             Event::Hangup(1),
             Event::Message(b"set_transaction_id 0 2"),

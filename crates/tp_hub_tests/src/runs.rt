@@ -6,6 +6,7 @@ use crate::talk::{
     DONE, GIVEN, GO_0, GO_1, GONE, GREETED, HALF, OTHER_HALF, READ, WRITE, reads_and_a_write,
     refused, sent,
 };
+use nbd_session::Profile;
 use std::alloc::Global;
 use std::test::Fail;
 use tp_hub::{Answers, Event, Hub, Mark, Ran};
@@ -18,8 +19,8 @@ fn write_by_turns<V: Managed>(alloc: Global, hub: &mut Hub<V>, out: &mut Answers
     hub.run(
         alloc,
         &[
-            Event::Open(1),
-            Event::Open(2),
+            Event::Open(1, Profile::Strict),
+            Event::Open(2, Profile::Strict),
             Event::Bytes(1, GO_0),
             Event::Bytes(2, GO_1),
             Event::Bytes(1, WRITE),
@@ -111,7 +112,7 @@ fn use_numbers<V: Managed>(alloc: Global, hub: &mut Hub<V>, out: &mut Answers) -
     hub.run(
         alloc,
         &[
-            Event::Open(1),
+            Event::Open(1, Profile::Strict),
             Event::Hangup(1),
             Event::Bytes(1, HALF),
             Event::Hangup(3),
@@ -183,7 +184,7 @@ fn go_and_read<V: Managed>(alloc: Global, hub: &mut Hub<V>, number: u8, out: &mu
 fn open_one<V: Managed>(alloc: Global, hub: &mut Hub<V>, number: u8, out: &mut Answers) -> Ran
     requires { number < 64 }
 {
-    hub.run(alloc, &[Event::Open(number)], out)
+    hub.run(alloc, &[Event::Open(number, Profile::Strict)], out)
 }
 
 /// Opens 64 sessions: how many of them took one event and no bytes.
@@ -234,8 +235,8 @@ fn write_one_block<V: Managed>(alloc: Global, hub: &mut Hub<V>, out: &mut Answer
     hub.run(
         alloc,
         &[
-            Event::Open(1),
-            Event::Open(2),
+            Event::Open(1, Profile::Strict),
+            Event::Open(2, Profile::Strict),
             Event::Bytes(1, GO_0),
             Event::Bytes(2, GO_0),
             Event::Bytes(1, WRITE),

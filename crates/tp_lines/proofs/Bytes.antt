@@ -1,7 +1,6 @@
 -- What is read and written, one after another.
-use Rattle.std.proofs.Common.{◌++◌, ◌+◌, ◌≤◌, ℕ, Bool, true, false, List, [], length, take, drop, Option, Some, None, refl, sym, ap, ◌∙◌, append_assoc, arith}
-use Rattle.std.proofs.lemmas.List.{append-nil, take_all}
-use Rattle.std.proofs.Math.Seq.{take-add, take-append-add}
+use Rattle.std.proofs.Common.{◌++◌, ℕ, List, [], Option, Some, None, refl, sym, ap, ◌∙◌, append_assoc}
+use Rattle.std.proofs.lemmas.List.{append-nil}
 use Rattle.std.specs.Io.KnownBytes.{Keeps, Appends, Consumes}
 
 pub appends_then : (a b c : Option (List ℕ)) (x y : List ℕ) → Appends a b x → Appends b c y → Appends a c (x ++ y)

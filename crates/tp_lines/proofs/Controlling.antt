@@ -1,7 +1,6 @@
 -- Control lines answered one after another.
 use Rattle.std.proofs.Common.{◌≡◌, ℕ, zero, suc, ◌+◌, ◌-◌, ◌^◌, ◌<◌, ◌≤◌, Bool, true, false, List, [], ◌∷◌, ◌++◌, length, get_or, Option, Some, None, refl, sym, ap, subst, ◌∙◌, arith, inl, inr}
 use Rattle.std.specs.Prelude.{◌==◌, codes, Result, Ok, Err}
-use Rattle.std.specs.Fmt.{decimal}
 use Rattle.std.proofs.lemmas.Bool.{ne_eqb}
 use Rattle.tp_hub.specs.Told.{Answer, Told, HasRoom}
 use Rattle.tp_hub.specs.Runs.{Incoming, Comes, Brings, Goes, Orders, AsksLine, AsksLineOf, taken_of}
@@ -9,15 +8,13 @@ use Rattle.tp_hub.specs.Desks.{Exchange, IsAsked, IsBegun, IsCut}
 use Rattle.tp_hub.specs.Carrying.{IsSaid}
 use Rattle.tp_hub.specs.Streams.{Gave, GaveAgain, GaveEnd, GaveNone, Makes, StreamCall}
 use Rattle.tp_lines.specs.Controls.{AnswersLine, AnswersOrEnds, AsksFor, AttendsLines, IsControl, drops_last, ended_by}
-use Rattle.tp_lines.specs.Lines.{IsLine, IsNoLine, spelling}
-use Rattle.tp_lines.specs.ReadLines.{AreDone, AreRead, IsReadOnce, Leads, ReadEnd, ReadFail, ReadStop, answered, left_from, lines_from, one_more}
+use Rattle.tp_lines.specs.Lines.{IsNoLine}
+use Rattle.tp_lines.specs.ReadLines.{AreDone, AreRead, IsReadOnce, Leads, ReadEnd, ReadFail, ReadStop, left_from, lines_from, one_more}
 use Rattle.tp_lines.specs.Texts.{text_in}
-use Rattle.tp_lines.specs.declared.control.LinesEnd.{LinesEnd}
-use Rattle.tp_lines.specs.declared.control.LinesEnd.TheVariants.{NoMemory, EndOfInput, InputFailed, OutputFailed}
+use Rattle.tp_lines.specs.declared.control.LinesEnd.TheVariants.{EndOfInput}
 use Rattle.tp_lines.specs.declared.control.Lost.{Lost}
 use Rattle.tp_lines.specs.declared.control.Lost.TheVariants.{Input, Output}
-use Rattle.tp_lines.specs.declared.line.ScriptLine.{ScriptLine}
-use Rattle.tp_lines.specs.declared.line.ScriptLine.TheVariants.{Nothing, Open, Bytes, Hangup, Message, Status, Thin}
+use Rattle.tp_lines.specs.declared.line.ScriptLine.TheVariants.{Status, Thin}
 use Rattle.tp_lines.proofs.Doing.{SoFar, byte_ends, byte_held, leads_none, so_far_ends, so_far_more, so_far_tired, text_join, text_none, text_stops}
 use Rattle.tp_lines.proofs.Playing.{one_text}
 
@@ -50,7 +47,7 @@ asks_message text rest is = headed text (codes "message " ++ rest) 109 is refl (
 
 -- an event of a control line is taken whole
 whole_of : (text : List ℕ) (event : Incoming) (events bytes : ℕ) → IsControl text event → IsCut event events bytes → IsBegun event events bytes → taken_of (event ∷ []) events bytes ≡ event ∷ []
-whole_of text (Comes n) events bytes is cut begun = absurd is
+whole_of text (Comes n a) events bytes is cut begun = absurd is
 whole_of text (Brings n piece) events bytes is cut begun = absurd is
 whole_of text (Goes n) events bytes is cut begun = absurd is
 whole_of text (Orders line) zero bytes is cut begun = absurd (omega (arith, begun))

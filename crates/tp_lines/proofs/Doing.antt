@@ -1,13 +1,13 @@
 -- Lines that are read and done, one after another.
-use Rattle.std.proofs.Common.{◌≡◌, ℕ, ◌+◌, ◌-◌, ◌^◌, ◌<◌, ◌≤◌, Bool, true, false, List, [], ◌∷◌, ◌++◌, length, take, drop, get_or, Option, Some, None, refl, sym, ap, subst, ◌∙◌, arith, inl, inr, append_assoc}
+use Rattle.std.proofs.Common.{◌≡◌, ℕ, ◌+◌, ◌-◌, ◌^◌, ◌<◌, ◌≤◌, Bool, true, false, List, [], ◌∷◌, ◌++◌, length, take, drop, get_or, Some, None, refl, sym, ap, subst, ◌∙◌, inl, inr, append_assoc}
 use Rattle.std.specs.Prelude.{◌==◌, if◌then◌else◌, OnErr, OnOk, Result, Ok, Err}
 use Rattle.std.proofs.lemmas.Bool.{ne_eqb}
 use Rattle.std.proofs.lemmas.List.{append-nil, drop_more, take-append-drop}
 use Rattle.tp_hub.specs.Told.{Answer}
 use Rattle.tp_hub.specs.Runs.{Incoming}
 use Rattle.tp_hub.specs.Desks.{AreAsked, Exchange}
-use Rattle.tp_hub.specs.Streams.{Gave, GaveAgain, GaveEnd, GaveNone, StreamCall}
-use Rattle.tp_lines.specs.ReadLines.{AreDone, AreRead, IsReadOnce, Leads, ReadAgain, ReadEnd, ReadFail, ReadOn, ReadStop, ReadTire, left_from, lines_from, longer, one_more}
+use Rattle.tp_hub.specs.Streams.{GaveAgain, StreamCall}
+use Rattle.tp_lines.specs.ReadLines.{AreDone, AreRead, IsReadOnce, Leads, ReadAgain, ReadOn, ReadTire, left_from, lines_from, longer, one_more}
 
 -- ---- asks and calls
 

@@ -3,6 +3,7 @@ use Rattle.std.proofs.Common.{◌≡◌, ℕ, zero, suc, ◌+◌, ◌<◌, ◌�
 use Rattle.std.specs.Prelude.{◌⊎◌, not, OnErr, OnOk, Result, Ok, Err}
 use Rattle.std.proofs.lemmas.List.{append-nil, drop-drop, drop_all, length-drop, length-take-le, take-append-drop}
 use Rattle.tp_hub.specs.Told.{Answer, HasRoom, Told}
+use Rattle.nbd_session.specs.declared.phase.Profile.{Profile}
 use Rattle.tp_hub.specs.Runs.{Incoming, Comes, Brings, Goes, Orders, AsksLine, AsksLineOf, taken_of}
 use Rattle.tp_hub.specs.Desks.{Exchange, IsAsked, IsBegun, IsCut}
 use Rattle.tp_hub.specs.Carrying.{IsSaid}
@@ -10,9 +11,9 @@ use Rattle.tp_hub.specs.Streams.{Gave, GaveAgain, GaveEnd, GaveNone, Makes, Stre
 use Rattle.tp_lines.specs.Plays.{Asks, GivesAll, IsWhole, PlaysLine, PlaysScript, Takes, ends_last}
 use Rattle.tp_lines.specs.ReadLines.{AreDone, AreRead, IsReadOnce, Leads, ReadEnd, ReadFail, ReadStop, left_from, lines_from, one_more}
 use Rattle.tp_lines.specs.declared.play.Stopped.{Stopped}
-use Rattle.tp_lines.specs.declared.play.Stopped.TheVariants.{BadLine, Memory, Output, Script}
+use Rattle.tp_lines.specs.declared.play.Stopped.TheVariants.{Memory, Output, Script}
 use Rattle.tp_lines.specs.Texts.{text_in}
-use Rattle.tp_lines.proofs.Doing.{SoFar, byte_ends, leads_join, done_one, so_far_ends, so_far_more}
+use Rattle.tp_lines.proofs.Doing.{SoFar, leads_join, done_one, so_far_ends, so_far_more}
 
 -- ---- one ask
 
@@ -22,7 +23,7 @@ one_text answers = ap text_in (append-nil answers)
 -- what was taken of an event that is no piece
 taken_whole : (event : Incoming) (events bytes : ℕ) → IsWhole event → IsCut event events bytes
     → ((0 < events) × (taken_of (event ∷ []) events bytes ≡ event ∷ [])) ⊎ ((events ≡ 0) × (bytes ≡ 0) × (taken_of (event ∷ []) events bytes ≡ []))
-taken_whole (Comes n) zero bytes whole cut = inr (refl, cut, refl)
+taken_whole (Comes n a) zero bytes whole cut = inr (refl, cut, refl)
 taken_whole (Brings n piece) zero bytes whole cut = absurd whole
 taken_whole (Goes n) zero bytes whole cut = inr (refl, cut, refl)
 taken_whole (Orders line) zero bytes whole cut = inr (refl, cut, refl)
@@ -32,8 +33,8 @@ taken_whole event (suc zero) bytes whole cut = inl (omega arith, refl)
 taken_whole event (suc (suc n)) bytes whole cut = let none = cut.0 in absurd (omega (arith, none))
 
 -- Only a client that comes may not be taken.
-comes_so : (event : Incoming) (bytes : ℕ) → IsWhole event → IsBegun event 0 bytes → (n : ℕ) × (event ≡ Comes n)
-comes_so (Comes n) bytes whole begun = (n, refl)
+comes_so : (event : Incoming) (bytes : ℕ) → IsWhole event → IsBegun event 0 bytes → (n : ℕ) × (profile : Profile) × (event ≡ Comes n profile)
+comes_so (Comes n a) bytes whole begun = (n, a, refl)
 comes_so (Brings n piece) bytes whole begun = absurd whole
 comes_so (Goes n) bytes whole begun = absurd (omega (arith, begun))
 comes_so (Orders line) bytes whole begun = absurd (omega (arith, begun))

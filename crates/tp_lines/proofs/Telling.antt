@@ -9,7 +9,7 @@ use Rattle.tp_hub.specs.declared.answers.Mark.{Mark}
 use Rattle.tp_hub.specs.declared.answers.Mark.TheVariants as marks
 use Rattle.tp_hub.specs.Told.{Accepts, Answer, Closes, Lines, Refuses, Says, len_of, told, total}
 use Rattle.tp_hub.specs.Carrying.{IsSaid}
-use Rattle.tp_hub.specs.Streams.{Flushes, Gave, GaveAgain, GaveEnd, GaveNone, IsPut, IsSent, Makes, StreamCall, Took, TookAgain, TookNone, WritesTo}
+use Rattle.tp_hub.specs.Streams.{Flushes, Gave, GaveAgain, GaveEnd, GaveNone, IsSent, Makes, StreamCall, Took, TookAgain, TookNone, WritesTo}
 use Rattle.tp_hub.proofs.Streaming.{sent_whole}
 use Rattle.tp_lines.specs.Lines.{hex_digit}
 use Rattle.tp_lines.specs.Texts.{answer_of, hexed, newline, text_in, text_of}

@@ -14,7 +14,7 @@ use Rattle.tp_lines.specs.Texts.{text_in}
 
 -- the event that a line is: a line that asks for no status line is a message to the pool
 abbrev pub IsControl : List ℕ → Incoming → Type 0
-IsControl text (Comes n) = ⊥
+IsControl text (Comes n profile) = ⊥
 IsControl text (Brings n piece) = ⊥
 IsControl text (Goes n) = ⊥
 IsControl text (Orders line) = (line ≡ text) × (text ≡ codes "status" → ⊥) × ((id : ℕ) → id < 16777216 → text ≡ codes "thin " ++ decimal id → ⊥)

@@ -1,6 +1,8 @@
 -- Trusted reading: a script over a desk and a stream: its lines, the events that they are, and what is written (own).
 use Rattle.std.specs.Prelude.{◌≡◌, ℕ, ◌<◌, ◌⊎◌, Bool, true, false, List, [], ◌∷◌, ◌++◌, length, MatchBool, Result, Ok, Err}
 use Rattle.tp_hub.specs.Told.{Answer}
+use Rattle.nbd_session.specs.declared.phase.Profile.{Profile}
+use Rattle.nbd_session.specs.declared.phase.Profile.TheVariants.{Strict}
 use Rattle.tp_hub.specs.Runs.{Incoming, Comes, Brings, Goes, Orders, AsksLine, AsksLineOf, taken_of}
 use Rattle.tp_hub.specs.Desks.{Exchange, IsBegun, IsCut}
 use Rattle.tp_hub.specs.Streams.{StreamCall}
@@ -26,13 +28,13 @@ GivesAll n piece (x ∷ xs) calls result = (front : List ℕ) × (behind : List 
 abbrev pub Takes : Incoming → List Exchange → List StreamCall → Result (Unit {0}) Stopped → Type 0
 Takes event asks calls (Ok done) = (x : Exchange) × (asks ≡ x ∷ []) × (x.took ≡ event ∷ []) × IsSaid (text_in x.answers) calls true
 Takes event asks calls (Err BadLine) = ⊥
-Takes event asks calls (Err Memory) = (x : Exchange) × (asks ≡ x ∷ []) × (x.took ≡ []) × (x.answers ≡ []) × (calls ≡ []) × ((n : ℕ) × (event ≡ Comes n))
+Takes event asks calls (Err Memory) = (x : Exchange) × (asks ≡ x ∷ []) × (x.took ≡ []) × (x.answers ≡ []) × (calls ≡ []) × ((n : ℕ) × (profile : Profile) × (event ≡ Comes n profile))
 Takes event asks calls (Err Output) = (x : Exchange) × (asks ≡ x ∷ []) × (x.took ≡ event ∷ []) × IsSaid (text_in x.answers) calls false
 Takes event asks calls (Err Script) = ⊥
 
 abbrev pub Does : ScriptLine → List Exchange → List StreamCall → Result (Unit {0}) Stopped → Type 0
 Does Nothing asks calls result = (asks ≡ []) × (calls ≡ []) × (result ≡ Ok tt)
-Does (Open n) asks calls result = Takes (Comes n) asks calls result
+Does (Open n) asks calls result = Takes (Comes n Strict) asks calls result
 Does (Bytes n digits) asks calls result = GivesAll n (bytes_of digits.now) asks calls result
 Does (Hangup n) asks calls result = Takes (Goes n) asks calls result
 Does (Message text) asks calls result = Takes (Orders text.now) asks calls result

@@ -11,6 +11,7 @@ use crate::held::{HeldLine, zeroes};
 use crate::hex::unhex;
 use crate::line::{ScriptLine, read_line};
 use crate::text::tell;
+use nbd_session::Profile;
 use std::alloc::{AllocError, Global};
 use tp_hub::{Answers, Desk, Event, Ran, Received, Stream};
 
@@ -155,7 +156,12 @@ fn do_line<D: Desk, S: Stream>(
 {
     match line {
         ScriptLine::Nothing => Ok(()),
-        ScriptLine::Open(number) => ask_event(desk, Event::Open(number), out, stream),
+        ScriptLine::Open(number) => ask_event(
+            desk,
+            Event::Open(number, Profile::Strict),
+            out,
+            stream,
+        ),
         ScriptLine::Bytes(number, digits) => {
             let len = unhex(digits, bytes);
             ask_piece(desk, number, &bytes[..len], out, stream)

@@ -5,6 +5,7 @@ use Rattle.tp_model.specs.declared.refusal.Refusal.TheVariants.{Fault, Memory, S
 use Rattle.tp_model.specs.Disk.{DiskState}
 use Rattle.tp_hub.specs.Told.{Told}
 use Rattle.tp_hub.specs.Desks.{Exchange}
+use Rattle.nbd_session.specs.declared.phase.Profile.TheVariants.{Strict}
 use Rattle.tp_hub.specs.Carrying.{IsCarried}
 use Rattle.tp_hub.specs.Streams.{Makes, StreamCall}
 use Rattle.tp_hub.specs.declared.client.Carried.{Carried}
@@ -40,7 +41,7 @@ told_behind (Err reason) told = Err reason
 -- There was no memory for what is read, and nothing was asked, read or written; or the client of the stream was carried by a hub as its session 0.
 abbrev pub IsFed : List Exchange → List StreamCall → List StreamCall → Carried → Type 0
 IsFed asks calls calls' ending =
-    ((asks ≡ []) × (calls' ≡ calls) × (ending ≡ NoMemory)) ⊎ ((out : Told) × Makes calls calls' (λ did. IsCarried 0 out asks did ending))
+    ((asks ≡ []) × (calls' ≡ calls) × (ending ≡ NoMemory)) ⊎ ((out : Told) × Makes calls calls' (λ did. IsCarried 0 Strict out asks did ending))
 
 -- The pool of a disk was opened, one client was served by a hub of its own over it, and it was closed; or it was not opened, and nothing was read or written.
 abbrev pub FeedsOn : List StreamCall → List StreamCall → Result (Unit {0}) Refusal → DiskState → DiskState → Type 0

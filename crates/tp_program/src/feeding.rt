@@ -15,6 +15,7 @@ use crate::failure::{Cause, Failure};
 use crate::fresh::fresh_pool;
 use crate::opening::open_pool;
 use crate::table::Table;
+use nbd_session::Profile;
 use std::alloc::{AllocError, Global};
 use tp_cache::ReadCache;
 use tp_disk::{Disk, TellsTrouble};
@@ -44,7 +45,14 @@ fn feed_hub<V: Managed, S: Stream>(alloc: Global, hub: Hub<V>, stream: &mut S) -
     };
     let mut out = Answers::new(alloc);
     let mut table = Table { alloc, hub };
-    let ending = carry(&mut table, 0, stream, &mut buffer, &mut out);
+    let ending = carry(
+        &mut table,
+        0,
+        Profile::Strict,
+        stream,
+        &mut buffer,
+        &mut out,
+    );
     let Table { alloc: _, hub } = table;
     (hub, ending)
 }

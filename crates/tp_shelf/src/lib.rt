@@ -5,4 +5,4 @@ mod failing;
 mod shelf;
 
 pub use failing::{FailingShelf, failing_shelf};
-pub use shelf::{Shelf, VOLUME, blank_shelf, shelf_of_readers};
+pub use shelf::{Shelf, blank_shelf, shelf_of_readers, wide_shelf};

@@ -13,8 +13,13 @@ use tp_hub::{Log, Made};
 use tp_model::{DevId, Geometry, Mode, Refusal, SharedVolumes, Volumes};
 use tp_msg::{LineBuffer, Managed, PoolStatus, VolumeStatus, print_status, print_thin};
 
-/// The bytes of a volume: 16 blocks of 128 sectors.
-pub const VOLUME: usize = 1048576;
+/// The bytes of a block of 128 sectors.
+const BLOCK: usize = 65_536;
+
+/// The blocks of a volume, and of one that takes long requests.
+const BLOCKS: u32 = 16;
+
+const WIDE_BLOCKS: u32 = 64;
 
 /// How many shared reads and syncs have come, for how many each waits, and whether one waited in vain.
 #[derive(Drop)]
@@ -64,6 +69,8 @@ pub struct Shelf {
     held_root: u32,
     holders: Holders,
     bytes: Vec<u8>,
+    /// How many trims and zeroings were made.
+    cleared: u64,
 }
 
 /// So many zero bytes.
@@ -88,6 +95,7 @@ impl Shelf {
             held_root: 0,
             holders: ArrayVec::new(),
             bytes,
+            cleared: 0,
         }
     }
 
@@ -104,16 +112,29 @@ impl Shelf {
 
     /// The first byte of each volume.
     pub fn first_bytes(&self) -> (Option<u8>, Option<u8>) {
-        (self.bytes.first().copied(), self.bytes.get(VOLUME).copied())
+        let second = self.place(DevId::new(1), 0);
+        (self.bytes.first().copied(), self.bytes.get(second).copied())
+    }
+
+    /// How many trims and zeroings were made.
+    pub fn cleared(&self) -> u64 {
+        self.cleared
+    }
+
+    /// Where a sector of a volume stands.
+    fn place(&self, id: DevId, sector: u64) -> usize {
+        let from = usize::try_from(id.number())
+            .unwrap_or(usize::MAX)
+            .saturating_mul(volume_bytes(self.geometry.virtual_blocks()));
+        from.saturating_add(size(sector))
     }
 }
 
-/// Where a sector of a volume stands.
-fn place(id: DevId, sector: u64) -> usize {
-    let from = usize::try_from(id.number())
+/// The bytes of a volume of so many blocks.
+fn volume_bytes(blocks: u32) -> usize {
+    usize::try_from(blocks)
         .unwrap_or(usize::MAX)
-        .saturating_mul(VOLUME);
-    from.saturating_add(size(sector))
+        .saturating_mul(BLOCK)
 }
 
 /// The bytes of so many sectors.
@@ -163,16 +184,18 @@ impl Volumes for Shelf {
     }
 
     fn read(&mut self, id: DevId, sector: u64, out: &mut [u8]) -> Result<(), Refusal> {
-        copy_out(&self.bytes, place(id, sector), out);
+        copy_out(&self.bytes, self.place(id, sector), out);
         Ok(())
     }
 
     fn write(&mut self, id: DevId, sector: u64, bytes: &[u8], _fua: bool) -> Result<(), Refusal> {
-        copy_in(&mut self.bytes, place(id, sector), bytes);
+        let at = self.place(id, sector);
+        copy_in(&mut self.bytes, at, bytes);
         Ok(())
     }
 
     fn trim(&mut self, _id: DevId, _sector: u64, _count: u64, _fua: bool) -> Result<(), Refusal> {
+        self.cleared = self.cleared.saturating_add(1);
         Ok(())
     }
 
@@ -184,7 +207,9 @@ impl Volumes for Shelf {
         _no_hole: bool,
         _fua: bool,
     ) -> Result<(), Refusal> {
-        blank(&mut self.bytes, place(id, sector), size(count));
+        let at = self.place(id, sector);
+        blank(&mut self.bytes, at, size(count));
+        self.cleared = self.cleared.saturating_add(1);
         Ok(())
     }
 
@@ -227,7 +252,7 @@ impl Volumes for Shelf {
 impl SharedVolumes for Shelf {
     fn read_shared(&self, id: DevId, sector: u64, out: &mut [u8]) -> bool {
         self.company.join();
-        copy_out(&self.bytes, place(id, sector), out);
+        copy_out(&self.bytes, self.place(id, sector), out);
         true
     }
 
@@ -331,12 +356,26 @@ pub fn blank_shelf(alloc: Global) -> Result<Shelf, Refusal>
     shelf_of_readers(alloc, 0)
 }
 
+/// The same, of 4 MiB each.
+pub fn wide_shelf(alloc: Global) -> Result<Shelf, Refusal>
+    ensures { IfOk result (λ s. holds_of s.holders.items ≡ empty) }
+{
+    shelf_of(alloc, WIDE_BLOCKS, 0)
+}
+
 /// The same, whose shared reads each wait until so many have come.
 pub fn shelf_of_readers(alloc: Global, readers: u64) -> Result<Shelf, Refusal>
     ensures { IfOk result (λ s. holds_of s.holders.items ≡ empty) }
 {
-    let geometry = Geometry::new(128, 16, 2048, 4)?;
-    match zeroes(alloc, 2 * VOLUME) {
+    shelf_of(alloc, BLOCKS, readers)
+}
+
+/// Two volumes of so many blocks, whose shared reads each wait until so many have come.
+fn shelf_of(alloc: Global, blocks: u32, readers: u64) -> Result<Shelf, Refusal>
+    ensures { IfOk result (λ s. holds_of s.holders.items ≡ empty) }
+{
+    let geometry = Geometry::new(128, blocks, 2048, 4)?;
+    match zeroes(alloc, volume_bytes(blocks).saturating_mul(2)) {
         Ok(bytes) => Ok(Shelf::of(geometry, bytes, readers)),
         Err(_) => Err(Refusal::Memory),
     }

@@ -3,7 +3,7 @@ ghost use Rattle.std.specs.Prelude.{◌≡◌, ◌<◌, [], IfOk};
 ghost use Rattle.tp_model.specs.Pool.{hold_total};
 
 use crate::texts::{Part, joined};
-use nbd_session::{Session, feed};
+use nbd_session::{Profile, Session, feed};
 use std::alloc::{AllocError, Global};
 use std::test::Fail;
 use tp_disk::{Disk, Fault, MemDisk};
@@ -40,7 +40,7 @@ fn sent<V: Volumes>(alloc: Global, pool: &mut V, text: &[u8]) -> Result<Vec<u8>,
     requires { hold_total (V.view.outline pool.old).holds < 64 }
 {
     let mut out = Vec::new(alloc);
-    let mut session = Session::open(alloc)?;
+    let mut session = Session::open(alloc, Profile::Strict)?;
     let fed = feed(&mut session, pool, text, &mut out);
     if fed.is_err() {
         return Err(Refusal::Memory);

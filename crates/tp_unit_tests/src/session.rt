@@ -2,10 +2,10 @@ ghost use Rattle.std.specs.Prelude.{◌≡◌, ◌<◌, ◌≤◌, IfOk, length}
 ghost use Rattle.tp_model.specs.Pool.{hold_total};
 
 use crate::table::Table;
-use nbd_session::{MAX_ANSWER, Phase, Session, feed};
+use nbd_session::{MAX_ANSWER, Phase, Profile, Session, feed};
 use std::alloc::{AllocError, Global};
 use std::test::Fail;
-use tp_model::{Geometry, Refusal, Volumes};
+use tp_model::{DevId, Geometry, Refusal, Volumes};
 
 /// The client flags, and LIST.
 const LIST: &[u8] = b"\0\0\0\x03IHAVEOPT\0\0\0\x03\0\0\0\0";
@@ -27,12 +27,22 @@ IHAVEOPT\0\0\0\x02\0\0\0\0";
 /// The client flags, and ABORT with data.
 const ABORT: &[u8] = b"\0\0\0\x03IHAVEOPT\0\0\0\x02\0\0\0\x02ab";
 
+/// The client flags, and INFO of the empty name and of the volume 9.
+const NAMELESS: &[u8] = b"\0\0\0\x03\
+IHAVEOPT\0\0\0\x06\0\0\0\x06\0\0\0\0\0\0\
+IHAVEOPT\0\0\0\x06\0\0\0\x07\0\0\0\x019\0\0";
+
 /// What is sent for these bytes behind the greeting, until the client goes.
-fn sent<V: Volumes>(alloc: Global, pool: &mut V, text: &[u8]) -> Result<Vec<u8>, Refusal>
+fn sent<V: Volumes>(
+    alloc: Global,
+    pool: &mut V,
+    profile: Profile,
+    text: &[u8],
+) -> Result<Vec<u8>, Refusal>
     requires { hold_total (V.view.outline pool.old).holds < 64 }
 {
     let mut out = Vec::new(alloc);
-    let mut session = Session::open(alloc)?;
+    let mut session = Session::open(alloc, profile)?;
     let fed = feed(&mut session, pool, text, &mut out);
     if fed.is_err() {
         return Err(Refusal::Memory);
@@ -56,7 +66,19 @@ fn told_of(
         count,
         blocks,
     };
-    sent(alloc, &mut table, text)
+    sent(alloc, &mut table, Profile::Strict, text)
+}
+
+/// The same of two volumes from the id 9 on, of the pool's own size, to a session of this profile.
+fn offered(alloc: Global, profile: Profile, text: &[u8]) -> Result<Vec<u8>, Refusal> {
+    let geometry = Geometry::new(128, 16, 2048, 4)?;
+    let mut table = Table {
+        geometry,
+        first: 9,
+        count: 2,
+        blocks: Some(16),
+    };
+    sent(alloc, &mut table, profile, text)
 }
 
 /// The same of volumes of the pool's own size.
@@ -64,12 +86,17 @@ fn told(alloc: Global, first: u32, count: u32, text: &[u8]) -> Result<Vec<u8>, R
     told_of(alloc, first, count, Some(16), text)
 }
 
+/// Where a session stands of which nothing was read.
+const FRESH: Phase = Phase::Flags {
+    profile: Profile::Strict,
+};
+
 #[test]
 fn a_new_session_greets(rt: HostRuntime) -> Result<(), Fail> {
-    let mut session = Session::open(rt.alloc())?;
-    assert_eq!(rt; session.phase(), Phase::Flags);
+    let mut session = Session::open(rt.alloc(), Profile::Strict)?;
+    assert!(rt; session.phase() == FRESH);
     assert!(rt; session.greeting() == b"NBDMAGICIHAVEOPT\x00\x03".as_slice());
-    assert_eq!(rt; session.phase(), Phase::Flags);
+    assert!(rt; session.phase() == FRESH);
     Ok(())
 }
 
@@ -136,6 +163,49 @@ fn a_volume_is_the_least_from_its_own_id_on(rt: HostRuntime) -> Result<(), Fail>
     Ok(())
 }
 
+/// What INFO tells of the volume 9, in a read-only pool, to a session that is extended, and that it is unknown.
+const EXTENDED: &[u8] =
+    b"\0\x03\xe8\x89\x04\x55\x65\xa9\0\0\0\x06\0\0\0\x03\0\0\0\x0c\0\0\0\0\0\0\0\x10\0\0\x01\x6f\
+\0\x03\xe8\x89\x04\x55\x65\xa9\0\0\0\x06\0\0\0\x03\0\0\0\x0e\0\x03\0\0\x02\0\0\0\x10\0\0\x10\0\0\
+\0\x03\xe8\x89\x04\x55\x65\xa9\0\0\0\x06\0\0\0\x01\0\0\0\0";
+
+const UNKNOWN: &[u8] = b"\0\x03\xe8\x89\x04\x55\x65\xa9\0\0\0\x06\x80\0\0\x06\0\0\0\0";
+
+/// Whether a text is these two, one behind the other.
+fn is_both(text: &[u8], first: &[u8], second: &[u8]) -> bool {
+    text.starts_with(first) && text.get(first.len()..) == Some(second)
+}
+
+#[test]
+fn the_empty_name_is_that_of_the_default(rt: HostRuntime) -> Result<(), Fail> {
+    let profile = Profile::extended(Some(DevId::new(9)));
+    let sent = offered(rt.alloc(), profile, NAMELESS)?;
+    assert!(rt; is_both(&sent, EXTENDED, EXTENDED));
+    Ok(())
+}
+
+#[test]
+fn a_default_that_is_not_there_is_unknown(rt: HostRuntime) -> Result<(), Fail> {
+    let profile = Profile::extended(Some(DevId::new(8)));
+    let sent = offered(rt.alloc(), profile, NAMELESS)?;
+    assert!(rt; is_both(&sent, UNKNOWN, EXTENDED));
+    Ok(())
+}
+
+#[test]
+fn without_a_default_the_empty_name_is_unknown(rt: HostRuntime) -> Result<(), Fail> {
+    let sent = offered(rt.alloc(), Profile::extended(None), NAMELESS)?;
+    assert!(rt; is_both(&sent, UNKNOWN, EXTENDED));
+    Ok(())
+}
+
+#[test]
+fn a_strict_session_knows_no_default(rt: HostRuntime) -> Result<(), Fail> {
+    let sent = offered(rt.alloc(), Profile::Strict, NAMELESS)?;
+    assert!(rt; sent.starts_with(UNKNOWN) && sent.get(50..52) == Some(b"\0\x6f".as_slice()));
+    Ok(())
+}
+
 #[test]
 fn the_size_that_is_told_is_the_volumes_own(rt: HostRuntime) -> Result<(), Fail> {
     let sent = told_of(rt.alloc(), 9, 1, Some(33), INFO)?;
@@ -189,7 +259,7 @@ fn put<V: Volumes>(
     let Ok(mut out) = zeroes(alloc, room) else {
         return Err(Refusal::Memory);
     };
-    let mut session = Session::open(alloc)?;
+    let mut session = Session::open(alloc, Profile::Strict)?;
     let flags = session.step_into(pool, text, &mut out);
     let option = session.step_into(pool, &text[flags.taken..], &mut out);
     session.leave(pool);

@@ -7,7 +7,7 @@ ghost use Rattle.tp_users.specs.First.{Counted, CountedCall, FirstIsAnswered, Is
 ghost use Rattle.tp_users.specs.Users.{IsOutside};
 
 use crate::blank::blank_pool;
-use nbd_session::{Session, feed};
+use nbd_session::{Profile, Session, feed};
 use std::alloc::Global;
 use tp_disk::MemDisk;
 use tp_meta::Meta;
@@ -56,7 +56,7 @@ pub fn serve_first(
     ensures only { IfErr result (λ reason. IsOutside reason) }
 {
     let mut pool = blank_pool(alloc, DevId::new(0))?;
-    let mut session = Session::open(alloc)?;
+    let mut session = Session::open(alloc, Profile::Strict)?;
     first_session_is_answered();
     images_use_bounded_metadata::<Meta>();
     converse(&mut session, &mut pool, text, out)?;

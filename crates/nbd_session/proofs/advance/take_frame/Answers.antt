@@ -26,3 +26,6 @@ returns-clause-steps g c =
 
 pub returns-then-length-piece-clause-steps : goal.returns-then-length-piece-clause-steps
 returns-then-length-piece-clause-steps g c = search rules
+
+pub returns-in_default-clause-partial : goal.returns-in_default-clause-partial
+returns-in_default-clause-partial g c = rw c.go_on.ensures.filled (wanted_at_start c.go_on.result.phase)

@@ -21,7 +21,7 @@ pub returns-in-Ok-None-clause-answer : goal.returns-in-Ok-None-clause-answer
 returns-in-Ok-None-clause-answer g c =
     let p = g.V.Volumes in
     let l = c.loop-named in
-    inl (all_named p.view.outline (PoolCall p.view) c.args.pool.now l.pool c.next_from.new.pool l.from l.named l.at c.put_end.result l.out c.put_end.new.out c.args.no_zeroes l.invariant.ids l.invariant.most
+    inl (all_named p.view.outline (PoolCall p.view) c.args.pool.now l.pool c.next_from.new.pool l.from l.named l.at c.put_end.result l.out c.put_end.new.out c.args.terms l.invariant.ids l.invariant.most
     (none_left c.in-Ok-None.field-0 _ _ c.in-Ok-None.ensures c.in-Ok-None.field-0-is) c.put_end.ensures.reply)
 
 pub returns-in-Err-clause-answer : goal.returns-in-Err-clause-answer
@@ -34,7 +34,7 @@ pub returns-in-Ok-None-next_from-clause-answer : goal.returns-in-Ok-None-next_fr
 returns-in-Ok-None-next_from-clause-answer g c =
     let p = g.V.Volumes in
     let l = c.loop-named in
-    inl (all_named p.view.outline (PoolCall p.view) c.args.pool.now l.pool c.next_from-2.new.pool l.from l.named l.at c.put_end-in-Ok-None-next_from.result l.out c.put_end-in-Ok-None-next_from.new.out c.args.no_zeroes
+    inl (all_named p.view.outline (PoolCall p.view) c.args.pool.now l.pool c.next_from-2.new.pool l.from l.named l.at c.put_end-in-Ok-None-next_from.result l.out c.put_end-in-Ok-None-next_from.new.out c.args.terms
     l.invariant.ids l.invariant.most (none_left c.in-Ok-None-next_from.field-0 _ _ c.in-Ok-None-next_from.ensures c.in-Ok-None-next_from.field-0-is) c.put_end-in-Ok-None-next_from.ensures.reply)
 
 pub returns-in-Ok-Some-next_from-clause-answer : goal.returns-in-Ok-Some-next_from-clause-answer

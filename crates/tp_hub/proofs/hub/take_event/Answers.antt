@@ -12,6 +12,14 @@ hear_slot-requires g c =
     let lt : i < 64 = omega (arith, there, c.from-in-Bytes.ensures) in
     ready_slot g.V.Volumes.view c.args.sessions.now i _ c.args.pool.now lt c.requires.serves (read_slot g.V.Volumes.view c.args.sessions.now i d lt c.requires.serves.count c.index-sessions-from-in-Bytes.is ∙ c.index-sessions-from-in-Bytes.is)
 
+pub part_slot-requires : goal.part_slot-requires
+part_slot-requires g c =
+    let there = rw c.in-Parted.is at c.requires.number in
+    let i = c.from-in-Parted.result in
+    let d = c.index-sessions-from-in-Parted.result in
+    let lt : i < 64 = omega (arith, there, c.from-in-Parted.ensures) in
+    ready_slot g.V.Volumes.view c.args.sessions.now i _ c.args.pool.now lt c.requires.serves (read_slot g.V.Volumes.view c.args.sessions.now i d lt c.requires.serves.count c.index-sessions-from-in-Parted.is ∙ c.index-sessions-from-in-Parted.is)
+
 pub leave_slot-requires : goal.leave_slot-requires
 leave_slot-requires g c =
     let there = rw c.in-Hangup.is at c.requires.number in
@@ -23,7 +31,7 @@ leave_slot-requires g c =
 pub returns-in-Open : goal.returns-in-Open
 returns-in-Open g c =
     let there = rw c.in-Open.is at c.requires.number in
-    rw c.in-Open.is (takes_event g.V.Volumes.view (Comes c.in-Open.number) c.args.sessions.now c.from.result c.index-sessions-from.result _ c.open_slot.new.slot c.args.pool.now c.args.pool.now c.open_slot.result.whole c.open_slot.result.bytes c.args.out.now c.open_slot.new.out
+    rw c.in-Open.is (takes_event g.V.Volumes.view (Comes c.in-Open.number c.in-Open.profile) c.args.sessions.now c.from.result c.index-sessions-from.result _ c.open_slot.new.slot c.args.pool.now c.args.pool.now c.open_slot.result.whole c.open_slot.result.bytes c.args.out.now c.open_slot.new.out
     c.from.ensures there c.requires.serves c.index-sessions-from.is (sym c.index-sessions-from.is) (c.open_slot.ensures c.args.pool.now))
 
 pub returns-in-Bytes : goal.returns-in-Bytes
@@ -31,6 +39,12 @@ returns-in-Bytes g c =
     let there = rw c.in-Bytes.is at c.requires.number in
     rw c.in-Bytes.is (takes_event g.V.Volumes.view (Brings c.in-Bytes.number c.in-Bytes.piece.now) c.args.sessions.now c.from-in-Bytes.result c.index-sessions-from-in-Bytes.result _ c.hear_slot.new.slot c.args.pool.now c.hear_slot.new.pool c.hear_slot.result.whole c.hear_slot.result.bytes c.args.out.now c.hear_slot.new.out
     c.from-in-Bytes.ensures there c.requires.serves c.index-sessions-from-in-Bytes.is (sym c.index-sessions-from-in-Bytes.is) c.hear_slot.ensures)
+
+pub returns-in-Parted : goal.returns-in-Parted
+returns-in-Parted g c =
+    let there = rw c.in-Parted.is at c.requires.number in
+    rw c.in-Parted.is (takes_event g.V.Volumes.view (Brings c.in-Parted.number c.in-Parted.piece.now) c.args.sessions.now c.from-in-Parted.result c.index-sessions-from-in-Parted.result _ c.part_slot.new.slot c.args.pool.now c.part_slot.new.pool c.part_slot.result.whole c.part_slot.result.bytes c.args.out.now c.part_slot.new.out
+    c.from-in-Parted.ensures there c.requires.serves c.index-sessions-from-in-Parted.is (sym c.index-sessions-from-in-Parted.is) c.part_slot.ensures)
 
 pub returns-in-Hangup : goal.returns-in-Hangup
 returns-in-Hangup g c =

@@ -34,5 +34,5 @@ loop-at-preserved g c =
     record {
       in_range = let l = length-drop c.loop-at.at piece in let m = rw rest_is at e.1.1.inside in let t = c.loop-at.invariant.in_range in omega (arith, l, m, t);
       hears = hears_more g.V.Volumes.view c.args.number s s s p p p piece _ e.0 c.loop-at.at c.in-Some.taken false c.args.out.now c.loop-at.out c.make_room.new.self c.read_shared.new.self
-          c.loop-at.invariant.in_range some rest_is c.requires.open c.loop-at.invariant.hears c.make_room.ensures.list c.make_room.ensures.room c.make_room.ensures.marks e.1.1 e.2;
+          c.loop-at.invariant.in_range some c.requires.idle rest_is c.requires.open c.loop-at.invariant.hears c.make_room.ensures.list c.make_room.ensures.room c.make_room.ensures.marks e.1.1 e.2;
     }

@@ -1,5 +1,5 @@
 use Rattle.std.proofs.Common.{◌≡◌, ◌≤◌, ◌-◌, Some, false, length, take}
-use Rattle.nbd_session.specs.Session.{has_ended}
+use Rattle.nbd_session.specs.Session.{has_ended, is_at_work}
 use Rattle.nbd_session.specs.Clauses.{IsReady}
 use Rattle.tp_hub.specs.Places.{HearsAnywhere, KeepsServing}
 use Rattle.tp_hub.proofs.slot.hear.Given as goal
@@ -11,6 +11,7 @@ invariant-loop-at g l =
       in_range : l.at ≤ length l.piece;
       ready : IsReady l.session.phase (view.outline l.pool) (view.more l.pool);
       goes_on : has_ended l.session.phase ≡ false;
+      idle : is_at_work l.session.phase ≡ false;
       hears : HearsAnywhere view l.fn.number l.fn.session l.fn.pool (take l.at l.piece) l.fn.out l.out l.session l.pool;
       keeps : KeepsServing view l.fn.number (Some l.fn.session) l.fn.pool (Some l.session) l.pool;
     }

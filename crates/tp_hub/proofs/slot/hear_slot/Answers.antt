@@ -1,6 +1,7 @@
-use Rattle.std.proofs.Common.{subst}
+use Rattle.std.proofs.Common.{◌≡◌, ◌∙◌, false, inl, subst, sym}
+use Rattle.nbd_session.specs.Session.{is_at_work}
 use Rattle.tp_hub.specs.Places.{IsReadySlot}
-use Rattle.tp_hub.proofs.Taking.{brings_all, brings_end, brings_part, brings_to_none}
+use Rattle.tp_hub.proofs.Taking.{brings_all, brings_end, brings_part, brings_to_none, idle_is_free}
 use Rattle.tp_hub.proofs.slot.hear_slot.Goals as goal
 
 pub returns-in-None : goal.returns-in-None
@@ -10,19 +11,22 @@ pub returns-in-Whole : goal.returns-in-Whole
 returns-in-Whole g c =
     let view = g.V.Volumes.view in
     let ready = subst (λ s. IsReadySlot s (view.outline c.args.pool.now) (view.more c.args.pool.now)) c.in-Some.is c.requires in
+    let idle : is_at_work c.in-Some.session.phase ≡ false = sym c.is_at_work.ensures ∙ c.if-is_at_work.false in
     let h = c.in-Whole.ensures in
-    brings_all view c.args.number c.args.slot.now c.in-Some.session c.hear.new.session c.args.piece.now c.args.pool.now c.hear.new.pool c.args.out.now c.hear.new.out c.in-Some.is ready.1 h.0 h.2
+    brings_all view c.args.number c.args.slot.now c.in-Some.session c.hear.new.session c.args.piece.now c.args.pool.now c.hear.new.pool c.args.out.now c.hear.new.out c.in-Some.is ready.1 (idle_is_free c.in-Some.session.phase c.args.piece.now idle) h.0 h.2
 
 pub returns-in-Stopped : goal.returns-in-Stopped
 returns-in-Stopped g c =
     let view = g.V.Volumes.view in
     let ready = subst (λ s. IsReadySlot s (view.outline c.args.pool.now) (view.more c.args.pool.now)) c.in-Some.is c.requires in
+    let idle : is_at_work c.in-Some.session.phase ≡ false = sym c.is_at_work.ensures ∙ c.if-is_at_work.false in
     let h = c.in-Stopped.ensures in
-    brings_part view c.args.number c.args.slot.now c.in-Some.session c.hear.new.session c.args.piece.now c.in-Stopped.bytes c.args.pool.now c.hear.new.pool c.args.out.now c.hear.new.out c.in-Some.is ready.1 h.0 h.1 h.2 h.3 h.4
+    brings_part view c.args.number c.args.slot.now c.in-Some.session c.hear.new.session c.args.piece.now c.in-Stopped.bytes c.args.pool.now c.hear.new.pool c.args.out.now c.hear.new.out c.in-Some.is ready.1 idle h.0 h.1 h.2 h.3 (inl h.4)
 
 pub returns-in-Over : goal.returns-in-Over
 returns-in-Over g c =
     let view = g.V.Volumes.view in
     let ready = subst (λ s. IsReadySlot s (view.outline c.args.pool.now) (view.more c.args.pool.now)) c.in-Some.is c.requires in
+    let idle : is_at_work c.in-Some.session.phase ≡ false = sym c.is_at_work.ensures ∙ c.if-is_at_work.false in
     let h = c.in-Over.ensures in
-    brings_end view c.args.number c.args.slot.now c.in-Some.session c.hear.new.session c.args.piece.now h.0 c.args.pool.now c.hear.new.pool c.args.out.now c.hear.new.out c.in-Some.is ready.1 h.1 h.2 h.3
+    brings_end view c.args.number c.args.slot.now c.in-Some.session c.hear.new.session c.args.piece.now h.0 c.args.pool.now c.hear.new.pool c.args.out.now c.hear.new.out c.in-Some.is ready.1 (idle_is_free c.in-Some.session.phase c.args.piece.now idle) h.1 h.2 h.3

@@ -1,8 +1,6 @@
-use Rattle.std.proofs.Common.{List, arith}
+use Rattle.std.proofs.Common.{arith}
 use Rattle.std.proofs.lemmas.List.{take_rest}
 use Rattle.std.specs.Prelude.{Ok}
-use Rattle.tp_hub.specs.Desks.{Exchange}
-use Rattle.tp_hub.specs.Streams.{StreamCall}
 use Rattle.tp_lines.specs.Plays.{GivesAll}
 use Rattle.tp_lines.proofs.Doing.{leads_as, leads_none}
 use Rattle.tp_lines.proofs.Playing.{GivenTo, given_all, given_none, left_some, not_false, not_true, piece_done, piece_inside, piece_lost, piece_more}

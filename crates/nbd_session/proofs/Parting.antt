@@ -1,0 +1,87 @@
+-- Where the parts of a long request end, and what is told of one.
+use Rattle.std.proofs.Common.{◌≡◌, ℕ, ◌-◌, ◌*◌, ◌/◌, ◌%◌, ◌<◌, ◌≤◌, Bool, true, false, List, [], refl, sym, ap, subst, ◌∙◌, arith, inl, inr}
+use Rattle.std.specs.Prelude.{◌&&◌, if◌then◌else◌}
+use Rattle.std.proofs.Math.Nat.{div-add-mod, div-mul-le_self, mod-lt, mod-mod_of_dvd, mul-pos}
+use Rattle.std.proofs.lemmas.Bool.{cases_lt}
+use Rattle.std.proofs.lemmas.Nat.Gcd.{dvd_of_mod-eq-zero}
+use Rattle.tp_model.specs.Requests.{is_trim}
+use Rattle.tp_model.specs.Geometry.{Geometry}
+use Rattle.tp_model.specs.declared.refusal.Refusal.{Refusal}
+use Rattle.tp_model.specs.Pool.{Outline}
+use Rattle.tp_model.specs.Calls.{Answer, Call, Done, Refused, Trim, WriteZeroes}
+use Rattle.nbd_wire.specs.declared.Request.{Request}
+use Rattle.nbd_session.specs.declared.phase.Course.TheVariants.{Listens, Works}
+use Rattle.nbd_session.specs.declared.phase.Phase.TheVariants.{Transmission}
+use Rattle.nbd_session.specs.Requests.{behind, form_of, has_fua, has_no_hole, is_last, len_of_part, part_call, rest_of, up_to_cut}
+use Rattle.nbd_session.specs.Session.{IsMade, MakesPart, reply_to}
+
+-- as many whole blocks as 2048 sectors have are one at least
+pub blocks_fit : (block : ℕ) → 0 < block → block ≤ 2048 → (1 ≤ 2048 / block * block) × (2048 / block * block ≤ 2048)
+blocks_fit block some most =
+    let all = div-add-mod 2048 block in
+    let less = mod-lt 2048 some in
+    let one : 0 < 2048 / block = elim (cases_lt 0 (2048 / block)) [
+      | inl lt ↦ lt
+      | inr le ↦
+          let none : 2048 / block ≡ 0 = omega (arith, le) in
+          let nothing : block * (2048 / block) ≡ block * 0 = ap (λ (n : ℕ). block * n) none in
+          absurd (omega (arith, all, less, nothing, most))
+    ] in
+    (mul-pos one some, div-mul-le_self 2048 block)
+
+-- what is left up to a place where parts are cut has whole sectors, as both have
+pub cut_whole : (offset most : ℕ) → offset % 512 ≡ 0 → most % 512 ≡ 0 → 512 ≤ most → (512 ≤ most - offset % most) × ((most - offset % most) % 512 ≡ 0)
+cut_whole offset most o m some =
+    let same : offset % most % 512 ≡ offset % 512 = mod-mod_of_dvd 512 offset (dvd_of_mod-eq-zero 512 m) in
+    let lt : offset % most < most = mod-lt offset (omega (arith, some)) in
+    (omega (arith, same, o, m, lt), omega (arith, same, o, m, lt))
+
+-- ---- the call of a part
+
+both_calls : (id : ℕ) (g : Geometry) (r : Request) (count : ℕ) (fua : Bool) (b : Bool) → count ≡ len_of_part g r / 512 → fua ≡ (has_fua r && is_last g r)
+    → (if b then Trim id (r.offset / 512) count fua else WriteZeroes id (r.offset / 512) count (has_no_hole r) fua)
+    ≡ (if b then Trim id (r.offset / 512) (len_of_part g r / 512) (has_fua r && is_last g r) else WriteZeroes id (r.offset / 512) (len_of_part g r / 512) (has_no_hole r) (has_fua r && is_last g r))
+both_calls id g r count fua true c f = ap (λ (n : ℕ). Trim id (r.offset / 512) n fua) c ∙ ap (λ (x : Bool). Trim id (r.offset / 512) (len_of_part g r / 512) x) f
+both_calls id g r count fua false c f =
+    ap (λ (n : ℕ). WriteZeroes id (r.offset / 512) n (has_no_hole r) fua) c ∙ ap (λ (x : Bool). WriteZeroes id (r.offset / 512) (len_of_part g r / 512) (has_no_hole r) x) f
+
+by_kind : (b : Bool) (trim zeroes : Call) → b ≡ true → trim ≡ (if b then trim else zeroes)
+by_kind true trim zeroes e = refl
+by_kind false trim zeroes e = absurd cc
+
+by_other : (b : Bool) (trim zeroes : Call) → b ≡ false → zeroes ≡ (if b then trim else zeroes)
+by_other false trim zeroes e = refl
+by_other true trim zeroes e = absurd cc
+
+pub trim_is : (id : ℕ) (g : Geometry) (r : Request) (count : ℕ) (fua : Bool) → is_trim (form_of r) ≡ true → count ≡ len_of_part g r / 512 → fua ≡ (has_fua r && is_last g r) → Trim id (r.offset / 512) count fua ≡ part_call id g r
+trim_is id g r count fua is c f = by_kind (is_trim (form_of r)) _ (WriteZeroes id (r.offset / 512) count (has_no_hole r) fua) is ∙ both_calls id g r count fua (is_trim (form_of r)) c f
+
+pub zeroes_are : (id : ℕ) (g : Geometry) (r : Request) (count : ℕ) (no_hole fua : Bool) → is_trim (form_of r) ≡ false → count ≡ len_of_part g r / 512 → no_hole ≡ has_no_hole r → fua ≡ (has_fua r && is_last g r)
+    → WriteZeroes id (r.offset / 512) count no_hole fua ≡ part_call id g r
+zeroes_are id g r count no_hole fua is c n f =
+    ap (λ (x : Bool). WriteZeroes id (r.offset / 512) count x fua) n
+    ∙ (by_other (is_trim (form_of r)) (Trim id (r.offset / 512) count fua) _ is ∙ both_calls id g r count fua (is_trim (form_of r)) c f)
+
+-- ---- what is told of it
+
+module _ {D : Type 0} (outline : D → Outline) (Calls : D → Call → Answer → D → Type 0) (id size : ℕ) (r : Request) (p p' : D) where
+  pub part_refused : (reason : Refusal) (sent : List ℕ) → Calls p (part_call id (outline p).geometry r) (Refused reason) p' → sent ≡ reply_to r.cookie (Refused reason) → MakesPart outline Calls id size r p sent (Transmission id size (Listens true)) p'
+  part_refused reason sent call sent_is = record { answer = Refused reason; calls = call; is_made = (sent_is, refl) }
+
+  made_last : (last : Bool) (rest : Request) (sent : List ℕ) → last ≡ true → sent ≡ reply_to r.cookie Done → IsMade id size r rest last Done sent (Transmission id size (Listens true))
+  made_last true rest sent e is = (is, refl)
+  made_last false rest sent e is = absurd cc
+
+  made_more : (last : Bool) (rest : Request) (sent : List ℕ) → last ≡ false → sent ≡ [] → IsMade id size r rest last Done sent (Transmission id size (Works rest))
+  made_more false rest sent e is = (is, refl)
+  made_more true rest sent e is = absurd cc
+
+  pub part_last : (last : Bool) (sent : List ℕ) → Calls p (part_call id (outline p).geometry r) Done p' → last ≡ is_last (outline p).geometry r → last ≡ true → sent ≡ reply_to r.cookie Done
+      → MakesPart outline Calls id size r p sent (Transmission id size (Listens true)) p'
+  part_last last sent call is yes_ sent_is = record { answer = Done; calls = call; is_made = made_last (is_last (outline p).geometry r) _ sent (sym is ∙ yes_) sent_is }
+
+  pub part_more : (last : Bool) (len : ℕ) (sent : List ℕ) → Calls p (part_call id (outline p).geometry r) Done p' → last ≡ is_last (outline p).geometry r → last ≡ false → len ≡ up_to_cut (outline p).geometry r → sent ≡ []
+      → MakesPart outline Calls id size r p sent (Transmission id size (Works (behind r len))) p'
+  part_more last len sent call is more cut sent_is =
+      let P : ℕ → Type 0 = λ n. MakesPart outline Calls id size r p sent (Transmission id size (Works (behind r n))) p' in
+      subst P (sym cut) (record { answer = Done; calls = call; is_made = made_more (is_last (outline p).geometry r) (rest_of (outline p).geometry r) sent (sym is ∙ more) sent_is })
