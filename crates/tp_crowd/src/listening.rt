@@ -11,6 +11,7 @@ use crate::crowd::{
 use crate::locked::{Alarm, HubLock};
 use crate::since::Start;
 use crate::sockets::Socket;
+use nbd_session::Profile;
 use std::alloc::Global;
 use std::marker::Brand;
 use std::net::{TcpListener, TcpStream};
@@ -96,7 +97,14 @@ where
 {
     fn attend(&self, number: u8, stream: TcpStream) -> bool {
         let mut socket = Socket::new(self.rt, self.alloc, &self.crew, stream);
-        let is_carried = carry_stream(self.rt, self.alloc, self.hub, number, &mut socket);
+        let is_carried = carry_stream(
+            self.rt,
+            self.alloc,
+            self.hub,
+            number,
+            Profile::Strict,
+            &mut socket,
+        );
         socket.close();
         is_carried
     }

@@ -153,6 +153,7 @@ pub struct LockedDesk<'m, R: Wait, V: Volumes, A: Alarm, K: Start<V>> {
 }
 
 /// What was taken of an event that had the hub alone, and what is so behind it.
+#[derive(Clone, Copy)]
 struct Seen {
     ran: Ran,
     is_failed: bool,

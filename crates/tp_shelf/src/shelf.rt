@@ -374,7 +374,7 @@ pub fn shelf_of_readers(alloc: Global, readers: u64) -> Result<Shelf, Refusal>
 fn shelf_of(alloc: Global, blocks: u32, readers: u64) -> Result<Shelf, Refusal>
     ensures { IfOk result (λ s. holds_of s.holders.items ≡ empty) }
 {
-    let geometry = Geometry::new(128, blocks, 2048, 4)?;
+    let geometry = Geometry::new(128, u64::from(blocks), 2048, 4)?;
     match zeroes(alloc, volume_bytes(blocks).saturating_mul(2)) {
         Ok(bytes) => Ok(Shelf::of(geometry, bytes, readers)),
         Err(_) => Err(Refusal::Memory),
