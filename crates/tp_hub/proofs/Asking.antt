@@ -1,4 +1,4 @@
--- One event of the pool: a message, or a status line.
+-- One event of the pool: a message, a flush, or a status line.
 use Rattle.std.proofs.Common.{◌≡◌, ℕ, suc, ◌≤◌, Bool, true, false, List, [], ◌∷◌, refl, sym, ap, subst, ◌∙◌, arith}
 use Rattle.std.specs.Prelude.{◌<◌, Err, MatchBool, MatchResult, Ok, Result, nat_lt}
 use Rattle.std.proofs.lemmas.Bool.{le-ltb, lt-ltb}
@@ -15,7 +15,7 @@ use Rattle.tp_msg.specs.declared.message.Message.TheVariants as orders
 use Rattle.tp_msg.specs.Messages.{reading}
 use Rattle.nbd_session.specs.Turns.{Asks, Happened, Sessions, TakesTurn}
 use Rattle.tp_hub.specs.Told.{Answer, Grows, Lines, Refuses, Told}
-use Rattle.tp_hub.specs.Runs.{AsksLine, AsksLineOf, Incoming, IsAnswered, IsCalled, IsPart, IsRefused, IsShort, Orders, Runs, TellsDone, TellsLine, call_of, front_of}
+use Rattle.tp_hub.specs.Runs.{AsksFlush, AsksLine, AsksLineOf, Incoming, IsAnswered, IsCalled, IsPart, IsRefused, IsShort, Orders, Runs, TellsDone, TellsLine, call_of, front_of}
 use Rattle.tp_hub.specs.Places.{IsMade, PoolTakes, TakesEvent}
 use Rattle.tp_hub.specs.Serving.{Serves, Slots, sessions_of}
 use Rattle.tp_hub.proofs.Placing.{serves_kept}
@@ -72,6 +72,10 @@ module _ {D : Type 0} (view : View D) where
   pub message_so : (line : List ℕ) (m : Message) (p p' : D) (before mid after : Told) → reading line ≡ Ok m → mid.list ≡ before.list → before.room ≤ mid.room → before.marks ≤ mid.marks → IsMade view TellsDone (call_of m) p mid after p' → PoolTakes view (Orders line) p true 0 before after p'
   message_so line m p p' before mid after is same room marks (answer, answers, met, tells, grows) =
       called (Orders line) (call_of m) answer answers p p' before after (λ at h turn. ordered line m answer answers at h is turn tells) met (λ h. message_holds h m answer) (grows_behind before mid after answers same room marks grows)
+
+  pub flush_so : (p p' : D) (before mid after : Told) → mid.list ≡ before.list → before.room ≤ mid.room → before.marks ≤ mid.marks → IsMade view TellsDone calls.Flush p mid after p' → PoolTakes view AsksFlush p true 0 before after p'
+  flush_so p p' before mid after same room marks (answer, answers, met, tells, grows) =
+      called AsksFlush calls.Flush answer answers p p' before after (λ at h turn. (answer, (h, refl, turn), tells)) met (λ h. refl) (grows_behind before mid after answers same room marks grows)
 
   pub line_told : (bytes : List ℕ) (p p' : D) (before after : Told) → PoolCall view p calls.Status (calls.Line bytes) p' → Grows before after (Lines bytes ∷ []) → PoolTakes view AsksLine p true 0 before after p'
   line_told bytes p p' before after met grows =

@@ -3,7 +3,7 @@ use Rattle.std.proofs.Common.{◌≡◌, ℕ, zero, suc, ◌≤◌, List, [], �
 use Rattle.tp_model.specs.Clauses.{PoolCall, View}
 use Rattle.nbd_session.specs.Turns.{Sessions}
 use Rattle.tp_hub.specs.Told.{Answer, HasRoom, IsFull, Told, all_sent}
-use Rattle.tp_hub.specs.Runs.{AsksLine, AsksLineOf, Brings, Comes, Goes, Incoming, Orders, IsPartOfNext, IsShortOfNext, Runs, Served, answered_in, events_in, taken_of}
+use Rattle.tp_hub.specs.Runs.{AsksFlush, AsksLine, AsksLineOf, Brings, Comes, Goes, Incoming, Orders, IsPartOfNext, IsShortOfNext, Runs, Served, answered_in, events_in, taken_of}
 use Rattle.std.specs.Prelude.{drop}
 use Rattle.tp_hub.specs.Desks.{AreAsked, Exchange, IsAsked, IsBegun, IsCut, RunsSo}
 use Rattle.tp_hub.specs.Serving.{HubState}
@@ -19,6 +19,7 @@ nothing_taken (Goes n) zero zero e b = refl
 nothing_taken (Orders line) zero zero e b = refl
 nothing_taken AsksLine zero zero e b = refl
 nothing_taken (AsksLineOf volume) zero zero e b = refl
+nothing_taken AsksFlush zero zero e b = refl
 nothing_taken event (suc k) bytes e b = absurd (omega (arith, e))
 nothing_taken event zero (suc k) e b = absurd (omega (arith, b))
 
@@ -28,6 +29,7 @@ cut_is at (Goes n) zero bytes le part = part
 cut_is at (Orders line) zero bytes le part = part
 cut_is at AsksLine zero bytes le part = part
 cut_is at (AsksLineOf volume) zero bytes le part = part
+cut_is at AsksFlush zero bytes le part = part
 cut_is at (Brings n piece) zero bytes le (inl none) = inl none
 cut_is at (Brings n piece) zero bytes le (inr some) = inr some.0
 cut_is at event (suc zero) bytes le part = (refl, part)
@@ -58,6 +60,8 @@ begun_is at AsksLine zero bytes before after le short same cut room marks has = 
 begun_is at AsksLine (suc k) bytes before after le short same cut room marks has = omega arith
 begun_is at (AsksLineOf volume) zero bytes before after le short same cut room marks has = absurd (has_still before after (same refl cut) room marks has short)
 begun_is at (AsksLineOf volume) (suc k) bytes before after le short same cut room marks has = omega arith
+begun_is at AsksFlush zero bytes before after le short same cut room marks has = absurd (has_still before after (same refl cut) room marks has short)
+begun_is at AsksFlush (suc k) bytes before after le short same cut room marks has = omega arith
 
 pub asked : {D : Type 0} (view : View D) (at at' : Sessions) (p p' : D) (event : Incoming) (all : List Incoming) (events bytes : ℕ) (before after : Told) → all ≡ event ∷ [] → events ≤ length all
     → IsPartOfNext at' (drop events all) bytes → IsShortOfNext at' (drop events all) bytes after → Runs view.outline (PoolCall view) at p (taken_of all events bytes) before after at' p'

@@ -22,7 +22,7 @@ use Rattle.nbd_session.specs.Turns.{AreTurns, Happened, Opens, Sessions, TakesTu
 use Rattle.nbd_session.specs.Turns as turns
 use Rattle.tp_hub.specs.Told.{Answer, Closes, Grows, IsFull, Refuses, Says, Told}
 use Rattle.tp_hub.specs.declared.event.Event.{Event}
-use Rattle.tp_hub.specs.Runs.{AreServed, AsksLine, AsksLineOf, Brings, Comes, Goes, Incoming, Orders, IsAnswered, is_busy, IsPart, IsPartOfNext, IsShort, IsShortOfNext, Runs, Served, answered_in, answers_in, events_in, front_of, front_of_next, incoming, session_in, taken_of, turns_in}
+use Rattle.tp_hub.specs.Runs.{AreServed, AsksFlush, AsksLine, AsksLineOf, Brings, Comes, Goes, Incoming, Orders, IsAnswered, is_busy, IsPart, IsPartOfNext, IsShort, IsShortOfNext, Runs, Served, answered_in, answers_in, events_in, front_of, front_of_next, incoming, session_in, taken_of, turns_in}
 use Rattle.tp_hub.specs.Places.{HearsAnywhere, IsRest, IsTaken, KeepsServing, SlotTakes, put, taken_part, IsOpenSlot, IsReadySlot, TakesEvent}
 use Rattle.tp_hub.specs.Serving.{AreLeaving, LeaveTo, Serves, Slots, sessions_of, shown, slot_at, volume_in, volume_of, GoesOn}
 use Rattle.tp_hub.proofs.Placing.{HoldsMove, leaves_between, none_by, none_hold, none_open, open_at, put_is, put_other, put_same, ready_at, serves_set, sessions_set}
@@ -115,6 +115,7 @@ module _ {D : Type 0} (view : View D) where
       short (Orders line) at = full
       short AsksLine at = full
       short (AsksLineOf volume) at = full
+      short AsksFlush at = full
 
   -- ---- a client comes
 

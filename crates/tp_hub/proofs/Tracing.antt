@@ -9,7 +9,7 @@ use Rattle.nbd_session.specs.declared.phase.Profile.{Profile}
 use Rattle.nbd_session.specs.Session.{has_ended}
 use Rattle.nbd_session.specs.Turns.{AreSame, Happened, Sessions, Turn, pool_after, sessions_after}
 use Rattle.nbd_session.proofs.Turning as turning
-use Rattle.tp_model.specs.Calls.{Call, Status, ThinStatus}
+use Rattle.tp_model.specs.Calls.{Call, Flush, Status, ThinStatus}
 use Rattle.tp_model.specs.Calls as calls
 use Rattle.tp_msg.specs.Messages.{reading}
 use Rattle.tp_hub.specs.declared.client.Carried.{Carried}
@@ -19,7 +19,7 @@ use Rattle.tp_hub.specs.Desks.{AreAsked, Exchange, IsAsked, RanSo, RunsSo}
 use Rattle.tp_hub.specs.Serve.{HubRuns, IsServedBy, PlainRuns, with_pool}
 use Rattle.tp_hub.specs.Serving.{AreLeaving, HubState, LeaveSo, LeaveTo, sessions_of}
 use Rattle.tp_hub.specs.Streams.{StreamCall}
-use Rattle.tp_hub.specs.Runs.{AreServed, AsksLine, AsksLineOf, Brings, Comes, Goes, Incoming, IsAnswered, IsCalled, IsOnly, Orders, TellsDone, TellsLine, call_of, is_busy, Runs, Served, TakesText, answered_in, answers_in, answers_of, events_in, turns_in}
+use Rattle.tp_hub.specs.Runs.{AreServed, AsksFlush, AsksLine, AsksLineOf, Brings, Comes, Goes, Incoming, IsAnswered, IsCalled, IsOnly, Orders, TellsDone, TellsLine, call_of, is_busy, Runs, Served, TakesText, answered_in, answers_in, answers_of, events_in, turns_in}
 
 map_bool : (b : Bool) (P Q P' Q' : Type 0) → (P → P') → (Q → Q') → MatchBool b P Q → MatchBool b P' Q'
 map_bool true P Q P' Q' f g h = f h
@@ -91,6 +91,7 @@ module _ {D : Type 0} (view : View D) (laws : ViewLaws view) (from : D) (s : Pla
   answered_same at d t hs ks AsksLine answers are h = called_same d t hs ks Status TellsLine answers are h
   answered_same at d t hs ks (AsksLineOf volume) answers are h =
       map_bool (nat_lt volume 16777216) _ _ _ _ (λ a. called_same d t hs ks (ThinStatus volume) TellsLine answers are a) (λ r. (none_same d t hs ks are r.0, r.1)) h
+  answered_same at d t hs ks AsksFlush answers are h = called_same d t hs ks Flush TellsDone answers are h
 
   same_join : (d : D) (t : Traced) (hs : List (Happened D)) (ks : List (Happened Traced)) (is : List (Happened D)) (ls : List (Happened Traced)) → AreSame view from s d t hs ks → AreSame view from s (pool_after d hs) (pool_after t ks) is ls
       → AreSame view from s d t (hs ++ is) (ks ++ ls)

@@ -9,3 +9,4 @@ pub mod Carrying
 pub mod Logs
 pub mod Serve
 pub mod Lives
+pub mod Seats

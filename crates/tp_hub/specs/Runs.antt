@@ -28,6 +28,8 @@ pub data Incoming : Type 0 where
   -- the pool's status line is wanted, and a volume's
   AsksLine : Incoming
   AsksLineOf : (volume : ℕ) → Incoming
+  -- what was written is to be kept
+  AsksFlush : Incoming
 
 abbrev pub incoming : Event → Incoming
 incoming (kinds.Open session profile) = Comes session profile
@@ -37,6 +39,7 @@ incoming (kinds.Hangup session) = Goes session
 incoming (kinds.Message line) = Orders line.now
 incoming kinds.Status = AsksLine
 incoming (kinds.ThinStatus volume) = AsksLineOf volume
+incoming kinds.Flush = AsksFlush
 
 -- its session; an event of the pool has none, for which 0 stands
 abbrev pub session_of : Event → ℕ
@@ -47,6 +50,7 @@ session_of (kinds.Hangup session) = session
 session_of (kinds.Message line) = 0
 session_of kinds.Status = 0
 session_of (kinds.ThinStatus volume) = 0
+session_of kinds.Flush = 0
 
 abbrev pub session_in : Incoming → ℕ
 session_in (Comes session profile) = session
@@ -55,6 +59,7 @@ session_in (Goes session) = session
 session_in (Orders line) = 0
 session_in AsksLine = 0
 session_in (AsksLineOf volume) = 0
+session_in AsksFlush = 0
 
 -- so many bytes of an event: nothing, or the front of its piece
 abbrev pub front_of : Incoming → ℕ → List Incoming
@@ -65,6 +70,7 @@ front_of (Goes session) bytes = []
 front_of (Orders line) bytes = []
 front_of AsksLine bytes = []
 front_of (AsksLineOf volume) bytes = []
+front_of AsksFlush bytes = []
 
 abbrev pub front_of_next : List Incoming → ℕ → List Incoming
 front_of_next [] bytes = []
@@ -82,6 +88,7 @@ IsPart at (Goes session) bytes = bytes ≡ 0
 IsPart at (Orders line) bytes = bytes ≡ 0
 IsPart at AsksLine bytes = bytes ≡ 0
 IsPart at (AsksLineOf volume) bytes = bytes ≡ 0
+IsPart at AsksFlush bytes = bytes ≡ 0
 
 abbrev pub IsPartOfNext : Sessions → List Incoming → ℕ → Type 0
 IsPartOfNext at [] bytes = bytes ≡ 0
@@ -96,6 +103,7 @@ IsShort at (Goes session) bytes out = IsFull out
 IsShort at (Orders line) bytes out = IsFull out
 IsShort at AsksLine bytes out = IsFull out
 IsShort at (AsksLineOf volume) bytes out = IsFull out
+IsShort at AsksFlush bytes out = IsFull out
 
 -- where events are left, the first of them is left for a cause
 abbrev pub IsShortOfNext : Sessions → List Incoming → ℕ → Told → Type 0
@@ -159,7 +167,7 @@ call_of (orders.Grow id blocks) = calls.Grow id blocks
 call_of orders.ReserveMetadataSnap = calls.ReserveMetadataSnap
 call_of orders.ReleaseMetadataSnap = calls.ReleaseMetadataSnap
 
--- what is told where a message was given this answer: nothing else answers it
+-- what is told where a message, or a flush, was given this answer: nothing else answers it
 abbrev pub TellsDone : calls.Answer → List Answer → Type 0
 TellsDone calls.Done answers = answers ≡ Accepts ∷ []
 TellsDone (calls.Refused reason) answers = answers ≡ Refuses reason ∷ []
@@ -204,6 +212,7 @@ IsAnswered at (Orders line) turns answers = IsOrdered line turns answers
 IsAnswered at AsksLine turns answers = IsCalled calls.Status TellsLine turns answers
 IsAnswered at (AsksLineOf volume) turns answers =
     MatchBool (nat_lt volume 16777216) (IsCalled (calls.ThinStatus volume) TellsLine turns answers) (IsRefused BadDeviceId turns answers)
+IsAnswered at AsksFlush turns answers = IsCalled calls.Flush TellsDone turns answers
 
 -- an event, with the turns that it came to and its answers
 pub record Served (S : Type 0) : Type 0 where

@@ -20,4 +20,6 @@ pub enum Event<'a> {
     Status,
     /// A volume's status line is wanted.
     ThinStatus(u32),
+    /// What was written is to be kept, as a client's FLUSH wants it.
+    Flush,
 }

@@ -11,7 +11,8 @@ ghost use Rattle.tp_hub.specs.Serving.{AllLeave, Serves, sessions_of, slot_at};
 
 use crate::answers::Answers;
 use crate::event::Event;
-use crate::orders::{take_message, take_status, take_thin_status};
+use crate::orders::{take_flush, take_message, take_status, take_thin_status};
+use crate::seat::{Seat, seat_at};
 use crate::shared::ask_place;
 use crate::slot::{Took, hear_slot, leave_place, leave_slot, open_slot, part_slot};
 use nbd_session::Session;
@@ -55,6 +56,7 @@ impl<V: Volumes> Hub<V> {
     ghost use Rattle.tp_model.specs.Clauses.{TracedCall, outline_of_traced};
     ghost use Rattle.nbd_session.specs.Clauses.{GoesWithTrace};
     ghost use Rattle.nbd_session.specs.Turns.{closed};
+    ghost use Rattle.tp_hub.specs.Seats.{seat_at};
     ghost use Rattle.tp_hub.specs.Serving.{AllLeave, AllLeaveSo, sessions_of};
 
     /// A hub with no session. It takes no memory.
@@ -90,6 +92,21 @@ impl<V: Volumes> Hub<V> {
         ensures { result ≡ (V.view.outline self.now.pool).mode }
     {
         self.pool.mode()
+    }
+
+    /// Who is at a number.
+    pub fn seat(&self, number: u8) -> Seat
+        requires { number < 64 }
+        ensures { result ≡ seat_at self.now.slots number }
+    {
+        seat_at(&self.sessions, number)
+    }
+
+    /// Its pool, to look at.
+    pub fn pool(&self) -> &V
+        ensures { result.now ≡ self.now.pool }
+    {
+        &self.pool
     }
 
     /// The pool, after all sessions ended. It takes no memory.
@@ -148,7 +165,7 @@ impl<V: Managed> Hub<V> {
     ///
     /// A line that is no message is refused for its text (`UnknownMessage`, `BadSyntax` or `BadDeviceId`), and the pool is not asked; for any other line the
     /// pool is asked once, and `Done` or its refusal answers it. A status line is the pool's at its turn; that of a volume whose number is over 16777215 is
-    /// refused `BadDeviceId`, and the pool is not asked.
+    /// refused `BadDeviceId`, and the pool is not asked. A flush is answered as a message is.
     ///
     /// It stops where one longest answer more does not fit into `out`, since memory is refused or `out` is to be emptied first, and where
     /// memory for a session is refused: the events before and so many bytes of the next one were taken, and a later call goes on from there.
@@ -275,6 +292,7 @@ fn take_event<V: Managed>(
         Event::Message(line) => take_message(pool, line, out),
         Event::Status => take_status(pool, out),
         Event::ThinStatus(volume) => take_thin_status(pool, volume, out),
+        Event::Flush => take_flush(pool, out),
     }
 }
 

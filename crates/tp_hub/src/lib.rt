@@ -18,6 +18,7 @@ mod laws;
 mod log;
 mod orders;
 mod pairs;
+mod seat;
 mod shared;
 mod slot;
 mod stream;
@@ -35,4 +36,5 @@ pub use laws::{
 pub use log::{Log, Made};
 pub use orders::apply;
 pub use pairs::serve_two;
+pub use seat::Seat;
 pub use stream::{Put, Received, Stream, send_all, write_out};

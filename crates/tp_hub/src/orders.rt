@@ -1,15 +1,15 @@
-//! Messages to the pool, and its status lines.
+//! Messages to the pool, flushes of it, and its status lines.
 
 ghost use Rattle.std.specs.Prelude.{◌∷◌, [], ◌<◌, ◌≤◌, MatchResult, length, take};
 ghost use Rattle.tp_model.specs.Calls as calls;
 ghost use Rattle.tp_model.specs.Clauses.{PoolCall};
-ghost use Rattle.tp_hub.specs.Runs.{AsksLine, AsksLineOf, Orders, TellsDone, TellsLine, call_of};
+ghost use Rattle.tp_hub.specs.Runs.{AsksFlush, AsksLine, AsksLineOf, Orders, TellsDone, TellsLine, call_of};
 ghost use Rattle.tp_hub.specs.Told.{Grows, HasRoom, Lines};
 ghost use Rattle.tp_hub.specs.Places.{IsMade, PoolTakes};
 
 use crate::answers::{Answers, Mark};
 use crate::slot::{NOTHING, Took, WHOLE};
-use tp_model::{DevId, Refusal};
+use tp_model::{DevId, Refusal, Volumes};
 use tp_msg::{LineBuffer, Managed, Message, read_message};
 
 /// Makes the call of a pool that a message asks for, and answers as it does.
@@ -35,6 +35,17 @@ fn obey<V: Managed>(pool: &mut V, message: &Message, out: &mut Answers)
     ensures { IsMade V.view TellsDone (call_of message.now) pool.old out.old out.new pool.new }
 {
     match apply(pool, message) {
+        Ok(()) => out.note(Mark::Done),
+        Err(reason) => out.note(Mark::Refused { reason }),
+    }
+}
+
+/// Has a pool keep what was written, and tells its answer.
+fn keep<V: Volumes>(pool: &mut V, out: &mut Answers)
+    requires { length out.old.list < out.old.marks }
+    ensures { IsMade V.view TellsDone calls.Flush pool.old out.old out.new pool.new }
+{
+    match pool.flush() {
         Ok(()) => out.note(Mark::Done),
         Err(reason) => out.note(Mark::Refused { reason }),
     }
@@ -78,6 +89,17 @@ pub fn take_message<V: Managed>(pool: &mut V, line: &[u8], out: &mut Answers) ->
             WHOLE
         }
     }
+}
+
+/// Has the pool keep what was written, and tells its answer.
+pub fn take_flush<V: Volumes>(pool: &mut V, out: &mut Answers) -> Took
+    ensures { PoolTakes V.view AsksFlush pool.old result.whole result.bytes out.old out.new pool.new }
+{
+    if out.make_room().is_err() {
+        return NOTHING;
+    }
+    keep(pool, out);
+    WHOLE
 }
 
 /// Tells the pool's status line as it is now.

@@ -3,7 +3,7 @@ use Rattle.std.proofs.Common.{◌≡◌, ℕ, zero, suc, ◌+◌, ◌-◌, ◌^�
 use Rattle.std.specs.Prelude.{◌==◌, codes, Result, Ok, Err}
 use Rattle.std.proofs.lemmas.Bool.{ne_eqb}
 use Rattle.tp_hub.specs.Told.{Answer, Told, HasRoom}
-use Rattle.tp_hub.specs.Runs.{Incoming, Comes, Brings, Goes, Orders, AsksLine, AsksLineOf, taken_of}
+use Rattle.tp_hub.specs.Runs.{Incoming, Comes, Brings, Goes, Orders, AsksFlush, AsksLine, AsksLineOf, taken_of}
 use Rattle.tp_hub.specs.Desks.{Exchange, IsAsked, IsBegun, IsCut}
 use Rattle.tp_hub.specs.Carrying.{IsSaid}
 use Rattle.tp_hub.specs.Streams.{Gave, GaveAgain, GaveEnd, GaveNone, Makes, StreamCall}
@@ -53,6 +53,7 @@ whole_of text (Goes n) events bytes is cut begun = absurd is
 whole_of text (Orders line) zero bytes is cut begun = absurd (omega (arith, begun))
 whole_of text AsksLine zero bytes is cut begun = absurd (omega (arith, begun))
 whole_of text (AsksLineOf id) zero bytes is cut begun = absurd (omega (arith, begun))
+whole_of text AsksFlush events bytes is cut begun = absurd is
 whole_of text event (suc zero) bytes is cut begun = refl
 whole_of text event (suc (suc n)) bytes is cut begun = let none = cut.0 in absurd (omega (arith, none))
 

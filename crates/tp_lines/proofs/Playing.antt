@@ -4,7 +4,7 @@ use Rattle.std.specs.Prelude.{◌⊎◌, not, OnErr, OnOk, Result, Ok, Err}
 use Rattle.std.proofs.lemmas.List.{append-nil, drop-drop, drop_all, length-drop, length-take-le, take-append-drop}
 use Rattle.tp_hub.specs.Told.{Answer, HasRoom, Told}
 use Rattle.nbd_session.specs.declared.phase.Profile.{Profile}
-use Rattle.tp_hub.specs.Runs.{Incoming, Comes, Brings, Goes, Orders, AsksLine, AsksLineOf, taken_of}
+use Rattle.tp_hub.specs.Runs.{Incoming, Comes, Brings, Goes, Orders, AsksFlush, AsksLine, AsksLineOf, taken_of}
 use Rattle.tp_hub.specs.Desks.{Exchange, IsAsked, IsBegun, IsCut}
 use Rattle.tp_hub.specs.Carrying.{IsSaid}
 use Rattle.tp_hub.specs.Streams.{Gave, GaveAgain, GaveEnd, GaveNone, Makes, StreamCall}
@@ -29,6 +29,7 @@ taken_whole (Goes n) zero bytes whole cut = inr (refl, cut, refl)
 taken_whole (Orders line) zero bytes whole cut = inr (refl, cut, refl)
 taken_whole AsksLine zero bytes whole cut = inr (refl, cut, refl)
 taken_whole (AsksLineOf id) zero bytes whole cut = inr (refl, cut, refl)
+taken_whole AsksFlush zero bytes whole cut = inr (refl, cut, refl)
 taken_whole event (suc zero) bytes whole cut = inl (omega arith, refl)
 taken_whole event (suc (suc n)) bytes whole cut = let none = cut.0 in absurd (omega (arith, none))
 
@@ -40,6 +41,7 @@ comes_so (Goes n) bytes whole begun = absurd (omega (arith, begun))
 comes_so (Orders line) bytes whole begun = absurd (omega (arith, begun))
 comes_so AsksLine bytes whole begun = absurd (omega (arith, begun))
 comes_so (AsksLineOf id) bytes whole begun = absurd (omega (arith, begun))
+comes_so AsksFlush bytes whole begun = absurd (omega (arith, begun))
 
 -- and of a piece
 taken_piece : (n : ℕ) (piece : List ℕ) (events bytes : ℕ) → IsCut (Brings n piece) events bytes → IsBegun (Brings n piece) events bytes

@@ -1,7 +1,7 @@
 -- Trusted reading: control lines over a desk and a stream: the events that they are, and what is written (own).
 use Rattle.std.specs.Prelude.{◌≡◌, ℕ, ◌<◌, Bool, true, false, List, [], ◌∷◌, ◌++◌, codes, Result, Ok, Err}
 use Rattle.std.specs.Fmt.{decimal}
-use Rattle.tp_hub.specs.Runs.{Incoming, Comes, Brings, Goes, Orders, AsksLine, AsksLineOf}
+use Rattle.tp_hub.specs.Runs.{Incoming, Comes, Brings, Goes, Orders, AsksFlush, AsksLine, AsksLineOf}
 use Rattle.tp_hub.specs.Desks.{Exchange}
 use Rattle.tp_hub.specs.Streams.{StreamCall}
 use Rattle.tp_hub.specs.Carrying.{IsSaid}
@@ -20,6 +20,7 @@ IsControl text (Goes n) = ⊥
 IsControl text (Orders line) = (line ≡ text) × (text ≡ codes "status" → ⊥) × ((id : ℕ) → id < 16777216 → text ≡ codes "thin " ++ decimal id → ⊥)
 IsControl text AsksLine = text ≡ codes "status"
 IsControl text (AsksLineOf id) = (id < 16777216) × (text ≡ codes "thin " ++ decimal id)
+IsControl text AsksFlush = ⊥
 
 -- what is asked for a line: nothing for an empty one, and its event once for any other
 abbrev pub AsksFor : List ℕ → List Exchange → Type 0

@@ -1,5 +1,5 @@
 use Rattle.std.proofs.Common.{◌<◌, ◌∙◌, sym, arith}
-use Rattle.tp_hub.specs.Runs.{AsksLine, AsksLineOf, Brings, Comes, Goes, Orders}
+use Rattle.tp_hub.specs.Runs.{AsksFlush, AsksLine, AsksLineOf, Brings, Comes, Goes, Orders}
 use Rattle.tp_hub.proofs.Asking.{pool_event}
 use Rattle.tp_hub.proofs.Taking.{read_slot, ready_slot, takes_event}
 use Rattle.tp_hub.proofs.hub.take_event.Goals as goal
@@ -63,3 +63,7 @@ returns-in-Status g c =
 pub returns-in-ThinStatus : goal.returns-in-ThinStatus
 returns-in-ThinStatus g c =
     rw c.in-ThinStatus.is (pool_event g.V.Volumes.view (AsksLineOf c.in-ThinStatus.volume) c.args.sessions.now c.args.pool.now c.take_thin_status.new.pool c.take_thin_status.result.whole c.take_thin_status.result.bytes c.args.out.now c.take_thin_status.new.out c.requires.serves c.take_thin_status.ensures)
+
+pub returns-in-Flush : goal.returns-in-Flush
+returns-in-Flush g c =
+    rw c.in-Flush.is (pool_event g.V.Volumes.view AsksFlush c.args.sessions.now c.args.pool.now c.take_flush.new.pool c.take_flush.result.whole c.take_flush.result.bytes c.args.out.now c.take_flush.new.out c.requires.serves c.take_flush.ensures)
