@@ -2,11 +2,10 @@
 use Rattle.std.proofs.Common.{◌≡◌, ◌+◌, ◌<◌, ◌≤◌, ◌⊎◌, ◌++◌, ◌∙◌, ap, append_assoc, append-nil, inl, inr, ℕ, zero, suc, List, [], ◌∷◌, length, take, take-take, length-take-le, refl, sym, subst, arith}
 use Rattle.tp_model.specs.Clauses.{View}
 use Rattle.nbd_session.specs.Turns.{Sessions}
-use Rattle.std.specs.List.{concat}
 use Rattle.tp_hub.specs.Told.{Answer, Grows, Told}
 use Rattle.tp_hub.specs.Runs.{Brings, Incoming, taken_of}
 use Rattle.tp_hub.specs.Desks.{IsAsked, IsCut, RunsSo}
-use Rattle.tp_crowd.specs.Locked.{ArePartRuns, MakesParts, SomeRun, SomeRuns}
+use Rattle.tp_crowd.specs.Locked.{ArePartRuns, all_of, MakesParts, SomeRun, SomeRuns}
 
 pub some_run : {D : Type 0} (view : View D) (at at' : Sessions) (p p' : D) (event : Incoming) (events bytes : ℕ) (before after : Told) → IsAsked (λ took answers. RunsSo view at p took answers at' p') event events bytes before after
     → IsAsked (λ took answers. SomeRun view took answers) event events bytes before after
@@ -37,9 +36,9 @@ some_runs view at at' p p' event events bytes before after asked = at_once view 
 
 -- ---- parts of a long request
 
-concat_behind : (xs : List (List Answer)) (a : List Answer) → concat (xs ++ a ∷ []) ≡ concat xs ++ a
-concat_behind [] a = append-nil a
-concat_behind (x ∷ xs) a = ap (λ (l : List Answer). x ++ l) (concat_behind xs a) ∙ sym (append_assoc x (concat xs) a)
+all_behind : (xs : List (List Answer)) (a : List Answer) → all_of (xs ++ a ∷ []) ≡ all_of xs ++ a
+all_behind [] a = append-nil a
+all_behind (x ∷ xs) a = ap (λ (l : List Answer). x ++ l) (all_behind xs a) ∙ sym (append_assoc x (all_of xs) a)
 
 its_own : (session : ℕ) (piece : List ℕ) (events bytes : ℕ) → IsCut (Brings session piece) events bytes
     → (taken_of (Brings session piece ∷ []) events bytes ≡ []) ⊎ ((front : List ℕ) × (taken_of (Brings session piece ∷ []) events bytes ≡ Brings session front ∷ []))
@@ -67,20 +66,20 @@ module _ {D : Type 0} (view : View D) (session : ℕ) where
   parts_more zero bytes before mid after made asked =
       let none : bytes ≡ 0 = elim asked.cut [ inl is ↦ is | inr lt ↦ absurd (omega (arith, lt)) ] in
       let adds = subst (λ (l : List Answer). Grows mid after l) (asked.silent refl none) asked.adds in
-      (made.0, made.1, subst (λ (l : List Answer). Grows before after l) (append-nil (concat made.0)) (grows_both before mid after (concat made.0) [] made.2 adds))
+      (made.0, made.1, subst (λ (l : List Answer). Grows before after l) (append-nil (all_of made.0)) (grows_both before mid after (all_of made.0) [] made.2 adds))
   parts_more (suc zero) bytes before mid after made asked = (
     made.0 ++ asked.answers ∷ [],
     are_behind made.0 asked.answers made.1 asked.did,
-    subst (λ (l : List Answer). Grows before after l) (sym (concat_behind made.0 asked.answers)) (grows_both before mid after (concat made.0) asked.answers made.2 asked.adds),
+    subst (λ (l : List Answer). Grows before after l) (sym (all_behind made.0 asked.answers)) (grows_both before mid after (all_of made.0) asked.answers made.2 asked.adds),
   )
   parts_more (suc (suc k)) bytes before mid after made asked = absurd (omega (arith, asked.cut.0))
 
   pub in_parts : (piece : List ℕ) (events bytes : ℕ) (before mid after : Told) → 0 < events + bytes → IsAsked (λ took answers. SomeRun view took answers) (Brings session piece) events bytes before mid → MakesParts view session mid after
       → IsAsked (λ took answers. SomeRuns view took answers) (Brings session piece) events bytes before after
   in_parts piece events bytes before mid after some asked made = record {
-    answers = asked.answers ++ concat made.0;
+    answers = asked.answers ++ all_of made.0;
     did = inr (record { session = session; first = asked.answers; run = asked.did; is_its = its_own session piece events bytes asked.cut; parts = made.0; are = made.1; answers_are = refl });
-    adds = grows_both before mid after asked.answers (concat made.0) asked.adds made.2;
+    adds = grows_both before mid after asked.answers (all_of made.0) asked.adds made.2;
     cut = asked.cut;
     silent = λ none nothing. absurd (omega (arith, some, none, nothing));
     begun = asked.begun;

@@ -1,6 +1,5 @@
 -- Trusted reading: what is known of a hub that many ask (own).
 use Rattle.std.specs.Prelude.{◌≡◌, ℕ, List, [], ◌∷◌, ◌++◌, ◌⊎◌}
-use Rattle.std.specs.List.{concat}
 use Rattle.tp_model.specs.Clauses.{View}
 use Rattle.nbd_session.specs.Turns.{Sessions}
 use Rattle.tp_hub.specs.Told.{Answer, Grows, Told}
@@ -28,6 +27,11 @@ pub record IsFrom {D : Type 0} (view : View D) (IsStart : HubState D → Type 0)
 abbrev pub SomeRun : {D : Type 0} → View D → List Incoming → List Answer → Type 0
 SomeRun {D} view took answers = (at : Sessions) × (p : D) × (at' : Sessions) × (p' : D) × RunsSo view at p took answers at' p'
 
+-- all answers, one list behind the other
+abbrev pub all_of : List (List Answer) → List Answer
+all_of [] = []
+all_of (answers ∷ later) = answers ++ all_of later
+
 -- Such asks of a session one behind the other, each without text: it makes parts that are left of a request.
 abbrev pub ArePartRuns : {D : Type 0} → View D → ℕ → List (List Answer) → Type 0
 ArePartRuns view n [] = Unit {0}
@@ -35,7 +39,7 @@ ArePartRuns view n (answers ∷ later) = SomeRun view (Brings n [] ∷ []) answe
 
 -- These, whose answers were added.
 abbrev pub MakesParts : {D : Type 0} → View D → ℕ → Told → Told → Type 0
-MakesParts view n before after = (parts : List (List Answer)) × ArePartRuns view n parts × Grows before after (concat parts)
+MakesParts view n before after = (parts : List (List Answer)) × ArePartRuns view n parts × Grows before after (all_of parts)
 
 -- Some sessions over some pool take these events, and behind them the parts are made of a long request that they end with, between which others may ask. The
 -- answers are those of all.
@@ -46,7 +50,7 @@ pub record RunsInParts {D : Type 0} (view : View D) (took : List Incoming) (answ
   pub is_its : (took ≡ []) ⊎ ((piece : List ℕ) × (took ≡ Brings session piece ∷ []))
   pub parts : List (List Answer)
   pub are : ArePartRuns view session parts
-  pub answers_are : answers ≡ first ++ concat parts
+  pub answers_are : answers ≡ first ++ all_of parts
 
 -- What is known of one ask.
 abbrev pub SomeRuns : {D : Type 0} → View D → List Incoming → List Answer → Type 0

@@ -261,7 +261,7 @@ fn is_read(event: &Event<'_>) -> bool
     ensures { MatchBool result (IsRead (incoming event.now)) (IsRead (incoming event.now) → ⊥) }
 {
     match *event {
-        Event::Bytes(_, piece) => begins_with_read(piece),
+        Event::Bytes(_, piece) | Event::Parted(_, piece) => begins_with_read(piece),
         _ => false,
     }
 }

@@ -9,9 +9,9 @@ use Rattle.tp_hub.specs.Serving.{Slots, slot_at}
 
 -- whose session is in this phase
 abbrev pub seat_in : Phase → Seat
-seat_in Flags = Waits
-seat_in (Options no_zeroes) = Waits
-seat_in (Transmission volume size) = Holds volume
+seat_in (Flags profile) = Waits
+seat_in (Options terms) = Waits
+seat_in (Transmission volume size course) = Holds volume
 seat_in Ended = Free
 
 -- who has this place

@@ -23,7 +23,7 @@ fn seat_in(phase: Phase) -> Seat
     ensures { result ≡ seat_in phase }
 {
     match phase {
-        Phase::Flags => Seat::Waits,
+        Phase::Flags { .. } => Seat::Waits,
         Phase::Options { .. } => Seat::Waits,
         Phase::Transmission { volume, .. } => Seat::Holds(volume),
         Phase::Ended => Seat::Free,

@@ -25,11 +25,14 @@ use Rattle.nbd_wire.specs.Grammar.{Message, client_flags, client_option, command
 use Rattle.nbd_wire.specs.Replies.{IsInfo, info_text, simple_reply}
 use Rattle.nbd_wire.proofs.Fields.{field_drops, width2, width4}
 use Rattle.nbd_wire.proofs.Frames.{one_frame}
+use Rattle.nbd_session.specs.declared.phase.Course.TheVariants.{Listens}
 use Rattle.nbd_session.specs.declared.phase.Phase.{Phase}
 use Rattle.nbd_session.specs.declared.phase.Phase.TheVariants.{Options, Transmission, Ended}
+use Rattle.nbd_session.specs.declared.phase.Profile.TheVariants.{Strict}
+use Rattle.nbd_session.specs.declared.phase.Terms.{Terms}
 use Rattle.nbd_session.specs.Requests.{bytes_of_blocks}
-use Rattle.nbd_session.specs.Session.{State, Outcome, kind_of, Answers, AsksFor, Ends, Finds, Holds, IsHeld, IsInvalid, IsSized, IsValid, LooksFor, Sizes, go, reply_to, transmission_flags}
-use Rattle.nbd_session.specs.Talk.{Talks, waits, over, goes}
+use Rattle.nbd_session.specs.Session.{State, Outcome, kind_of, Answers, AsksFor, Ends, Finds, Holds, IsHeld, IsInvalid, IsSized, IsValid, LooksFor, Means, Sizes, go, reply_to, terms_of, transmission_flags}
+use Rattle.nbd_session.specs.Talk.{Talks, waits, over, stops, works, goes}
 use Rattle.nbd_session.proofs.Turning.{talks_likewise}
 use Rattle.tp_users.specs.Users.{Bears, users_geometry}
 use Rattle.tp_users.specs.First.{Counted, CountedCall, IsFirstAnswer, whole, no_volume, not_written, not_read, not_flushed, outline_of_counted, FirstIsAnswered, go_answer, go_data, request, flags_text, go_text, write_text, read_text, flush_text, disc_text}
@@ -59,6 +62,8 @@ at_frame : (kind : Kind) (m : Message) (frame rest : List ℕ) {phase : Phase} {
 at_frame kind m frame rest speaks is text_is (waits k e part) =
     absurd (part m frame rest (subst (λ (x : Kind). IsFrame x m frame) (kinds_are kind k (sym speaks ∙ e)) is) text_is)
 at_frame kind m frame rest speaks is text_is over = absurd cc
+at_frame kind m frame rest speaks is text_is stops = absurd cc
+at_frame kind m frame rest speaks is text_is (works v n r first others mid q part talk sent_is) = absurd cc
 at_frame kind m frame rest {phase} {text} {sent} {p} {p'} {new} speaks is text_is (goes k n f r first others mid q e is_frame cut answer talk sent_is) =
     let there = subst (λ (x : Kind). IsFrame x n f) (kinds_are k kind (sym e ∙ speaks)) is_frame in
     let same = one_frame kind n m f frame r rest there is (sym cut ∙ text_is) in
@@ -76,6 +81,8 @@ at_frame kind m frame rest {phase} {text} {sent} {p} {p'} {new} speaks is text_i
 after_end : {phase : Phase} {text sent : List ℕ} {p p' : Counted} {new : State} → Talk phase text p sent new p' → phase ≡ Ended → sent ≡ []
 after_end (waits kind speaks part) e = refl
 after_end over e = refl
+after_end stops e = refl
+after_end (works v n r first others mid q part talk sent_is) e = absurd cc
 after_end (goes kind message frame rest first others mid q speaks is_frame text_is answer talk sent_is) e = let n : kind_of _ ≡ None = ap kind_of e in absurd cc
 
 -- ---- failures
@@ -170,7 +177,11 @@ disc_is = record { request_fits = fits 2 4 0 (omega arith) (omega arith) (omega 
 -- ---- what it is answered, from the last frame on
 
 abbrev serving : Phase
-serving = Transmission 0 1048576
+serving = Transmission 0 1048576 (Listens false)
+
+-- what a strict client agrees on that wants no padding zeroes
+abbrev agreed : Terms
+agreed = terms_of Strict true
 
 abbrev failed : ℕ → List ℕ
 failed cookie = simple_reply (nbd_code (nbd_error Fault)) cookie []
@@ -272,7 +283,7 @@ Entered m c first mid q =
 
 -- what GO does where its volume is there, by its blocks
 abbrev there : ℕ → Outcome
-there = λ blocks. (go true).found 0 (bytes_of_blocks users_geometry blocks) 0x6d
+there = λ blocks. (go agreed).found 0 (bytes_of_blocks users_geometry blocks) 0x6d
 
 -- it has 16 blocks
 blocks_of : (m : ℕ) (h : FinMap nat_cmp ℕ) → volume_blocks (held m h) 0 ≡ 16
@@ -316,39 +327,43 @@ hold_is_asked m first mid c p q before is h =
     ]
 
 -- it is looked for, and then held
-asked : (m : ℕ) (first : List ℕ) (mid : Phase) (c q : Counted) → c.pool ≡ blank 0 m → AsksFor outline_of_counted CountedCall (go true) 0 c first mid q → Entered m c first mid q
+asked : (m : ℕ) (first : List ℕ) (mid : Phase) (c q : Counted) → c.pool ≡ blank 0 m → AsksFor outline_of_counted CountedCall (go agreed) 0 c first mid q → Entered m c first mid q
 asked m first mid c q is a =
     let p = a.looked in
     let takes : Takes (blank 0 m) (NextId 0) a.answer a.calls.0.0 p.pool = subst (λ (s : PlainPool). Takes s (NextId 0) a.answer a.calls.0.0 p.pool) is a.calls.0.1 in
-    let finds : Finds outline_of_counted CountedCall (go true) there 0 a.answer p first mid q =
-    subst (λ (s : PlainPool). Finds outline_of_counted CountedCall (go true) (λ blocks. (go true).found 0 (bytes_of_blocks s.geometry blocks) (transmission_flags (outline_of s))) 0 a.answer p first mid q) is a.finds in
+    let finds : Finds outline_of_counted CountedCall (go agreed) there 0 a.answer p first mid q =
+    subst (λ (s : PlainPool). Finds outline_of_counted CountedCall (go agreed) (λ blocks. (go agreed).found 0 (bytes_of_blocks s.geometry blocks) (transmission_flags (outline_of s))) 0 a.answer p first mid q) is a.finds in
     elim (accepted (blank 0 m) (NextId 0) a.answer a.calls.0.0 p.pool refl takes) [
       | inl e ↦
-          let f = subst (λ (x : Answer). Finds outline_of_counted CountedCall (go true) there 0 x p first mid q) (e.0 ∙ ap Found (least_is 0 m (omega arith))) finds in
+          let f = subst (λ (x : Answer). Finds outline_of_counted CountedCall (go agreed) there 0 x p first mid q) (e.0 ∙ ap Found (least_is 0 m (omega arith))) finds in
           hold_is_asked m first mid c p q (caused c.failures p.failures a.answer a.calls.1) e.1 f
       | inr e ↦
-          let f = subst (λ (x : Answer). Finds outline_of_counted CountedCall (go true) there 0 x p first mid q) e finds in
+          let f = subst (λ (x : Answer). Finds outline_of_counted CountedCall (go agreed) there 0 x p first mid q) e finds in
           let more = failed_there c p (NextId 0) a.answer e a.calls in
           inr (f.0, f.1, subst (λ (x : Counted). c.failures < x.failures) (sym f.2) more)
     ]
 
-looked : (m : ℕ) (first : List ℕ) (mid : Phase) (c q : Counted) (name : List ℕ) → c.pool ≡ blank 0 m → name ≡ 48 ∷ [] → LooksFor outline_of_counted CountedCall (go true) name c first mid q → Entered m c first mid q
-looked m first mid c q name blank_is is (inl nameless) = absurd (nameless.no_id 0 (omega arith, is ∙ sym zero_name))
+means_zero : (id : ℕ) (name : List ℕ) → name ≡ 48 ∷ [] → Means None name id → id ≡ 0
+means_zero id name is (inl named) = is_zero id named.0 (sym is ∙ named.1)
+means_zero id name is (inr none) = let e = ap length (sym is ∙ none.0) in absurd (omega (arith, e))
+
+looked : (m : ℕ) (first : List ℕ) (mid : Phase) (c q : Counted) (name : List ℕ) → c.pool ≡ blank 0 m → name ≡ 48 ∷ [] → LooksFor outline_of_counted CountedCall (go agreed) name c first mid q → Entered m c first mid q
+looked m first mid c q name blank_is is (inl nameless) = absurd (nameless.no_id 0 (inl (omega arith, is ∙ sym zero_name)))
 looked m first mid c q name blank_is is (inr named) =
-    let zero_id : named.id ≡ 0 = is_zero named.id named.name_is.0 (sym is ∙ named.name_is.1) in
-    asked m first mid c q blank_is (subst (λ (x : ℕ). AsksFor outline_of_counted CountedCall (go true) x c first mid q) zero_id named.asks)
+    let zero_id : named.id ≡ 0 = means_zero named.id name is named.name_is in
+    asked m first mid c q blank_is (subst (λ (x : ℕ). AsksFor outline_of_counted CountedCall (go agreed) x c first mid q) zero_id named.asks)
 
 abbrev Informed : Counted → List ℕ → Phase → Counted → Type 0
-Informed c first mid q = IsInvalid outline_of_counted CountedCall OPTION_GO true go_data c first mid q ⊎ IsValid outline_of_counted CountedCall (go true) go_data c first mid q
+Informed c first mid q = IsInvalid outline_of_counted CountedCall OPTION_GO agreed go_data c first mid q ⊎ IsValid outline_of_counted CountedCall (go agreed) go_data c first mid q
 
 by_data : (m : ℕ) (first : List ℕ) (mid : Phase) (c q : Counted) → c.pool ≡ blank 0 m → Informed c first mid q → Entered m c first mid q
 by_data m first mid c q is (inl invalid) = absurd (invalid.no_info (48 ∷ []) [] info_is)
 by_data m first mid c q is (inr valid) = looked m first mid c q valid.name is (one_name valid.name valid.types valid.info) valid.looks
 
-informed : (m : ℕ) (first : List ℕ) (mid : Phase) (c q : Counted) → c.pool ≡ blank 0 m → Answers outline_of_counted CountedCall (Options true) (client_option OPTION_GO go_data) c first mid q → Entered m c first mid q
+informed : (m : ℕ) (first : List ℕ) (mid : Phase) (c q : Counted) → c.pool ≡ blank 0 m → Answers outline_of_counted CountedCall (Options agreed) (client_option OPTION_GO go_data) c first mid q → Entered m c first mid q
 informed m first mid c q is answer =
     by_data m first mid c q is
-    (subst (λ (x : Mode). MatchBool (is_failed x) (Ends outline_of_counted CountedCall [] (Options true) c first mid q) (Informed c first mid q)) (ap (λ (p : PlainPool). p.mode) is) answer)
+    (subst (λ (x : Mode). MatchBool (is_failed x) (Ends outline_of_counted CountedCall [] (Options agreed) c first mid q) (Informed c first mid q)) (ap (λ (p : PlainPool). p.mode) is) answer)
 
 -- ---- the whole
 
@@ -378,7 +393,7 @@ first_is_answered lasts payload sent c c' new len is bounded talk =
     let roomy : IsRoomy m payload = lasts (blank 0 m) call (subst HasUse is.1 bounded) (blank_leaves 0 0 (sectors_of payload) (blank 0 m) (m, refl)) in
     let rest = write_text payload ++ (read_text ++ (flush_text ++ disc_text)) in
     let f = at_frame kinds.Flags (client_flags true) flags_text (go_text ++ rest) refl refl refl talk in
-    let u = subst (λ (x : Counted). Talk (Options true) (go_text ++ rest) x f.others new c') f.answer.2 (subst (λ (x : Phase). Talk x (go_text ++ rest) f.q f.others new c') f.answer.1 f.talk) in
+    let u = subst (λ (x : Counted). Talk (Options agreed) (go_text ++ rest) x f.others new c') f.answer.2 (subst (λ (x : Phase). Talk x (go_text ++ rest) f.q f.others new c') f.answer.1 f.talk) in
     let g = at_frame kinds.Options (client_option OPTION_GO go_data) go_text rest refl go_is refl u in
     let same : sent ≡ g.first ++ g.others = told f.sent_is f.answer.0 g.sent_is in
     subst (IsFirstAnswer payload (c.failures < c'.failures)) (sym same) (entered payload m g.first g.others g.mid c g.q c' new len roomy g.talk (informed m g.first g.mid c g.q is.1 g.answer))

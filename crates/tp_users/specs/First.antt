@@ -10,6 +10,7 @@ use Rattle.nbd_wire.specs.Numbers.{bytes}
 use Rattle.nbd_wire.specs.Grammar.{flags_value, option_text, request_text}
 use Rattle.nbd_wire.specs.Replies.{info_text, simple_reply}
 use Rattle.nbd_session.specs.declared.phase.Phase.TheVariants.{Flags}
+use Rattle.nbd_session.specs.declared.phase.Profile.TheVariants.{Strict}
 use Rattle.nbd_session.specs.Session.{State, info_reply}
 use Rattle.nbd_session.specs.Clauses.{PlainCall}
 use Rattle.nbd_session.specs.Talk.{Talks}
@@ -85,4 +86,4 @@ CountedCall c call answer c' = PlainCall c.pool call answer c'.pool × HasCause 
 abbrev pub FirstIsAnswered : Type 0
 FirstIsAnswered =
     (payload sent : List ℕ) (c c' : Counted) (new : State) → length payload ≡ 512 → IsBlank 0 c.pool → HasUse c.pool
-    → Talks outline_of_counted CountedCall Flags (first_text payload) c sent new c' → IsFirstAnswer payload (c.failures < c'.failures) sent
+    → Talks outline_of_counted CountedCall (Flags Strict) (first_text payload) c sent new c' → IsFirstAnswer payload (c.failures < c'.failures) sent

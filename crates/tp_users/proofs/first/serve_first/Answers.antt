@@ -1,6 +1,7 @@
 use Rattle.std.proofs.Common.{◌≡◌, ℕ, ◌<◌, List, [], ◌++◌, length, sym, subst, ap, arith}
 use Rattle.tp_model.specs.Pool.{PlainPool, hold_total}
 use Rattle.nbd_session.specs.declared.phase.Phase.TheVariants.{Flags}
+use Rattle.nbd_session.specs.declared.phase.Profile.TheVariants.{Strict}
 use Rattle.nbd_session.specs.Session.{State, state}
 use Rattle.nbd_session.specs.Clauses.{IsReady}
 use Rattle.nbd_session.specs.Talk.{Converses, Talks}
@@ -17,12 +18,12 @@ none_held holders none = omega (arith, total_is holders, ap (λ (hs : List Holdi
 
 -- what a session that was just opened talks of this text is a first answer
 answered : (payload text before after : List ℕ) (s : PlainPool) (was failures : ℕ) (c : Counted) (old new : State) → FirstIsAnswered → length payload ≡ 512 → text ≡ first_text payload → IsBlank 0 s → HasUse s
-    → old ≡ state Flags [] → Converses outline_of_counted CountedCall old text (counted s was) before after new c → was ≡ 0 → c.failures ≡ failures
+    → old ≡ state (Flags Strict) [] → Converses outline_of_counted CountedCall old text (counted s was) before after new c → was ≡ 0 → c.failures ≡ failures
     → (sent : List ℕ) × (after ≡ before ++ sent) × IsFirstAnswer payload (0 < failures) sent
 answered payload text before after s was failures c old new law long is blank bounded opened talk none same =
-    let talks : Talks outline_of_counted CountedCall Flags text (counted s was) talk.0 new c =
+    let talks : Talks outline_of_counted CountedCall (Flags Strict) text (counted s was) talk.0 new c =
     subst (λ (t : State). Talks outline_of_counted CountedCall t.phase (t.held ++ text) (counted s was) talk.0 new c) opened talk.2 in
-    let first = law payload talk.0 (counted s was) c new long blank bounded (subst (λ (x : List ℕ). Talks outline_of_counted CountedCall Flags x (counted s was) talk.0 new c) is talks) in
+    let first = law payload talk.0 (counted s was) c new long blank bounded (subst (λ (x : List ℕ). Talks outline_of_counted CountedCall (Flags Strict) x (counted s was) talk.0 new c) is talks) in
     (talk.0, talk.1, subst (λ n. IsFirstAnswer payload (0 < n) talk.0) same (subst (λ n. IsFirstAnswer payload (n < c.failures) talk.0) none first))
 
 pub converse-requires : goal.converse-requires
