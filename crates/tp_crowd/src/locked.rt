@@ -327,6 +327,23 @@ fn ask_parts<R: Wait, V: Managed + SharedVolumes, A: Alarm, K: Start<V>>(
     ran
 }
 
+/// Asks a hub behind a lock alone, and part by part where a long request comes.
+fn ask_in_parts<R: Wait, V: Managed + SharedVolumes, A: Alarm, K: Start<V>>(
+    rt: &R,
+    alloc: Global,
+    hub: &HubLock<'_, V, A, K>,
+    event: Event<'_>,
+    out: &mut Answers,
+) -> Ran
+    requires { session_of event < 64 }
+    ensures { IsAsked (λ took answers. SomeRuns V.view took answers) (incoming event.entry) result.events result.bytes out.old out.new }
+{
+    match event {
+        Event::Bytes(number, piece) => ask_parts(rt, alloc, hub, number, piece, out),
+        other => ask_alone(rt, alloc, hub, other, out).ran,
+    }
+}
+
 /// Asks a hub behind a lock once: beside others, or where that cannot be, alone.
 fn ask_once<R: Wait, V: Managed + SharedVolumes, A: Alarm, K: Start<V>>(
     rt: &R,
@@ -341,10 +358,7 @@ fn ask_once<R: Wait, V: Managed + SharedVolumes, A: Alarm, K: Start<V>>(
     if let Some(ran) = ask_shared(rt, hub, &event, out) {
         return ran;
     }
-    match event {
-        Event::Bytes(number, piece) => ask_parts(rt, alloc, hub, number, piece, out),
-        other => ask_alone(rt, alloc, hub, other, out).ran,
-    }
+    ask_in_parts(rt, alloc, hub, event, out)
 }
 
 /// Asks the first requests of a piece, and tells how many bytes these were where it has more.

@@ -3,7 +3,7 @@ use Rattle.tp_hub.specs.declared.event.Event.{Event}
 use Rattle.tp_hub.specs.Runs.{incoming}
 use Rattle.tp_hub.specs.Desks.{IsAsked}
 use Rattle.tp_crowd.specs.Locked.{SomeRuns}
-use Rattle.tp_crowd.proofs.locked.ask_once.Goals as goal
+use Rattle.tp_crowd.proofs.locked.ask_in_parts.Goals as goal
 
 pub returns-in-Bytes : goal.returns-in-Bytes
 returns-in-Bytes g c =
