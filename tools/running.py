@@ -272,13 +272,14 @@ class Client:
 
 
 class Server:
-    """`thinpool serve` of an image on loopback, with what it prints in files of a folder."""
+    """`thinpool serve` of an image on loopback, or without a count of clients `thinpool run`, with what it prints in files of a folder."""
 
     def __init__(self, ground, image, count, is_controlled=False, closed=(), before=()):
         self.ground, self.closed = ground, closed
         self.err, self.out = ground.path("serve.err"), ground.path("serve.out")
         self.port = free_port() if 2 in closed else 0
-        words = [*before, ground.program, "serve", image, f"127.0.0.1:{self.port}", str(count)]
+        where = f"127.0.0.1:{self.port}"
+        words = [*before, ground.program, *(["run", image, "--listen", where] if count is None else ["serve", image, where, str(count)])]
         words += ["--control", "127.0.0.1:0"] if is_controlled else []
         with open(self.out, "wb") as out, open(self.err, "wb") as err:
             self.process = start(words, closed=closed, stdin=subprocess.DEVNULL, stdout=out, stderr=err)
@@ -359,6 +360,10 @@ class Ground:
 
     def serve(self, image, count, **how):
         return Server(self, image, count, **how)
+
+    def stays(self, image, **how):
+        """`thinpool run`."""
+        return Server(self, image, None, **how)
 
     def check(self, image):
         """What is wrong with an image, or nothing."""

@@ -1,7 +1,9 @@
 //! The commands over images in memory: behind stops, and with calls of their disks that fail.
 
-use crate::parts::{Call, MADE, NO_TERMINAL, Ran, is_ended, run_in, words_of};
-use std::alloc::{Alloc, Global};
+use crate::parts::{
+    CLIENT_GO, Call, MADE, NO_TERMINAL, Part, Ran, add, greeted, is_ended, run_in, words_of,
+};
+use std::alloc::{Alloc, AllocError, Global};
 use std::fs::File;
 use std::net::{Net, TcpListener, TcpStream};
 use std::rt::Files;
@@ -111,6 +113,62 @@ fn failing_call_is_a_fault(rt: HostRuntime) -> Result<(), Fail> {
     let mut images = MemImages::new(rt.alloc());
     let told = told_of_failing(&rt, &mut images)?;
     assert!(rt; told == (true, Status::Refused, None));
+    Ok(())
+}
+
+/// So many READs of one sector are asked for.
+const READS: u64 = 64;
+
+/// As many calls of the disk as opening an image, those READs and closing may make. Each of them looks at two nodes, so where only one block is held as it was
+/// read, they alone make twice as many as they are.
+const CALLS: u64 = 40;
+
+/// What that client sends.
+fn asked(alloc: Global) -> Result<Vec<u8>, AllocError> {
+    let mut text = Vec::new(alloc);
+    text.extend_from_slice(CLIENT_GO)?;
+    for cookie in 0..READS {
+        add(&mut text, Part::Ask(0, cookie, 0, 512))?;
+    }
+    Ok(text)
+}
+
+/// What it is sent.
+fn answered(alloc: Global) -> Result<Vec<u8>, AllocError> {
+    let mut text = greeted(alloc)?;
+    for cookie in 0..READS {
+        add(&mut text, Part::Reply(0, cookie))?;
+        add(&mut text, Part::Fill(0, 512))?;
+    }
+    Ok(text)
+}
+
+/// Whether all of them are answered, and the pool is closed, where each call of the disk behind so many fails.
+fn told_of_reads<H>(rt: &H, images: &mut MemImages) -> Result<(bool, bool), Fail>
+where
+    H: Files<File = File>
+        + Net<Listener = TcpListener, Stream = TcpStream>
+        + Threads
+        + Wait
+        + Clock
+        + Sync
+        + Alloc<A = Global>,
+{
+    let _ = first_untold_of(rt, images, MADE)?;
+    let armed = images.fail(IMAGE, CALLS + 1, u64::MAX);
+    let text = asked(rt.alloc())?;
+    let mut input = text.as_slice();
+    let words = ["thinpool", "feed", IMAGE];
+    let ran = run_in(rt, images, &words, NO_TERMINAL, &mut input);
+    let wanted = answered(rt.alloc())?;
+    Ok((armed, ran.status == Status::Done && ran.output == wanted))
+}
+
+#[test]
+fn nodes_that_were_read_are_held(rt: HostRuntime) -> Result<(), Fail> {
+    let mut images = MemImages::new(rt.alloc());
+    let told = told_of_reads(&rt, &mut images)?;
+    assert!(rt; told == (true, true));
     Ok(())
 }
 
