@@ -1,0 +1,30 @@
+//! Tests of images and of clients that mean harm: every call returns, with an answer that it may give.
+//!
+//! They stand here, so that no crate of the product is proved a second time for its tests.
+#![tactic(auto)]
+
+#[cfg(test)]
+mod built;
+#[cfg(test)]
+mod files;
+#[cfg(test)]
+mod frames;
+#[cfg(test)]
+mod images;
+#[cfg(test)]
+mod places;
+#[cfg(test)]
+mod plain;
+#[cfg(test)]
+mod random;
+#[cfg(test)]
+mod shapes;
+#[cfg(test)]
+mod shown;
+#[cfg(test)]
+mod streams;
+#[cfg(test)]
+mod told;
+
+/// A library has a public item at least: this crate has nothing but tests.
+pub fn tests_only() {}
