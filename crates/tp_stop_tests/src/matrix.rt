@@ -1,0 +1,454 @@
+//! Lives of a pool that are stopped, or in which a call of the disk fails, and what is found in the images that they leave.
+
+use crate::images::{IMAGES, Picks};
+use crate::life::{Life, MemServed, Plan, Told, live, opened};
+use crate::looking::{Glass, looked_at};
+use crate::plain::{Plain, VOLUMES};
+use crate::steps::{Area, Step};
+use std::alloc::{AllocError, Global};
+use std::test::Fail;
+use tp_check::check;
+use tp_disk::{Disk, MemDisk};
+use tp_hub::Answers;
+use tp_model::{DevId, Geometry, Refusal};
+use tp_served::Room;
+
+/// A pool with volume 0, and a workload.
+#[derive(Clone, Copy)]
+pub(crate) struct Case {
+    /// How many metadata blocks of each kind are held.
+    pub places: u16,
+    /// What is done to the pool before it is opened for the workload.
+    pub before: &'static [Step],
+    pub steps: &'static [Step],
+    /// The number of the root that the workload holds, if it does.
+    pub held_root: usize,
+    /// Whether a volume grows.
+    pub grows: bool,
+}
+
+/// What is wrong with an image.
+#[derive(Clone, Copy, Debug, PartialEq, Eq)]
+pub(crate) enum Fault {
+    /// A step of the life that left it was answered otherwise than it may be.
+    Answer,
+    /// It is not clean.
+    Unclean,
+    /// It is not opened, or not read.
+    Unopened,
+    /// What it shows may not be found.
+    NotAllowed,
+}
+
+/// The call of the workload that the first image is of and its number, then those of the life behind it, and what is wrong.
+#[derive(Clone, Copy, Debug, PartialEq, Eq)]
+pub(crate) struct Wrong {
+    place: [u64; 4],
+    fault: Fault,
+}
+
+/// How many disk calls the workload makes, and what its images were found to be.
+#[derive(Clone, Copy)]
+pub(crate) struct Tally {
+    calls: u64,
+    /// The images of the workload, and those of the lives behind them.
+    images: u64,
+    later_images: u64,
+    /// How many are wrong, and the first that is.
+    wrong: u64,
+    first: Option<Wrong>,
+    /// What steps were answered.
+    told: Told,
+}
+
+impl Tally {
+    /// The calls, the images of both kinds, and how many are wrong; and the first that is.
+    pub(crate) fn counted(&self) -> ([u64; 4], Option<Wrong>) {
+        let counts = [self.calls, self.images, self.later_images, self.wrong];
+        (counts, self.first)
+    }
+
+    /// The calls, and how often the disk failed in an option, in a READ, in what changes the pool, and in closing; and the first image that is wrong.
+    pub(crate) fn faulted(&self) -> ([u64; 6], Option<Wrong>) {
+        let told = &self.told;
+        let counts = [
+            self.calls,
+            told.options,
+            told.reads,
+            told.changes,
+            told.closings,
+            self.images,
+        ];
+        (counts, self.first)
+    }
+
+    fn of(calls: u64) -> Tally {
+        Tally {
+            calls,
+            images: 0,
+            later_images: 0,
+            wrong: 0,
+            first: None,
+            told: Told::NOTHING,
+        }
+    }
+
+    fn note(&mut self, place: &[u64; 4], fault: Fault) {
+        self.wrong = self.wrong.saturating_add(1);
+        if self.first.is_none() {
+            self.first = Some(Wrong {
+                place: *place,
+                fault,
+            });
+        }
+    }
+
+    fn count(&mut self, is_later: bool) {
+        if is_later {
+            self.later_images = self.later_images.saturating_add(1);
+        } else {
+            self.images = self.images.saturating_add(1);
+        }
+    }
+}
+
+/// What all lives of a matrix share.
+#[derive(Drop)]
+struct Bench {
+    picks: Picks,
+    /// The first image of each stop of the workload that is looked at, and where those end.
+    images: (u64, u64),
+    glass: Glass,
+    /// How many disk calls opening makes.
+    opening: u64,
+    tally: Tally,
+}
+
+/// A settled disk, and what its pool is.
+#[derive(Drop)]
+struct Kept {
+    disk: MemDisk,
+    plain: Plain,
+}
+
+/// What a life left.
+#[derive(Drop)]
+struct End {
+    disk: MemDisk,
+    life: Life,
+}
+
+fn formatted(alloc: Global, room: Room) -> Result<MemServed, Refusal> {
+    let geometry = Geometry::new(128, 16, 2048, 4)?;
+    let Ok(disk) = MemDisk::new(alloc, geometry.image_sectors()) else {
+        return Err(Refusal::Memory);
+    };
+    match MemServed::format(alloc, disk, geometry, room) {
+        Ok(pool) => Ok(pool),
+        Err((refusal, _)) => Err(refusal),
+    }
+}
+
+/// A disk with a pool with volume 0.
+fn founded(alloc: Global, room: Room) -> Result<MemDisk, Refusal> {
+    let mut pool = formatted(alloc, room)?;
+    pool.create_thin(DevId::new(0))?;
+    Ok(pool.close().1)
+}
+
+/// How many disk calls opening makes.
+fn calls_of_opening(alloc: Global, disk: &MemDisk, room: Room) -> Result<u64, Fail> {
+    let hub = opened(alloc, disk.stop(alloc, &[])?, room)?;
+    Ok(hub.into_pool().into_disk().calls())
+}
+
+/// A life that begins on a copy of a disk, on which the calls from one to another fail.
+fn lived(
+    alloc: Global,
+    from: &Kept,
+    plan: &Plan<'_>,
+    fails: (u64, u64),
+    out: &mut Answers,
+) -> Result<End, Fail> {
+    let mut disk = from.disk.stop(alloc, &[])?;
+    disk.fail(fails.0, fails.1);
+    let mut life = Life::from(alloc, &from.plain)?;
+    let disk = live(alloc, disk, plan, &mut life, out)?;
+    Ok(End { disk, life })
+}
+
+/// The pool of a case before its workload.
+fn begun(alloc: Global, case: &Case, room: Room, out: &mut Answers) -> Result<Kept, Fail> {
+    let founded = Kept {
+        disk: founded(alloc, room)?,
+        plain: Plain::with_volume(case.held_root),
+    };
+    let plan = Plan {
+        room,
+        steps: case.before,
+        closes: true,
+    };
+    let end = lived(alloc, &founded, &plan, (0, 0), out)?;
+    if end.life.told != Told::NOTHING {
+        return Err(Fail::new("the pool of the case is not as it should be"));
+    }
+    Ok(Kept {
+        disk: end.disk.stop(alloc, &[])?,
+        plain: *end.life.allowed.now(),
+    })
+}
+
+/// How many disk calls a life makes, but for those of opening.
+fn calls_of(alloc: Global, bench: &mut Bench, from: &Kept, plan: &Plan<'_>) -> Result<u64, Fail> {
+    let end = lived(alloc, from, plan, (0, 0), &mut bench.glass.out)?;
+    if end.life.told != Told::NOTHING {
+        return Err(Fail::new("a life without a fault is not answered so"));
+    }
+    Ok(end.disk.calls().saturating_sub(bench.opening))
+}
+
+/// The life of a plan whose calls from this one on fail.
+fn cut(
+    alloc: Global,
+    bench: &mut Bench,
+    from: &Kept,
+    plan: &Plan<'_>,
+    call: u64,
+) -> Result<End, Fail> {
+    let first = bench.opening.saturating_add(call);
+    lived(alloc, from, plan, (first, u64::MAX), &mut bench.glass.out)
+}
+
+/// The pool that an image shows, where it may be found behind a life; or what is wrong with it.
+fn seen(
+    alloc: Global,
+    bench: &mut Bench,
+    end: &End,
+    image: u64,
+) -> Result<Result<Kept, Fault>, Fail> {
+    let mut left = bench.picks.image(alloc, &end.disk, image)?;
+    if check(alloc, &mut left).is_err() {
+        return Ok(Err(Fault::Unclean));
+    }
+    let Ok(looked) = looked_at(alloc, left, &mut bench.glass) else {
+        return Ok(Err(Fault::Unopened));
+    };
+    let Some(plain) = end.life.allowed.find(alloc, &looked.found)? else {
+        return Ok(Err(Fault::NotAllowed));
+    };
+    let mut plain = plain;
+    plain.set_tags(&looked.found.tags);
+    Ok(Ok(Kept {
+        disk: looked.disk,
+        plain,
+    }))
+}
+
+/// The same, counted.
+fn seen_and_counted(
+    alloc: Global,
+    bench: &mut Bench,
+    end: &End,
+    place: &[u64; 4],
+) -> Result<Option<Kept>, Fail> {
+    let is_later = place[2] > 0;
+    let image = if is_later { place[3] } else { place[1] };
+    bench.tally.count(is_later);
+    match seen(alloc, bench, end, image)? {
+        Ok(kept) => Ok(Some(kept)),
+        Err(fault) => {
+            bench.tally.note(place, fault);
+            Ok(None)
+        }
+    }
+}
+
+/// Stops the life behind an image at one of its calls, and looks at each image of that.
+fn stop_later(
+    alloc: Global,
+    bench: &mut Bench,
+    from: &Kept,
+    plan: &Plan<'_>,
+    place: &[u64; 4],
+) -> Result<(), Fail> {
+    let end = cut(alloc, bench, from, plan, place[2])?;
+    if end.life.told.strange > 0 {
+        bench.tally.note(place, Fault::Answer);
+    }
+    for image in 0..IMAGES {
+        let _ = seen_and_counted(alloc, bench, &end, &[place[0], place[1], place[2], image])?;
+    }
+    Ok(())
+}
+
+/// The least volume that there is.
+fn least_volume(plain: &Plain) -> u8 {
+    for volume in 0..VOLUMES {
+        if plain.has(volume) {
+            return volume as u8;
+        }
+    }
+    0
+}
+
+/// Stops the life behind an image at each of its calls, and behind the last one: half a block is written, and flushed.
+fn stop_each_later(
+    alloc: Global,
+    bench: &mut Bench,
+    from: &Kept,
+    place: &[u64; 4],
+) -> Result<(), Fail> {
+    let volume = least_volume(&from.plain);
+    let area = Area {
+        volume,
+        sector: if from.plain.size(volume as usize) > 16 {
+            2336
+        } else {
+            32
+        },
+        count: 64,
+    };
+    let steps = [
+        Step::Enter(volume),
+        Step::Write(area, 7),
+        Step::Flush(volume),
+    ];
+    let plan = Plan {
+        room: bench.glass.room,
+        steps: &steps,
+        closes: false,
+    };
+    for call in 1..calls_of(alloc, bench, from, &plan)?.saturating_add(2) {
+        stop_later(alloc, bench, from, &plan, &[place[0], place[1], call, 0])?;
+    }
+    Ok(())
+}
+
+/// Looks at an image of a workload that was stopped, and at each that the life behind it leaves.
+fn follow(alloc: Global, bench: &mut Bench, end: &End, place: &[u64; 4]) -> Result<(), Fail> {
+    let Some(kept) = seen_and_counted(alloc, bench, end, place)? else {
+        return Ok(());
+    };
+    stop_each_later(alloc, bench, &kept, place)
+}
+
+/// Stops the workload at a call, and looks at each image.
+fn stop(
+    alloc: Global,
+    bench: &mut Bench,
+    from: &Kept,
+    plan: &Plan<'_>,
+    call: u64,
+) -> Result<(), Fail> {
+    let end = cut(alloc, bench, from, plan, call)?;
+    if end.life.told.strange > 0 {
+        bench.tally.note(&[call, 0, 0, 0], Fault::Answer);
+    }
+    let (first, end_image) = bench.images;
+    for image in first..end_image {
+        follow(alloc, bench, &end, &[call, image, 0, 0])?;
+    }
+    Ok(())
+}
+
+/// Stops the workload at each call, and behind the last one.
+fn stop_each(alloc: Global, bench: &mut Bench, from: &Kept, plan: &Plan<'_>) -> Result<(), Fail> {
+    let calls = calls_of(alloc, bench, from, plan)?;
+    bench.tally = Tally::of(calls);
+    for call in 1..calls.saturating_add(2) {
+        stop(alloc, bench, from, plan, call)?;
+    }
+    Ok(())
+}
+
+/// One call of the workload fails, and no other one.
+fn fail(
+    alloc: Global,
+    bench: &mut Bench,
+    from: &Kept,
+    plan: &Plan<'_>,
+    call: u64,
+) -> Result<(), Fail> {
+    let number = bench.opening.saturating_add(call);
+    let end = lived(alloc, from, plan, (number, number), &mut bench.glass.out)?;
+    if end.life.told.strange > 0 || end.life.told.faults() != 1 {
+        bench.tally.note(&[call, 0, 0, 0], Fault::Answer);
+    }
+    bench.tally.told.add(&end.life.told);
+    for image in 0..IMAGES {
+        let _ = seen_and_counted(alloc, bench, &end, &[call, image, 0, 0])?;
+    }
+    Ok(())
+}
+
+/// Each call of the workload fails in a life of its own.
+fn fail_each(alloc: Global, bench: &mut Bench, from: &Kept, plan: &Plan<'_>) -> Result<(), Fail> {
+    let calls = calls_of(alloc, bench, from, plan)?;
+    bench.tally = Tally::of(calls);
+    for call in 1..calls.saturating_add(1) {
+        fail(alloc, bench, from, plan, call)?;
+    }
+    Ok(())
+}
+
+fn benched(alloc: Global, from: &Kept, glass: Glass, images: (u64, u64)) -> Result<Bench, Fail> {
+    Ok(Bench {
+        picks: Picks::of(alloc, from.disk.sectors())?,
+        images,
+        opening: calls_of_opening(alloc, &from.disk, glass.room)?,
+        glass,
+        tally: Tally::of(0),
+    })
+}
+
+/// Takes memory and frees it: the C library keeps as much of what is freed later for what is taken then. Else each disk is taken from the system anew, which
+/// takes longer than all that is done with it.
+fn spare_memory(alloc: Global) -> Result<(), AllocError> {
+    let spare: Vec<u8> = Vec::from_elem(alloc, 0, 32_000_000)?;
+    drop(spare);
+    Ok(())
+}
+
+/// The pool of a case before its workload, and what all its lives share.
+#[derive(Drop)]
+struct Ready {
+    from: Kept,
+    bench: Bench,
+}
+
+fn prepared(alloc: Global, case: &Case, images: (u64, u64)) -> Result<Ready, Fail> {
+    spare_memory(alloc)?;
+    let room = Room {
+        changed: case.places,
+        read: case.places,
+    };
+    let mut glass = Glass::new(alloc, room, case.grows)?;
+    let from = begun(alloc, case, room, &mut glass.out)?;
+    let bench = benched(alloc, &from, glass, images)?;
+    Ok(Ready { from, bench })
+}
+
+/// What is found where the workload of a case is stopped at each of its calls, and so is a life behind each of its images
+/// from one on to, and not with, another.
+pub(crate) fn stops_of(alloc: Global, case: &Case, images: (u64, u64)) -> Result<Tally, Fail> {
+    let mut begun = prepared(alloc, case, images)?;
+    let plan = Plan {
+        room: begun.bench.glass.room,
+        steps: case.steps,
+        closes: true,
+    };
+    stop_each(alloc, &mut begun.bench, &begun.from, &plan)?;
+    Ok(begun.bench.tally)
+}
+
+/// What is found where each call of the workload of a case fails alone.
+pub(crate) fn faults_of(alloc: Global, case: &Case) -> Result<Tally, Fail> {
+    let mut begun = prepared(alloc, case, (0, IMAGES))?;
+    let plan = Plan {
+        room: begun.bench.glass.room,
+        steps: case.steps,
+        closes: true,
+    };
+    fail_each(alloc, &mut begun.bench, &begun.from, &plan)?;
+    Ok(begun.bench.tally)
+}
