@@ -87,7 +87,7 @@ where
             self.alloc,
             self.hub,
             number,
-            Profile::Strict,
+            Profile::Extended,
             &mut guest,
         );
         guest.close();
@@ -222,7 +222,7 @@ where
     })
 }
 
-/// Serves clients without end, 64 at a time, from when they come to one of the doors. Who comes when all places are taken waits. Each thread serves one client after
+/// Serves clients without end, 64 at a time, from when they come to one of the doors, and offers each the extended profile. Who comes when all places are taken waits. Each thread serves one client after
 /// another, always as the session of one number.
 ///
 /// Beside them it answers the lines of control clients, four of them at a time, as [`serve_listener_with_control`](crate::serve_listener_with_control) does. Two

@@ -6,6 +6,7 @@ use crate::frames::{Asked, READ, add_first, add_option, add_request};
 use crate::plain::{PlainPool, VOLUME, serve};
 use crate::random::{Random, make_text, piece_of};
 use crate::told::told_by_check;
+use nbd_session::Profile;
 use std::alloc::{AllocError, Global};
 use std::test::Fail;
 use tp_disk::MemDisk;
@@ -101,7 +102,7 @@ fn has_end(marks: &[Mark]) -> bool {
 fn open<V: Managed>(alloc: Global, hub: &mut Hub<V>, heard: &mut Heard) -> Result<(), AllocError> {
     heard.sent.clear();
     heard.is_over = false;
-    hub.run(alloc, &[Event::Open(0)], &mut heard.out);
+    hub.run(alloc, &[Event::Open(0, Profile::Strict)], &mut heard.out);
     heard.take()
 }
 

@@ -3,6 +3,7 @@ ghost use Rattle.std.specs.Prelude.{◌<◌};
 
 use crate::plain::Plain;
 use crate::steps::{Area, Step, go_of, tag_of, text_of};
+use nbd_session::Profile;
 use std::alloc::{AllocError, Global};
 use tp_hub::{Answers, Event, Hub, Mark};
 use tp_model::Refusal;
@@ -55,7 +56,10 @@ pub(crate) fn enter<V: Managed>(alloc: Global, hub: &mut Hub<V>, volume: u8, out
     out.clear();
     hub.run(
         alloc,
-        &[Event::Open(session), Event::Bytes(session, go_of(volume))],
+        &[
+            Event::Open(session, Profile::Strict),
+            Event::Bytes(session, go_of(volume)),
+        ],
         out,
     );
 }
