@@ -198,13 +198,13 @@ abbrev Flushed : Type 0 → List ℕ → Type 0
 Flushed fails sent = (sent ≡ simple_reply 0 3 []) ⊎ (fails × (sent ≡ failed 3))
 
 flushes : {sent : List ℕ} {q s' : Counted} {new : State} → q.pool.mode ≡ mode.Writable → Talk serving (flush_text ++ disc_text) q sent new s' → Flushed (q.failures < s'.failures) sent
-flushes {sent} {q} {s'} {new} works talk =
+flushes {sent} {q} {s'} {new} is_writable talk =
     let n = at_frame kinds.Requests (command (request COMMAND_FLUSH 3 0) []) flush_text disc_text refl flush_is refl talk in
     let t : Talk serving disc_text n.q n.others new s' = subst (λ (x : Phase). Talk x disc_text n.q n.others new s') n.answer.1 n.talk in
     let rises = talk_rises t in
     let d : n.others ≡ [] = ends t in
     let a = n.answer.0 in
-    let none : refusal_of q.pool Flush ≡ None = ap (λ (m : Mode). cond (is_failed m) (Some Failed) None) works in
+    let none : refusal_of q.pool Flush ≡ None = ap (λ (m : Mode). cond (is_failed m) (Some Failed) None) is_writable in
     elim (accepted q.pool Flush a.answer a.calls.0.0 n.q.pool none a.calls.0.1) [
       | inl h ↦ inl (told n.sent_is (a.sent_is ∙ ap (reply_to 3) h.0) d ∙ append-nil (simple_reply 0 3 []))
       | inr h ↦ let f = failed_there q n.q Flush a.answer h a.calls in inr (omega (arith, f, rises), told n.sent_is (a.sent_is ∙ ap (reply_to 3) h) d ∙ append-nil (failed 3))
