@@ -7,7 +7,7 @@ use crate::cases::{FULL, GROWN, HELD, MANY, ONE};
 use crate::matrix::faults_of;
 use std::test::Fail;
 
-/// It fails where a fault is passed over, in a commit above all, and where a pool fails without one.
+/// Written against a fault that is passed over, in a commit above all.
 #[test]
 fn faults_with_many_places(rt: HostRuntime) -> Result<(), Fail> {
     let tally = faults_of(rt.alloc(), &MANY)?;
@@ -29,7 +29,7 @@ fn faults_while_a_root_is_held(rt: HostRuntime) -> Result<(), Fail> {
     Ok(())
 }
 
-/// It fails where a refusal for want of room makes the pool fail.
+/// Written against a pool that fails though no disk call did.
 #[test]
 fn faults_in_a_full_pool(rt: HostRuntime) -> Result<(), Fail> {
     let tally = faults_of(rt.alloc(), &FULL)?;

@@ -15,8 +15,8 @@ const NEWEST: (u64, u64) = (1, 2);
 
 const IN_TURN: (u64, u64) = (2, 3);
 
-/// It fails where a block is written in place whose sharing ended since the commit, where a block that was freed is used again before the commit, where the
-/// superblock is written before the first flush, where a FLUSH leaves out the disk's, and where opening takes the superblock of the smaller sequence.
+/// Written against a block that is written in place though its sharing ended since the commit, a freed block that is used again before the commit, a superblock
+/// that is written before the first flush, a FLUSH without the disk's, and an opening that takes the superblock of the smaller sequence.
 #[test]
 fn stops_with_many_places(rt: HostRuntime) -> Result<(), Fail> {
     let tally = stops_of(rt.alloc(), &MANY, ALL)?;
@@ -24,7 +24,7 @@ fn stops_with_many_places(rt: HostRuntime) -> Result<(), Fail> {
     Ok(())
 }
 
-/// It fails where a block is written in place that only a held copy shares.
+/// Written against a block that is written in place though a held copy shares it.
 #[test]
 fn stops_while_a_root_is_held(rt: HostRuntime) -> Result<(), Fail> {
     let tally = stops_of(rt.alloc(), &HELD, ALL)?;
@@ -32,7 +32,7 @@ fn stops_while_a_root_is_held(rt: HostRuntime) -> Result<(), Fail> {
     Ok(())
 }
 
-/// It fails where a refusal for want of room makes the pool fail.
+/// Written against a pool that fails though no disk call did.
 #[test]
 fn stops_in_a_full_pool(rt: HostRuntime) -> Result<(), Fail> {
     let tally = stops_of(rt.alloc(), &FULL, ALL)?;
