@@ -54,6 +54,7 @@ fn sent<V: Volumes>(
 /// The same over so many volumes from an id on, in a read-only pool that tells of each that it has so many blocks, or refuses to.
 fn told_of(
     alloc: Global,
+    profile: Profile,
     first: u32,
     count: u32,
     blocks: Option<u32>,
@@ -66,24 +67,17 @@ fn told_of(
         count,
         blocks,
     };
-    sent(alloc, &mut table, Profile::Strict, text)
+    sent(alloc, &mut table, profile, text)
 }
 
 /// The same of two volumes from the id 9 on, of the pool's own size, to a session of this profile.
 fn offered(alloc: Global, profile: Profile, text: &[u8]) -> Result<Vec<u8>, Refusal> {
-    let geometry = Geometry::new(128, 16, 2048, 4)?;
-    let mut table = Table {
-        geometry,
-        first: 9,
-        count: 2,
-        blocks: Some(16),
-    };
-    sent(alloc, &mut table, profile, text)
+    told_of(alloc, profile, 9, 2, Some(16), text)
 }
 
 /// The same of volumes of the pool's own size.
 fn told(alloc: Global, first: u32, count: u32, text: &[u8]) -> Result<Vec<u8>, Refusal> {
-    told_of(alloc, first, count, Some(16), text)
+    told_of(alloc, Profile::Strict, first, count, Some(16), text)
 }
 
 /// Where a session stands of which nothing was read.
@@ -208,7 +202,7 @@ fn a_strict_session_knows_no_default(rt: HostRuntime) -> Result<(), Fail> {
 
 #[test]
 fn the_size_that_is_told_is_the_volumes_own(rt: HostRuntime) -> Result<(), Fail> {
-    let sent = told_of(rt.alloc(), 9, 1, Some(33), INFO)?;
+    let sent = told_of(rt.alloc(), Profile::Strict, 9, 1, Some(33), INFO)?;
     assert!(rt;
         sent.get(..32)
             == Some(
@@ -220,7 +214,10 @@ fn the_size_that_is_told_is_the_volumes_own(rt: HostRuntime) -> Result<(), Fail>
 
 #[test]
 fn a_refused_size_ends_the_session(rt: HostRuntime) -> Result<(), Fail> {
-    assert_eq!(rt; told_of(rt.alloc(), 9, 2, None, INFO)?.len(), 0);
+    assert_eq!(rt;
+        told_of(rt.alloc(), Profile::Strict, 9, 2, None, INFO)?.len(),
+        0
+    );
     Ok(())
 }
 
