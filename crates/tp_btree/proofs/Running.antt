@@ -1,7 +1,7 @@
 -- One call after another.
-use Rattle.std.proofs.Common.{◌≡◌, ℕ, ◌+◌, ◌≤◌, Bool, true, false, refl, sym, ap, subst, ◌∙◌, arith, rules}
+use Rattle.std.proofs.Common.{◌≡◌, ℕ, ◌+◌, ◌≤◌, Bool, true, false, refl, sym, ap, subst, ◌∙◌, arith, rules, set}
 use Rattle.std.specs.Prelude.{not}
-use Rattle.tp_model.specs.Disk.{DiskState, FaultHasCause, after_read}
+use Rattle.tp_model.specs.Disk.{DiskState, FaultHasCause, IsSameDisk, after_read}
 use Rattle.tp_tm.specs.Tm.{Tm, free_metadata, used_metadata}
 use Rattle.tp_tm.specs.Keeps.{LeavesKept}
 use Rattle.tp_tm.proofs.Keeping.{joins_kept, read_kept, starts_kept}
@@ -78,3 +78,25 @@ ran_read n fault old new a b g mk dk hr room used e = record {
     cause : (fault : Bool) → FaultHasCause fault a (after_read (not fault) a)
     cause true = record { no_fewer = omega arith; more = λ f. omega arith; none = λ f. search (rules, f) }
     cause false = record { no_fewer = omega arith; more = λ f. search (rules, f); none = λ f. refl }
+
+-- a block was taken, and then another call made
+pub ran_taken : (fault : Bool) (old mid new : Tm) (a b : DiskState) (block : ℕ) → mid ≡ record old { metadata_now = set old.metadata_now block 1 } → free_metadata old ≤ free_metadata mid + 1
+    → used_metadata mid ≤ used_metadata old + 1 → Ran 0 fault mid new a b → Ran 1 fault old new a b
+ran_taken fault old mid new a b block taken room used p =
+    ran_then 1 0 1 fault old mid new a a b (omega arith)
+    (ran_still 1 old mid a (ap (λ (t : Tm). t.geometry) taken) (ap (λ (t : Tm). t.metadata_kept) taken) (ap (λ (t : Tm). t.data_kept) taken) (ap (λ (t : Tm). t.held_root) taken) room used) p
+
+-- a write, by which no block is taken
+pub ran_wrote : (fault : Bool) (old new : Tm) (a b : DiskState) → new ≡ old → LeavesKept old.metadata_kept a b → IsSameDisk a b → FaultHasCause fault a b → b.flushes ≡ a.flushes → Ran 0 fault old new a b
+ran_wrote fault old new a b e moments same cause flushes = record {
+  geometry = ap (λ (t : Tm). t.geometry) e;
+  metadata_kept = ap (λ (t : Tm). t.metadata_kept) e;
+  data_kept = ap (λ (t : Tm). t.data_kept) e;
+  held_root = ap (λ (t : Tm). t.held_root) e;
+  room = omega (arith, ap free_metadata e);
+  used = omega (arith, ap used_metadata e);
+  any_moment = moments;
+  same_disk = same;
+  cause = cause;
+  flushes = flushes;
+}

@@ -325,3 +325,8 @@ returns-clause-room g t c honest opens held s k low high w fits =
     let r = c.add.ensures.room (subst (λ (z : DiskState). IsTrue z.is_honest) (sym c.in_ok-own.ensures.state) honest) (c.in_ok-own.own ∷ opens) (others (node_at s c.args.from).entries i ++ held) o.shadowed.after q.below
     (get_or (node_at s c.args.from).entries i blank).key (first_key (drop (suc i) (node_at s c.args.from).entries) high) (child_ready g t a opens held s k low high c.rank-rank.result c.in_ok-child.child w o q at) q.fits in
     omega (arith, r, c.in_ok-own.ensures.free, q.deeper, c.graft.ensures.ran.room)
+
+pub returns-then-node-eq0-clause-ran : goal.returns-then-node-eq0-clause-ran
+returns-then-node-eq0-clause-ran g t c =
+    ran_then 1 1 (2 * (c.args.top + 1)) (is_fault c.put_new.result) c.args.tm.now c.shadow.new.self c.put_new.new.tm (g.D.Disk.state c.args.disk.now) (g.D.Disk.state c.shadow.new.disk) (g.D.Disk.state c.put_new.new.disk) (omega arith)
+    (opened_ran g t (goal.at.returns-then-node-eq0-clause-ran g t c).After-node_in-node) c.put_new.ensures.ran

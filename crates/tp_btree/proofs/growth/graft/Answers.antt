@@ -1,12 +1,15 @@
-use Rattle.std.proofs.Common.{◌≡◌, ◌∙◌, ap, sym, subst, refl}
+use Rattle.std.proofs.Common.{◌≡◌, ◌∙◌, ap, sym, subst, refl, arith, false}
 use Rattle.std.proofs.lemmas.Result.{IfOk-weaker}
 use Rattle.tp_layout.specs.Node.{IsNode, NodeValue}
 use Rattle.tp_layout.specs.Value.{node_value}
 use Rattle.tp_trees.specs.Growth.{One}
-use Rattle.tp_btree.specs.Inserts.{CanPlace, IsBetween, grown, with_traded}
+use Rattle.tp_btree.specs.Inserts.{CanPlace, IsBetween, Ran, grown, with_traded}
 use Rattle.tp_btree.proofs.Grafting.{halves_traded, middle_new, whole_traded}
 use Rattle.tp_btree.proofs.Splitting.{lands_one}
 use Rattle.tp_btree.proofs.Writing.{written_value}
+use Rattle.std.proofs.lemmas.Result.{err_from_is_err_and}
+use Rattle.tp_counts.proofs.Refusing.{fault_is}
+use Rattle.tp_btree.proofs.Running.{ran_more}
 use Rattle.tp_btree.proofs.growth.graft.Goals as goal
 
 pub returns-in_ok-write-in-Whole-clause-grafted : goal.returns-in_ok-write-in-Whole-clause-grafted
@@ -46,3 +49,18 @@ returns-in-Halves-clause-damaged g c e b =
     let v = node_value c.exchange_child-in-Halves.new.node in
     let between = subst (λ p. IsBetween n.entries c.args.i (grown p)) c.in-Halves.is b in
     c.put_new.ensures.damaged e (middle_new n v c.args.i c.in-Halves.child c.in-Halves.middle c.in-Halves.other c.exchange_child-in-Halves.ensures.good c.requires.within between c.exchange_child-in-Halves.ensures.value)
+
+pub returns-in_err-write-in-Whole-clause-ran : goal.returns-in_err-write-in-Whole-clause-ran
+returns-in_err-write-in-Whole-clause-ran g c =
+    let p = err_from_is_err_and c.from_residual.result c.from_residual.ensures.1 in
+    let d0 = g.D.Disk.state c.args.disk.now in
+    let d1 = g.D.Disk.state c.write.new.disk in
+    subst (λ b. Ran 1 b c.args.tm.now c.write.new.tm d0 d1) (sym (fault_is c.from_residual.result p.0 c.in_err-write-in-Whole.field-0.0 p.1 p.2))
+    (ran_more 0 1 _ c.args.tm.now c.write.new.tm d0 d1 (omega arith) c.in_err-write-in-Whole.ensures.ran)
+
+pub returns-in_ok-write-in-Whole-clause-ran : goal.returns-in_ok-write-in-Whole-clause-ran
+returns-in_ok-write-in-Whole-clause-ran g c =
+    ran_more 0 1 false c.args.tm.now c.write.new.tm (g.D.Disk.state c.args.disk.now) (g.D.Disk.state c.write.new.disk) (omega arith) c.in_ok-write-in-Whole.ensures.ran
+
+pub returns-in-Halves-clause-ran : goal.returns-in-Halves-clause-ran
+returns-in-Halves-clause-ran g c = c.put_new.ensures.ran

@@ -1,15 +1,17 @@
-use Rattle.std.proofs.Common.{rules, ◌≡◌, ◌∙◌, ◌+◌, ◌*◌, ◌<◌, ◌∷◌, IsTrue, ap, sym, subst, arith}
+use Rattle.std.proofs.Common.{rules, ◌≡◌, ◌∙◌, ◌+◌, ◌*◌, ◌<◌, ◌∷◌, IsTrue, ap, sym, subst, arith, false}
 use Rattle.std.proofs.lemmas.Result.{IfOk-weaker}
 use Rattle.tp_counts.specs.StoreErrors.{is_fault}
 use Rattle.tp_layout.specs.Node.{most_level}
-use Rattle.tp_btree.proofs.Running.{ran_then}
+use Rattle.tp_btree.proofs.Running.{ran_more, ran_then}
 use Rattle.tp_refs.specs.Store.{first_named, moved_by, node_at}
 use Rattle.tp_trees.specs.Growth.{Two}
 use Rattle.tp_trees.proofs.Trees.{tree_rank}
 use Rattle.tp_tm.specs.Holds.{Holds}
 use Rattle.tp_btree.specs.Trees.{base_of}
-use Rattle.tp_btree.specs.Inserts.{AreInside, Crowned, Grew, InsertedAt, grown}
+use Rattle.tp_btree.specs.Inserts.{AreInside, Crowned, Grew, InsertedAt, Ran, grown}
 use Rattle.tp_btree.proofs.Crowning.{halves_inserted, not_highest, wanted, whole_inserted}
+use Rattle.std.proofs.lemmas.Result.{err_from_is_err_and}
+use Rattle.tp_counts.proofs.Refusing.{fault_is}
 use Rattle.tp_btree.proofs.insertion.insert.Goals as goal
 
 pub overflow_cast-block : goal.overflow_cast-block
@@ -77,3 +79,16 @@ pub returns-in-Halves-clause-ran : goal.returns-in-Halves-clause-ran
 returns-in-Halves-clause-ran g c =
     ran_then (2 * (c.most_level.result + 1)) 1 (2 * (most_level c.args.kind + 1) + 1) (is_fault c.crown.result) c.args.tm.now c.add.new.tm c.crown.new.tm (g.D.Disk.state c.args.disk.now) (g.D.Disk.state c.add.new.disk) (g.D.Disk.state c.crown.new.disk)
     (omega (arith, c.most_level.ensures)) c.in_ok-block.ensures.ran c.crown.ensures.ran
+
+pub returns-in_err-block-clause-ran : goal.returns-in_err-block-clause-ran
+returns-in_err-block-clause-ran g c =
+    let p = err_from_is_err_and c.from_residual.result c.from_residual.ensures.1 in
+    let d0 = g.D.Disk.state c.args.disk.now in
+    let d1 = g.D.Disk.state c.add.new.disk in
+    subst (λ b. Ran (2 * (most_level c.args.kind + 1) + 1) b c.args.tm.now c.add.new.tm d0 d1) (sym (fault_is c.from_residual.result p.0 c.in_err-block.field-0.0 p.1 p.2))
+    (ran_more (2 * (c.most_level.result + 1)) (2 * (most_level c.args.kind + 1) + 1) _ c.args.tm.now c.add.new.tm d0 d1 (omega (arith, c.most_level.ensures)) c.in_err-block.ensures.ran)
+
+pub returns-in-Whole-clause-ran : goal.returns-in-Whole-clause-ran
+returns-in-Whole-clause-ran g c =
+    ran_more (2 * (c.most_level.result + 1)) (2 * (most_level c.args.kind + 1) + 1) false c.args.tm.now c.add.new.tm (g.D.Disk.state c.args.disk.now) (g.D.Disk.state c.add.new.disk)
+    (omega (arith, c.most_level.ensures)) c.in_ok-block.ensures.ran

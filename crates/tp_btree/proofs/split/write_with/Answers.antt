@@ -1,12 +1,15 @@
-use Rattle.std.proofs.Common.{◌≡◌, ◌∙◌, ap, sym, subst, refl, get_or}
+use Rattle.std.proofs.Common.{◌≡◌, ◌∙◌, ap, sym, subst, refl, get_or, arith, false}
 use Rattle.tp_layout.specs.Node.{IsNode, NodeValue}
 use Rattle.tp_layout.specs.Value.{node_value}
 use Rattle.tp_trees.specs.Tree.{blank}
 use Rattle.tp_trees.specs.Growth.{One, Two}
 use Rattle.tp_tm.specs.Tm.{Tm}
-use Rattle.tp_btree.specs.Inserts.{AreWritten, CanPlace, with_new}
+use Rattle.tp_btree.specs.Inserts.{AreWritten, CanPlace, Ran, with_new}
 use Rattle.tp_btree.proofs.Splitting.{lands_one, lands_two, lower_of, upper_of}
 use Rattle.tp_btree.proofs.Writing.{written_value}
+use Rattle.std.proofs.lemmas.Result.{err_from_is_err_and}
+use Rattle.tp_counts.proofs.Refusing.{fault_is}
+use Rattle.tp_btree.proofs.Running.{ran_more, ran_taken}
 use Rattle.tp_btree.proofs.split.write_with.Goals as goal
 
 pub returns-then-len-most_entries-clause-placed : goal.returns-then-len-most_entries-clause-placed
@@ -43,3 +46,28 @@ returns-clause-placed g c =
     (lands_two m t0 t d0 u d1 n left right other (get_or c.deref.result.now 0 blank).key refl c.requires.inside c.fresh-own.ensures.inside c.split_put-upper.ensures.whole c.requires.good.form.level
     c.split_put-upper.ensures.left_full c.split_put-upper.ensures.right_full (subst IsNode c.split_put-upper.ensures.left c.split_put-upper.ensures.left_good) (subst IsNode c.split_put-upper.ensures.right c.split_put-upper.ensures.right_good)
     (ap (λ xs. (get_or xs 0 blank).key) (sym c.deref.ensures.0)) (c.fresh-own.ensures.unnamed d0) (c.fresh-own.ensures.holds d0) wrote))
+
+pub returns-in_err-write-clause-ran : goal.returns-in_err-write-clause-ran
+returns-in_err-write-clause-ran g c =
+    let p = err_from_is_err_and c.from_residual.result c.from_residual.ensures.1 in
+    let d0 = g.D.Disk.state c.args.disk.now in
+    let d1 = g.D.Disk.state c.write.new.disk in
+    subst (λ b. Ran 1 b c.args.tm.now c.write.new.tm d0 d1) (sym (fault_is c.from_residual.result p.0 c.in_err-write.field-0.0 p.1 p.2))
+    (ran_more 0 1 _ c.args.tm.now c.write.new.tm d0 d1 (omega arith) c.in_err-write.ensures.ran)
+
+pub returns-then-len-most_entries-clause-ran : goal.returns-then-len-most_entries-clause-ran
+returns-then-len-most_entries-clause-ran g c =
+    ran_more 0 1 false c.args.tm.now c.write.new.tm (g.D.Disk.state c.args.disk.now) (g.D.Disk.state c.write.new.disk) (omega arith) c.in_ok-write.ensures.ran
+
+pub returns-in_err-write_two-clause-ran : goal.returns-in_err-write_two-clause-ran
+returns-in_err-write_two-clause-ran g c =
+    let p = err_from_is_err_and c.from_residual-in_err-write_two.result c.from_residual-in_err-write_two.ensures.1 in
+    let d0 = g.D.Disk.state c.args.disk.now in
+    let d1 = g.D.Disk.state c.write_two.new.disk in
+    subst (λ b. Ran 1 b c.args.tm.now c.write_two.new.tm d0 d1) (sym (fault_is c.from_residual-in_err-write_two.result p.0 c.in_err-write_two.field-0.0 p.1 p.2))
+    (ran_taken _ c.args.tm.now c.fresh-own.new.self c.write_two.new.tm d0 d1 c.fresh-own.result c.fresh-own.ensures.taken c.fresh-own.ensures.room c.fresh-own.ensures.used c.in_err-write_two.ensures.ran)
+
+pub returns-clause-ran : goal.returns-clause-ran
+returns-clause-ran g c =
+    ran_taken false c.args.tm.now c.fresh-own.new.self c.write_two.new.tm (g.D.Disk.state c.args.disk.now) (g.D.Disk.state c.write_two.new.disk) c.fresh-own.result
+    c.fresh-own.ensures.taken c.fresh-own.ensures.room c.fresh-own.ensures.used c.in_ok-write_two.ensures.ran
