@@ -3,6 +3,8 @@ pub mod Placing
 pub mod Turning
 pub mod Hearing
 pub mod Taking
+mod Idling
+pub mod Whole
 mod Sharing
 pub mod Tracing
 pub mod Pairing
@@ -12,3 +14,5 @@ mod Carrying
 mod Least
 mod Asking
 pub mod Living
+mod Covering
+mod Wrote

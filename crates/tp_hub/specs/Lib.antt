@@ -1,5 +1,6 @@
 pub mod Told
 pub mod Runs
+pub mod Parts
 pub mod Serving
 pub mod Places
 pub mod Pairs
@@ -9,4 +10,5 @@ pub mod Carrying
 pub mod Logs
 pub mod Serve
 pub mod Lives
+pub mod Covered
 pub mod Seats

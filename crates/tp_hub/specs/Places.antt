@@ -24,6 +24,10 @@ abbrev pub IsOpenSlot : Option State → Type 0
 IsOpenSlot None = Unit {0}
 IsOpenSlot (Some s) = has_ended s.phase ≡ false
 
+-- no part of a request of what stands at a place is left
+abbrev pub IsIdleSlot : Option State → Type 0
+IsIdleSlot slot = is_at_work (shown slot).phase ≡ false
+
 -- the same sessions but for one
 abbrev pub put : Sessions → ℕ → State → Sessions
 put at n s i = if i == n then s else at i

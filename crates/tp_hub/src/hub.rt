@@ -1,9 +1,10 @@
 //! Many sessions over the volumes of one pool.
 
-ghost use Rattle.std.specs.Prelude.{◌≡◌, ◌<◌, ◌≤◌, length, map, drop, All, IfSome, None, is_some};
+ghost use Rattle.std.specs.Prelude.{◌≡◌, ◌<◌, ◌≤◌, ℕ, [], true, false, length, map, drop, All, IfSome, None, is_some};
 ghost use Rattle.std.specs.FinMap.{empty};
 ghost use Rattle.tp_model.specs.Clauses.{PoolCall};
-ghost use Rattle.tp_hub.specs.Runs.{IsPartOfNext, IsShortOfNext, Runs, incoming, session_of, taken_of};
+ghost use Rattle.tp_hub.specs.Runs.{Brings, IsPartOfNext, IsShortOfNext, Runs, incoming, session_of, taken_of};
+ghost use Rattle.tp_hub.specs.Parts.{BringIdle, IsIdle, StayIdle, is_parted_to};
 ghost use Rattle.tp_hub.specs.Places.{TakesEvent};
 ghost use Rattle.nbd_session.specs.Session.{is_at_work};
 ghost use Rattle.tp_hub.specs.Serve.{AreAllOpen, IsLeastFree};
@@ -14,7 +15,7 @@ use crate::event::Event;
 use crate::orders::{take_flush, take_message, take_status, take_thin_status};
 use crate::seat::{Seat, seat_at};
 use crate::shared::ask_place;
-use crate::slot::{Took, hear_slot, leave_place, leave_slot, open_slot, part_slot};
+use crate::slot::{Took, hear_slot, leave_place, leave_slot, open_slot};
 use nbd_session::Session;
 use std::alloc::Global;
 use std::marker::Model;
@@ -154,6 +155,7 @@ impl<V: Managed> Hub<V> {
     ghost use Rattle.tp_model.specs.Clauses.{PoolCall, TracedCall, outline_of_traced};
     ghost use Rattle.nbd_session.specs.Clauses.{GoesWithTrace};
     ghost use Rattle.tp_hub.specs.Runs.{IsPartOfNext, IsShortOfNext, Runs, incoming, session_of, taken_of};
+    ghost use Rattle.tp_hub.specs.Parts.{BringIdle, StayIdle};
     ghost use Rattle.tp_hub.specs.Serving.{sessions_of};
 
     /// Takes events one after another, and adds their answers. What is sent is that of the sessions' turns, in the order of the events.
@@ -179,6 +181,8 @@ impl<V: Managed> Hub<V> {
         ensures part { IsPartOfNext (sessions_of self.new.slots) (drop result.events (map incoming events.now)) result.bytes }
         ensures short { IsShortOfNext (sessions_of self.new.slots) (drop result.events (map incoming events.now)) result.bytes out.new }
         ensures within { result.events ≤ length events.now }
+        ensures idle { StayIdle (sessions_of self.old.slots) events.now (sessions_of self.new.slots) }
+        ensures made { BringIdle events.now result.events (sessions_of self.new.slots) }
     {
         run_events(&mut self.sessions, &mut self.pool, alloc, events, out)
     }
@@ -241,6 +245,8 @@ fn run_events<V: Managed>(
     ensures part { IsPartOfNext (sessions_of sessions.new) (drop result.events (map incoming events.now)) result.bytes }
     ensures short { IsShortOfNext (sessions_of sessions.new) (drop result.events (map incoming events.now)) result.bytes out.new }
     ensures within { result.events ≤ length events.now }
+    ensures idle { StayIdle (sessions_of sessions.old) events.now (sessions_of sessions.new) }
+    ensures made { BringIdle events.now result.events (sessions_of sessions.new) }
     ensures serves { Serves (V.view.outline pool.new) (V.view.more pool.new) sessions.new }
 {
     for (i, event) in events.iter().enumerate() {
@@ -268,7 +274,9 @@ fn take_event<V: Managed>(
 ) -> Took
     requires serves { Serves (V.view.outline pool.old) (V.view.more pool.old) sessions.old }
     requires number { session_of event.now < 64 }
-    ensures { TakesEvent V.view (incoming event.now) sessions.old pool.old result.whole result.bytes out.old out.new sessions.new pool.new }
+    ensures takes { TakesEvent V.view (incoming event.now) sessions.old pool.old result.whole result.bytes out.old out.new sessions.new pool.new }
+    ensures idle { (n : ℕ) → is_parted_to n event.now ≡ false → IsIdle (sessions_of sessions.old) n → IsIdle (sessions_of sessions.new) n }
+    ensures made { (n : ℕ) → is_parted_to n event.now ≡ false → incoming event.now ≡ Brings n [] → result.whole ≡ true → IsIdle (sessions_of sessions.new) n }
 {
     match *event {
         Event::Open(number, profile) => {
@@ -281,10 +289,24 @@ fn take_event<V: Managed>(
             )
         }
         Event::Bytes(number, piece) => {
-            hear_slot(&mut sessions[usize::from(number)], pool, number, piece, out)
+            hear_slot(
+                &mut sessions[usize::from(number)],
+                pool,
+                number,
+                piece,
+                false,
+                out,
+            )
         }
         Event::Parted(number, piece) => {
-            part_slot(&mut sessions[usize::from(number)], pool, number, piece, out)
+            hear_slot(
+                &mut sessions[usize::from(number)],
+                pool,
+                number,
+                piece,
+                true,
+                out,
+            )
         }
         Event::Hangup(number) => {
             leave_slot(&mut sessions[usize::from(number)], pool, number, out)

@@ -8,7 +8,7 @@ ghost use Rattle.nbd_session.specs.Clauses.{IsCalm, IsReady};
 ghost use Rattle.nbd_wire.specs.Replies.{greeting};
 ghost use Rattle.tp_hub.specs.Runs.{Brings, Comes, Goes};
 ghost use Rattle.tp_hub.specs.Told.{Grows, HasRoom, IsFull, Refuses, Says};
-ghost use Rattle.tp_hub.specs.Places.{HearsAnywhere, HearsSo, IsOpenSlot, IsReadySlot, IsRest, KeepsServing, SlotTakes, put};
+ghost use Rattle.tp_hub.specs.Places.{HearsAnywhere, HearsSo, IsIdleSlot, IsOpenSlot, IsReadySlot, IsRest, KeepsServing, SlotTakes, put};
 ghost use Rattle.tp_hub.specs.Serving.{LeaveTo, shown};
 
 use crate::answers::{Answers, Mark};
@@ -76,7 +76,8 @@ fn hear<V: Volumes>(
     requires ready { IsReady session.old.phase (V.view.outline pool.old) (V.view.more pool.old) }
     requires open { has_ended session.old.phase ≡ false }
     requires idle { is_at_work session.old.phase ≡ false }
-    ensures { HearsSo V.view number is_parted session.old pool.old piece.now out.old out.new session.new pool.new result }
+    ensures heard { HearsSo V.view number is_parted session.old pool.old piece.now out.old out.new session.new pool.new result }
+    ensures idle { is_parted ≡ false → is_at_work session.new.phase ≡ false }
 {
     let _ = session.phase();
     let mut at = 0;
@@ -133,7 +134,8 @@ pub fn open_slot<V: Volumes>(
     out: &mut Answers,
 ) -> Took
     requires { IsOpenSlot slot.old }
-    ensures { (pool : V) → SlotTakes V.view (Comes number profile) slot.old pool result.whole result.bytes out.old out.new slot.new pool }
+    ensures takes { (pool : V) → SlotTakes V.view (Comes number profile) slot.old pool result.whole result.bytes out.old out.new slot.new pool }
+    ensures idle { IsIdleSlot slot.old → IsIdleSlot slot.new }
 {
     if out.make_room().is_err() {
         return NOTHING;
@@ -156,18 +158,21 @@ pub fn open_slot<V: Volumes>(
     }
 }
 
-/// A session that has parts of a request left makes them where no text comes, and else refuses that: it is asked to make them first.
+/// A session that has parts of a request left makes them where no text comes, or one of them where it is parted, and else refuses that: it is asked to make
+/// them first.
 fn go_on<V: Volumes>(
     session: &mut Session,
     pool: &mut V,
     number: u8,
     piece: &[u8],
+    is_parted: bool,
     out: &mut Answers,
 ) -> Took
     requires ready { IsReady session.old.phase (V.view.outline pool.old) (V.view.more pool.old) }
     requires open { has_ended session.old.phase ≡ false }
     requires work { is_at_work session.old.phase ≡ true }
-    ensures { SlotTakes V.view (Brings number piece.now) (Some session.old) pool.old result.whole result.bytes out.old out.new (Some session.new) pool.new }
+    ensures takes { SlotTakes V.view (Brings number piece.now) (Some session.old) pool.old result.whole result.bytes out.old out.new (Some session.new) pool.new }
+    ensures made { is_parted ≡ false → piece.now ≡ [] → result.whole ≡ true → is_at_work session.new.phase ≡ false }
 {
     if out.make_room().is_err() {
         return NOTHING;
@@ -176,64 +181,13 @@ fn go_on<V: Volumes>(
         out.note(Mark::Refused {
             reason: Refusal::SessionInUse,
         });
+        return WHOLE;
+    }
+    if is_parted {
+        out.hear(session, pool, number, piece);
         return WHOLE;
     }
     work_off(session, pool, number, out);
-    WHOLE
-}
-
-/// A session's client sends a piece.
-pub fn hear_slot<V: Volumes>(
-    slot: &mut Option<Session>,
-    pool: &mut V,
-    number: u8,
-    piece: &[u8],
-    out: &mut Answers,
-) -> Took
-    requires { IsReadySlot slot.old (V.view.outline pool.old) (V.view.more pool.old) }
-    ensures { SlotTakes V.view (Brings number piece.now) slot.old pool.old result.whole result.bytes out.old out.new slot.new pool.new }
-{
-    match slot {
-        None => refuse(out),
-        Some(session) if session.is_at_work() => go_on(session, pool, number, piece, out),
-        Some(session) => match hear(session, pool, number, piece, false, out) {
-            Heard::Whole => WHOLE,
-            Heard::Stopped(bytes) => Took {
-                whole: false,
-                bytes,
-            },
-            Heard::Parted(_) => unreachable!(),
-            Heard::Over => {
-                *slot = None;
-                WHOLE
-            }
-        },
-    }
-}
-
-/// A session that has parts of a request left makes one where no text comes, and else refuses that.
-fn make_part<V: Volumes>(
-    session: &mut Session,
-    pool: &mut V,
-    number: u8,
-    piece: &[u8],
-    out: &mut Answers,
-) -> Took
-    requires ready { IsReady session.old.phase (V.view.outline pool.old) (V.view.more pool.old) }
-    requires open { has_ended session.old.phase ≡ false }
-    requires work { is_at_work session.old.phase ≡ true }
-    ensures { SlotTakes V.view (Brings number piece.now) (Some session.old) pool.old result.whole result.bytes out.old out.new (Some session.new) pool.new }
-{
-    if out.make_room().is_err() {
-        return NOTHING;
-    }
-    if !piece.is_empty() {
-        out.note(Mark::Refused {
-            reason: Refusal::SessionInUse,
-        });
-        return WHOLE;
-    }
-    out.hear(session, pool, number, piece);
     WHOLE
 }
 
@@ -250,21 +204,26 @@ fn up_to(bytes: usize, len: usize) -> Took
     }
 }
 
-/// The same up to where a long request begins, or one part of one.
-pub fn part_slot<V: Volumes>(
+/// A session's client sends a piece, which is heard up to where a long request begins, or of which one part is made, where it is parted.
+pub fn hear_slot<V: Volumes>(
     slot: &mut Option<Session>,
     pool: &mut V,
     number: u8,
     piece: &[u8],
+    is_parted: bool,
     out: &mut Answers,
 ) -> Took
     requires { IsReadySlot slot.old (V.view.outline pool.old) (V.view.more pool.old) }
-    ensures { SlotTakes V.view (Brings number piece.now) slot.old pool.old result.whole result.bytes out.old out.new slot.new pool.new }
+    ensures takes { SlotTakes V.view (Brings number piece.now) slot.old pool.old result.whole result.bytes out.old out.new slot.new pool.new }
+    ensures idle { is_parted ≡ false → IsIdleSlot slot.old → IsIdleSlot slot.new }
+    ensures made { is_parted ≡ false → piece.now ≡ [] → result.whole ≡ true → IsIdleSlot slot.new }
 {
     match slot {
         None => refuse(out),
-        Some(session) if session.is_at_work() => make_part(session, pool, number, piece, out),
-        Some(session) => match hear(session, pool, number, piece, true, out) {
+        Some(session) if session.is_at_work() => go_on(
+            session, pool, number, piece, is_parted, out,
+        ),
+        Some(session) => match hear(session, pool, number, piece, is_parted, out) {
             Heard::Whole => WHOLE,
             Heard::Stopped(bytes) => Took {
                 whole: false,
@@ -287,7 +246,8 @@ pub fn leave_slot<V: Volumes>(
     out: &mut Answers,
 ) -> Took
     requires { IsReadySlot slot.old (V.view.outline pool.old) (V.view.more pool.old) }
-    ensures { SlotTakes V.view (Goes number) slot.old pool.old result.whole result.bytes out.old out.new slot.new pool.new }
+    ensures takes { SlotTakes V.view (Goes number) slot.old pool.old result.whole result.bytes out.old out.new slot.new pool.new }
+    ensures idle { IsIdleSlot slot.old → IsIdleSlot slot.new }
 {
     if out.make_room().is_err() {
         return NOTHING;

@@ -21,6 +21,8 @@ mod script;
 mod talk;
 #[cfg(test)]
 mod watched;
+#[cfg(test)]
+mod zeroed;
 
 /// A library has a public item at least: this crate has nothing but tests.
 pub fn tests_only() {}

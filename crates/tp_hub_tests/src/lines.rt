@@ -2,6 +2,7 @@
 
 ghost use Rattle.std.specs.Prelude.{◌≡◌};
 
+use nbd_session::Profile;
 use std::alloc::Global;
 use std::io;
 use std::io::{ErrorKind, Read, Write};
@@ -99,7 +100,7 @@ fn play<'a, D: Desk, R: Read, W: Write, K: Begins>(
     requires { K.opening ≡ record { reader = ends.input.ghost_name; writer = ends.output.ghost_name; left = R.remaining ends.input.now; told = W.contents ends.output.now } }
 {
     let mut piped = Piped::<R, W, K>::begin(ends);
-    let ended = play_script(alloc, desk, &mut piped);
+    let ended = play_script(alloc, desk, &Profile::Strict, &mut piped);
     (piped.end(), ended)
 }
 

@@ -1,8 +1,9 @@
-use Rattle.std.proofs.Common.{◌≡◌, ◌∙◌, ◌+◌, [], Some, false, true, take, subst, sym, arith, append-nil, length-drop}
+use Rattle.std.proofs.Common.{◌≡◌, ◌∙◌, ◌+◌, [], Some, false, true, true≢false, take, subst, sym, arith, append-nil, length-drop}
 use Rattle.std.proofs.lemmas.List.{take_all, take_rest}
 use Rattle.tp_hub.specs.Places.{HearsAnywhere}
 use Rattle.nbd_session.specs.Session.{has_ended}
 use Rattle.tp_hub.proofs.Hearing.{hears_join, hears_more, hears_none, hears_wide, keeps_more, keeps_none, keeps_over, keeps_then, left_some, part_is_silent, told_end}
+use Rattle.tp_hub.proofs.Idling.{ended_is_idle}
 use Rattle.tp_hub.proofs.Placing.{ended_is}
 use Rattle.tp_hub.proofs.Telling.{on_err, on_ok}
 use Rattle.tp_hub.proofs.slot.hear.Goals as goal
@@ -19,8 +20,8 @@ loop-at-init g c =
       keeps = keeps_none view c.args.number (Some c.args.session.now) c.args.pool.now;
     }
 
-pub returns-then-is_err : goal.returns-then-is_err
-returns-then-is_err g c =
+pub returns-then-is_err-clause-heard : goal.returns-then-is_err-clause-heard
+returns-then-is_err-clause-heard g c =
     let view = g.V.Volumes.view in (
       c.loop-at-test.true,
       hears_wide view c.args.number c.args.session.now c.loop-at.session c.args.pool.now c.loop-at.pool (take c.loop-at.at c.args.piece.now) c.args.out.now c.loop-at.out c.make_room.new.self c.loop-at.invariant.hears c.make_room.ensures.list c.make_room.ensures.room c.make_room.ensures.marks,
@@ -29,8 +30,8 @@ returns-then-is_err g c =
       on_err c.make_room.result (sym c.is_err.ensures.value ∙ c.if-is_err.true) c.make_room.ensures.full,
     )
 
-pub returns-then-step : goal.returns-then-step
-returns-then-step g c =
+pub returns-then-step-clause-heard : goal.returns-then-step-clause-heard
+returns-then-step-clause-heard g c =
     let view = g.V.Volumes.view in
     let e = c.hear-step.ensures in
     let some = left_some c.loop-at.at c.args.piece.now _ c.loop-at-test.true (take_rest c.args.piece.now c.loop-at.at) in
@@ -42,8 +43,8 @@ returns-then-step g c =
       keeps_over view c.args.number c.args.session.now c.loop-at.session c.hear-step.new.session c.args.pool.now c.loop-at.pool c.hear-step.new.pool _ e.0 c.hear-step.result.taken c.hear-step.result.ended c.loop-at.invariant.keeps e.1 over,
     )
 
-pub returns-then-is_at_work : goal.returns-then-is_at_work
-returns-then-is_at_work g c =
+pub returns-then-is_at_work-clause-heard : goal.returns-then-is_at_work-clause-heard
+returns-then-is_at_work-clause-heard g c =
     let view = g.V.Volumes.view in
     let e = c.hear-step.ensures in
     let rest_is = take_rest c.args.piece.now c.loop-at.at in
@@ -93,11 +94,27 @@ loop-at-preserved g c =
       keeps = keeps_then view c.args.number (Some c.args.session.now) (Some c.hear-step.new.session) (Some c.work_off.new.session) c.args.pool.now c.hear-step.new.pool c.work_off.new.pool kept w.keeps;
     }
 
-pub returns : goal.returns
-returns g c =
+pub returns-clause-heard : goal.returns-clause-heard
+returns-clause-heard g c =
     let view = g.V.Volumes.view in
     let all = take_all c.loop-at.at c.args.piece.now (omega (arith, c.loop-at-test.false)) in (
       subst (λ t. HearsAnywhere view c.args.number c.args.session.now c.args.pool.now t c.args.out.now c.loop-at.out c.loop-at.session c.loop-at.pool) all c.loop-at.invariant.hears,
       c.loop-at.invariant.goes_on,
       c.loop-at.invariant.keeps,
     )
+
+pub returns-then-step-clause-idle : goal.returns-then-step-clause-idle
+returns-then-step-clause-idle g c none =
+    let view = g.V.Volumes.view in
+    let e = c.hear-step.ensures in
+    let over : has_ended c.hear-step.new.session.phase ≡ true = told_end view c.loop-at.session c.hear-step.new.session c.loop-at.pool c.hear-step.new.pool _ e.0 c.hear-step.result.taken c.hear-step.result.ended c.loop-at.invariant.goes_on e.1 ∙ c.if-step.true in
+    ended_is_idle c.hear-step.new.session.phase over
+
+pub returns-then-is_at_work-clause-idle : goal.returns-then-is_at_work-clause-idle
+returns-then-is_at_work-clause-idle g c none = absurd (true≢false (sym c.if-is_parted.true ∙ none))
+
+pub returns-then-is_err-clause-idle : goal.returns-then-is_err-clause-idle
+returns-then-is_err-clause-idle g c none = c.loop-at.invariant.idle
+
+pub returns-clause-idle : goal.returns-clause-idle
+returns-clause-idle g c none = c.loop-at.invariant.idle

@@ -1,0 +1,215 @@
+-- What a client was answered for a WRITE, and another one then for its FLUSH, is found behind a stop.
+use Rattle.std.proofs.Common.{◌≡◌, ◌≢◌, ◌⊎◌, ℕ, zero, ◌+◌, ◌-◌, ◌/◌, ◌<◌, ◌≤◌, ◌^◌, Bool, true, false, List, [], ◌∷◌, ◌++◌, length, get_or, Option, Some, None, inl, inr, refl, sym, ap, ap₂, subst, ◌∙◌, arith, append_assoc, append-nil}
+use Rattle.std.specs.Prelude.{◌&&◌, ◌||◌, ◌==◌, MatchOption, if◌then◌else◌, nat_le, nat_lt, slice_get, slice_index_or, not}
+use Rattle.std.specs.Option.{option_map, option_map_or}
+use Rattle.std.proofs.lemmas.Bool.{and_from, cases_eq, eq-eqb, le-leb, lt-ltb, ne_eqb}
+use Rattle.std.proofs.lemmas.Option.{get_or_from_slice_get, slice_get_within}
+use Rattle.tp_model.specs.declared.refusal.NbdError.{NbdError}
+use Rattle.tp_model.specs.declared.refusal.Refusal.{Refusal}
+use Rattle.tp_model.specs.declared.refusal.Refusal.TheVariants.{Fault}
+use Rattle.tp_model.specs.Geometry.{Geometry}
+use Rattle.tp_model.specs.Refusals.{nbd_error}
+use Rattle.tp_model.specs.Requests as forms
+use Rattle.tp_model.specs.Sectors.{Sector, sectors_of}
+use Rattle.tp_model.specs.Pool.{PlainPool, volume_sector}
+use Rattle.tp_model.specs.Calls.{Answer, Call, Done, Edits, Makes, Refused, Step, Takes, Write, after_refusal, is_within, refusal_of, reply, sector_after}
+use Rattle.tp_model.specs.PoolStops.{Event}
+use Rattle.tp_model.specs.Clauses.{Entry, Traced, TracedCall, View, events_of, outline_of_traced, traced}
+use Rattle.tp_model.proofs.DiskLaws.{length-chopped}
+use Rattle.tp_model.proofs.Editing.{volume_sector-edited}
+use Rattle.nbd_wire.specs.declared.Kind.TheVariants as kinds
+use Rattle.nbd_wire.specs.declared.Request.{Request}
+use Rattle.nbd_wire.specs.declared.TheConstants.{COMMAND_WRITE}
+use Rattle.nbd_wire.specs.Grammar.{IsFrame, Message, command, payload_len}
+use Rattle.nbd_wire.specs.Replies.{simple_reply}
+use Rattle.nbd_wire.proofs.Frames.{one_frame}
+use Rattle.nbd_session.specs.declared.phase.Course.TheVariants.{Listens}
+use Rattle.nbd_session.specs.declared.phase.Phase.{Phase}
+use Rattle.nbd_session.specs.declared.phase.Phase.TheVariants.{Transmission}
+use Rattle.nbd_session.specs.declared.request.Verdict.{Verdict}
+use Rattle.nbd_session.specs.declared.request.Verdict.TheVariants as verdicts
+use Rattle.nbd_session.specs.Requests.{form_of, has_fua, is_long, long_error, verdict_in, verdict_on}
+use Rattle.nbd_session.specs.Session.{Answers, Serves, State, Steps, TakesFrame, Waits, reply_to, state}
+use Rattle.nbd_session.specs.Turns.{AreTurns, Happened, IsFoundIn, Sessions, TakesTurn, Turn, closed, pool_after, sessions_after}
+use Rattle.tp_hub.proofs.Whole.{all_taken, state_is}
+use Rattle.tp_hub.proofs.Covering.{and_false, events_join, flush_covers, flush_keeps, no_error, pool_at, sessions_at, turn_in, turns_grow, written_stays}
+use Rattle.tp_hub.specs.Covered.{Covers, IsCovered, IsFlushed, IsKeptThere, IsNewer, IsThere, IsWritten}
+
+-- ---- the sector that a WRITE gives
+
+abbrev value_or : {B : Type 0} → B → Option B → B
+value_or d None = d
+value_or d (Some x) = x
+
+mapped : {A B : Type 0} (f : A → B) (o : Option A) (y : B) → option_map f o ≡ Some y → (x : A) × (y ≡ f x)
+mapped f None y is = absurd cc
+mapped f (Some x) y is = (x, ap (value_or (f x)) (sym is))
+
+gives : (g : Geometry) (id sector : ℕ) (sectors : List Sector) (fua : Bool) (k : ℕ) (x old : Sector) → slice_get sectors k ≡ Some x → sector_after g (Write id sector sectors fua) (sector + k) old ≡ x
+gives g id sector sectors fua k x old is =
+    let lt : k < length sectors = slice_get_within sectors k x is in
+    let low : sector ≤ sector + k = omega arith in
+    let high : sector + k < sector + length sectors = omega (arith, lt) in
+    let inside : is_within sector (length sectors) (sector + k) ≡ true = and_from _ _ (le-leb _ _ low) (lt-ltb _ _ high) in
+    let place : (sector + k) - sector ≡ k = omega arith in
+    ap (λ (b : Bool). if b then slice_index_or sectors ((sector + k) - sector) old else old) inside ∙ (ap (λ (i : ℕ). slice_index_or sectors i old) place ∙ get_or_from_slice_get sectors k x old is)
+
+-- a call that was done made what it makes
+made_by : (s made after : PlainPool) (call call' : Call) (answer : Answer) → call ≡ call' → answer ≡ Done → Takes s call answer made after → Makes s call' made
+made_by s made after call call' answer is done (inr fault) = let wrong : Done ≡ Refused Fault = sym done ∙ fault.0 in absurd cc
+made_by s made after call call' answer is done (inl step) = subst (Makes s call') (sym step.1) (by_refusal (refusal_of s call') (subst (λ (c : Call). Step s c answer after) is step.0))
+  where
+    by_refusal : (o : Option Refusal) → MatchOption o ((answer ≡ reply s call') × Makes s call' after) (λ reason. (answer ≡ Refused reason) × (after ≡ after_refusal reason s)) → Makes s call' after
+    by_refusal None h = h.1
+    by_refusal (Some reason) h = let wrong : Done ≡ Refused reason = sym done ∙ h.0 in absurd cc
+
+-- what a request comes to, and what it is where it is of none of the first kinds
+abbrev told_of : ℕ → Request → Verdict → Verdict
+told_of size r v = option_map_or verdicts.Refuse (forms.form_error size (form_of r)) v
+
+abbrev behind_writes : Request → Verdict
+behind_writes r = if forms.is_trim (form_of r) then verdicts.Trim else verdicts.WriteZeroes
+
+abbrev behind_reads : Request → Verdict
+behind_reads r = if r.kind == 1 then verdicts.Write else behind_writes r
+
+module _ (HasUse : PlainPool → Type 0) where
+  -- a WRITE that was answered without an error has an event in the trace
+  record Wrote (volume sector : ℕ) (sectors : List Sector) (p t : Traced) : Type 0 where
+    entry : Entry
+    trace_is : t.trace ≡ p.trace ++ entry ∷ []
+    gave : (k : ℕ) (x y : Sector) → slice_get sectors k ≡ Some x → volume_sector entry.event.made volume (sector + k) ≡ Some y → y ≡ x
+
+  write_answer : (s made after : PlainPool) (call : Call) (volume sector : ℕ) (sectors : List Sector) (fua : Bool) (answer : Answer) → call ≡ Write volume sector sectors fua → Takes s call answer made after → (answer ≡ Done) ⊎ ((reason : Refusal) × (answer ≡ Refused reason))
+  write_answer s made after call volume sector sectors fua answer is (inr fault) = inr (Fault, fault.0)
+  write_answer s made after call volume sector sectors fua answer is (inl step) = by_test (refusal_of s (Write volume sector sectors fua)) (subst (λ (c : Call). Step s c answer after) is step.0)
+    where
+      by_test : (o : Option Refusal) → MatchOption o ((answer ≡ Done) × Edits s (Write volume sector sectors fua) volume after) (λ reason. (answer ≡ Refused reason) × (after ≡ after_refusal reason s)) → (answer ≡ Done) ⊎ ((reason : Refusal) × (answer ≡ Refused reason))
+      by_test None h = inl h.0
+      by_test (Some reason) h = inr (reason, h.0)
+
+  done_by : (p t : Traced) (volume sector cookie : ℕ) (sectors : List Sector) (fua : Bool) (answer : Answer) → cookie < 2 ^ 64 → (calls : TracedCall HasUse p (Write volume sector sectors fua) answer t) → simple_reply 0 cookie [] ≡ reply_to cookie answer
+      → (calls.entry.event.answer ≡ Done) ⊎ ((reason : Refusal) × (calls.entry.event.answer ≡ Refused reason)) → Wrote volume sector sectors p t
+  done_by p t volume sector cookie sectors fua answer fits calls told (inr refused) = absurd (no_error (nbd_error refused.0) cookie fits (told ∙ ap (reply_to cookie) (sym calls.answer_is ∙ refused.1)))
+  done_by p t volume sector cookie sectors fua answer fits calls told (inl done) =
+      let call : Call = Write volume sector sectors fua in
+      let made : Edits p.pool call volume calls.entry.event.made = made_by p.pool calls.entry.event.made calls.is_trace.0 calls.entry.event.call call calls.entry.event.answer calls.call_is done calls.is_trace.2 in
+      record {
+        entry = calls.entry;
+        trace_is = calls.trace_is;
+        gave = λ k x y is there.
+            let m = mapped (sector_after p.pool.geometry call (sector + k)) (volume_sector p.pool volume (sector + k)) y (sym (volume_sector-edited p.pool call volume calls.entry.event.made made (sector + k)) ∙ there) in
+            m.1 ∙ gives p.pool.geometry volume sector sectors fua k x m.0 is;
+      }
+
+  by_verdict : (p t : Traced) (volume size : ℕ) (extended : Bool) (r : Request) (payload : List ℕ) (next : Phase) (o : Option NbdError) → r.cookie < 2 ^ 64
+      → Serves outline_of_traced (TracedCall HasUse) (option_map_or verdicts.Refuse o verdicts.Write) volume size extended r payload p (simple_reply 0 r.cookie []) next t → Wrote volume (r.offset / 512) (sectors_of payload) p t
+  by_verdict p t volume size extended r payload next (Some e) fits serves = absurd (no_error e r.cookie fits serves.0)
+  by_verdict p t volume size extended r payload next None fits serves =
+      let did = serves.0 in
+      done_by p t volume (r.offset / 512) r.cookie (sectors_of payload) (has_fua r) did.answer fits did.calls did.sent_is
+      (write_answer p.pool did.calls.entry.event.made did.calls.is_trace.0 did.calls.entry.event.call volume (r.offset / 512) (sectors_of payload) (has_fua r) did.calls.entry.event.answer did.calls.call_is did.calls.is_trace.2)
+
+  verdict_is : (extended : Bool) (size : ℕ) (r : Request) → r.kind ≡ COMMAND_WRITE → 0 < r.len → verdict_in extended size r ≡ option_map_or verdicts.Refuse (forms.form_error size (form_of r)) verdicts.Write
+  verdict_is extended size r is some =
+      let kind : r.kind ≡ 1 = is in
+      let trim : (r.kind == 4) ≡ false = ne_eqb r.kind 4 (λ f. absurd (omega (arith, kind, f))) in
+      let zeroes : (r.kind == 6) ≡ false = ne_eqb r.kind 6 (λ f. absurd (omega (arith, kind, f))) in
+      let disc : (r.kind == 2) ≡ false = ne_eqb r.kind 2 (λ f. absurd (omega (arith, kind, f))) in
+      let flush : (r.kind == 3) ≡ false = ne_eqb r.kind 3 (λ f. absurd (omega (arith, kind, f))) in
+      let reads : (r.kind == 0) ≡ false = ne_eqb r.kind 0 (λ f. absurd (omega (arith, kind, f))) in
+      let len : (r.len == 0) ≡ false = ne_eqb r.len 0 (λ f. absurd (omega (arith, some, f))) in
+      let writes : (r.kind == 1) ≡ true = eq-eqb r.kind 1 kind in
+      let short : (extended && is_long r) ≡ false = ap₂ (λ (a b : Bool). extended && (nat_lt 1048576 r.len && (a || b))) trim zeroes ∙ and_false extended (nat_lt 1048576 r.len) in
+      ap (λ (b : Bool). if b then option_map_or verdicts.Refuse (long_error size (form_of r)) verdicts.Long else verdict_on size r) short
+      ∙ (ap (λ (b : Bool). if b then verdicts.Disconnect else told_of size r (if r.kind == 3 then verdicts.Flush else if r.len == 0 then verdicts.Nothing else if r.kind == 0 then verdicts.Read else behind_reads r)) disc
+      ∙ (ap (λ (b : Bool). told_of size r (if b then verdicts.Flush else if r.len == 0 then verdicts.Nothing else if r.kind == 0 then verdicts.Read else behind_reads r)) flush
+      ∙ (ap (λ (b : Bool). told_of size r (if b then verdicts.Nothing else if r.kind == 0 then verdicts.Read else behind_reads r)) len
+      ∙ (ap (λ (b : Bool). told_of size r (if b then verdicts.Read else behind_reads r)) reads
+      ∙ ap (λ (b : Bool). told_of size r (if b then verdicts.Write else behind_writes r)) writes))))
+
+  write_enters : (at : Sessions) (p : Traced) (h : Happened Traced) → (w : IsWritten at h) → 0 < w.request.len → TakesTurn outline_of_traced (TracedCall HasUse) at p h.turn h.sessions h.pool
+      → Wrote w.volume (w.request.offset / 512) (sectors_of w.payload) p h.pool
+  write_enters at p h w some takes =
+      let n = w.session in
+      let r = w.request in
+      let phase : Phase = Transmission w.volume w.size (Listens w.extended) in
+      let held = (at n).held in
+      let here : at n ≡ state phase held = state_is (at n) phase held w.serves refl in
+      let turned : Steps outline_of_traced (TracedCall HasUse) (at n) p w.piece (length w.piece) (simple_reply 0 r.cookie []) false (h.sessions n) h.pool =
+      (subst (λ (t : Turn). TakesTurn outline_of_traced (TracedCall HasUse) at p t h.sessions h.pool) w.turn takes).0 in
+      let step : Waits outline_of_traced (TracedCall HasUse) kinds.Requests (state phase held) p w.piece (length w.piece) (simple_reply 0 r.cookie []) false (h.sessions n) h.pool
+      ⊎ TakesFrame outline_of_traced (TracedCall HasUse) kinds.Requests (state phase held) p w.piece (length w.piece) (simple_reply 0 r.cookie []) false (h.sessions n) h.pool =
+      subst (λ (x : State). Steps outline_of_traced (TracedCall HasUse) x p w.piece (length w.piece) (simple_reply 0 r.cookie []) false (h.sessions n) h.pool) here turned in
+      elim step [
+        | inl waits ↦ absurd (waits.partial (command r w.payload) (held ++ w.piece) [] w.frame (sym (append-nil (held ++ w.piece))))
+        | inr frame ↦
+            let there : IsFrame kinds.Requests frame.message (held ++ w.piece) = subst (λ (t : List ℕ). IsFrame kinds.Requests frame.message (held ++ t)) (all_taken w.piece) frame.frame in
+            let same = one_frame kinds.Requests frame.message (command r w.payload) (held ++ w.piece) (held ++ w.piece) [] [] there w.frame refl in
+            let answered : Serves outline_of_traced (TracedCall HasUse) (verdict_in w.extended w.size r) w.volume w.size w.extended r w.payload p (simple_reply 0 r.cookie []) (h.sessions n).phase h.pool =
+            subst (λ (m : Message). Answers outline_of_traced (TracedCall HasUse) phase m p (simple_reply 0 r.cookie []) (h.sessions n).phase h.pool) same.1 frame.answer in
+            by_verdict p h.pool w.volume w.size w.extended r w.payload (h.sessions n).phase (forms.form_error w.size (form_of r)) w.frame.request_fits.cookie
+            (subst (λ (v : Verdict). Serves outline_of_traced (TracedCall HasUse) v w.volume w.size w.extended r w.payload p (simple_reply 0 r.cookie []) (h.sessions n).phase h.pool) (verdict_is w.extended w.size r w.is_write some) answered)
+      ]
+
+  turns_front : (at : Sessions) (t : Traced) (xs ys : List (Happened Traced)) → AreTurns outline_of_traced (TracedCall HasUse) at t (xs ++ ys) → AreTurns outline_of_traced (TracedCall HasUse) at t xs
+  turns_front at t [] ys are = tt
+  turns_front at t (x ∷ xs) ys are = (are.0, turns_front x.sessions x.pool xs ys are.1)
+
+-- what has sectors has bytes
+some_len : (r : Request) (payload : List ℕ) (k : ℕ) (x : Sector) → r.kind ≡ COMMAND_WRITE → length payload ≡ payload_len r → slice_get (sectors_of payload) k ≡ Some x → 0 < r.len
+some_len r payload k x is whole got =
+    let lt : k < length (sectors_of payload) = slice_get_within (sectors_of payload) k x got in
+    let long : length (sectors_of payload) ≡ length payload / 512 = length-chopped (length payload / 512) payload in
+    let len : payload_len r ≡ r.len = ap (λ (b : Bool). if b then r.len else 0) (eq-eqb r.kind 1 is) in
+    elim (cases_eq r.len 0) [
+      | inl none ↦
+          let nothing : length payload ≡ 0 = whole ∙ (len ∙ none) in
+          let zero_is : length payload / 512 ≡ 0 = ap (λ (n : ℕ). n / 512) nothing in
+          absurd (omega (arith, lt, long, zero_is))
+      | inr some ↦ omega (arith, some)
+    ]
+
+module _ {D : Type 0} (view : View D) (s P : PlainPool) (first between behind : List (Happened Traced)) (write flush : Happened Traced) (current : Option (Happened D)) where
+  abbrev pub before_flush : List (Happened Traced)
+  before_flush = first ++ write ∷ between
+
+  abbrev pub at_end : Sessions
+  at_end = sessions_after closed (before_flush ++ flush ∷ behind)
+
+  abbrev pub end : Traced
+  end = pool_after (traced s []) (before_flush ++ flush ∷ behind)
+
+  module _ (are : AreTurns outline_of_traced (TracedCall view.has_use) closed (traced s []) (before_flush ++ flush ∷ behind)) (w : IsWritten (sessions_after closed first) write) (flushed : IsFlushed (sessions_after closed before_flush) flush)
+      (found : IsFoundIn view s at_end end current P) (k : ℕ) (x : Sector) (got : slice_get (sectors_of w.payload) k ≡ Some x) where
+    abbrev pub place : ℕ
+    place = w.request.offset / 512 + k
+
+    there : (wrote : Wrote view.has_use w.volume (w.request.offset / 512) (sectors_of w.payload) (pool_after (traced s []) first) write.pool) (m later : List Entry) → flush.pool.trace ≡ write.pool.trace ++ m
+        → Covers s (events_of flush.pool.trace) (events_of later) P → IsThere (events_of (m ++ later)) w.volume place x P
+    there wrote m later is covers y has =
+        let told = (pool_after (traced s []) first).trace in
+        let all : events_of flush.pool.trace ≡ events_of told ++ wrote.entry.event ∷ events_of m = ap events_of (is ∙ (ap (λ (l : List Entry). l ++ m) wrote.trace_is ∙ append_assoc told (wrote.entry ∷ []) m)) ∙ events_join told (wrote.entry ∷ m) in
+        elim (written_stays s P (events_of told) (events_of m) (events_of later) wrote.entry.event w.volume place (subst (λ (l : List Event). Covers s l (events_of later) P) all covers)) [
+          | inl same ↦ inl (wrote.gave k x y got (sym same ∙ has))
+          | inr newer ↦ inr (subst (λ (l : List Event). IsNewer l w.volume place P) (sym (events_join m later)) newer)
+        ]
+
+    kept : (c : Option (Happened D)) → IsCovered view s flush.pool at_end end c P → IsKeptThere view write.pool at_end end c w.volume place x P
+    kept c covers =
+        let split = turn_in view.has_use closed (traced s []) first write between (turns_front view.has_use closed (traced s []) before_flush (flush ∷ behind) are) in
+        let wrote = write_enters view.has_use (sessions_after closed first) (pool_after (traced s []) first) write w (some_len w.request w.payload k x w.is_write w.frame.whole got) split.0 in
+        let more = turns_grow view.has_use write.sessions write.pool between split.1 in
+        let f = flush_keeps view.has_use (sessions_after closed before_flush) (pool_after (traced s []) before_flush) flush flushed (turn_in view.has_use closed (traced s []) before_flush flush behind are).0 in
+        let m : List Entry = more.0 ++ f.entry ∷ [] in
+        let is : flush.pool.trace ≡ write.pool.trace ++ m =
+        f.trace_is ∙ (ap (λ (l : List Entry). l ++ f.entry ∷ []) (ap (λ (t : Traced). t.trace) (pool_at (traced s []) first write between) ∙ more.1) ∙ append_assoc write.pool.trace more.0 (f.entry ∷ [])) in
+        by_current wrote m is c covers
+      where
+        by_current : (wrote : Wrote view.has_use w.volume (w.request.offset / 512) (sectors_of w.payload) (pool_after (traced s []) first) write.pool) (m : List Entry) → flush.pool.trace ≡ write.pool.trace ++ m → (c : Option (Happened D))
+            → IsCovered view s flush.pool at_end end c P → IsKeptThere view write.pool at_end end c w.volume place x P
+        by_current wrote m is None (later, tail, c) = (m ++ later, tail ∙ (ap (λ (l : List Entry). l ++ later) is ∙ append_assoc write.pool.trace m later), there wrote m later is c)
+        by_current wrote m is (Some h) (t', later, turn, tail, c) = (t', m ++ later, turn, tail ∙ (ap (λ (l : List Entry). l ++ later) is ∙ append_assoc write.pool.trace m later), there wrote m later is c)
+
+    pub write_is_kept : IsKeptThere view write.pool at_end end current w.volume place x P
+    write_is_kept = kept current (flush_covers view s P before_flush behind flush current are flushed found)
