@@ -4,8 +4,11 @@
 use std::io::IsTerminal;
 use std::process::ExitCode;
 use tp_images::FileImages;
-use tp_program::{Terminals, program, stand_in, without_streams, without_words};
+use tp_program::{Terminals, Timed, program, stand_in, without_streams, without_words};
 use tp_words::words;
+
+/// What is told on standard error waits so many milliseconds for its reader.
+const PATIENCE: u16 = 5000;
 
 fn main(rt: HostRuntime) -> ExitCode {
     // It is closed at the end.
@@ -26,7 +29,7 @@ fn main(rt: HostRuntime) -> ExitCode {
             terminals,
             &mut rt.stdin(),
             &mut rt.stdout(),
-            &mut rt.stderr(),
+            &mut Timed::new(rt.stderr(), PATIENCE),
         ),
         Err(why) => without_words(why, &mut rt.stderr()),
     };

@@ -13,7 +13,7 @@ use Rattle.nbd_wire.specs.Reading.{wanted}
 use Rattle.nbd_wire.specs.declared.Kind.{Kind}
 use Rattle.nbd_wire.specs.declared.Kind.TheVariants.{Flags, Options, Requests}
 use Rattle.nbd_wire.specs.Reading.{fixed_len}
-use Rattle.tp_crowd.specs.Framing.{Framed, bytes_of, given, given_in, end_of, ends_in, first_end, more_of, set_in, first_kind, framed, head_come, is_between, kind_at, kind_behind, next, passed}
+use Rattle.tp_crowd.specs.Framing.{Framed, bytes_of, given, given_in, end_of, ends_in, more_of, set_in, first_kind, framed, head_come, is_between, kind_at, kind_behind, next, passed}
 
 -- ---- one piece behind the other
 
@@ -209,6 +209,16 @@ written_none : (put : Put) (bytes : List ℕ) → bytes_of (write_call put bytes
 written_none (Wrote count) bytes = refl
 written_none Interrupted bytes = refl
 written_none Failed bytes = refl
+
+-- what one call more gave
+pub given_more : (calls : List StreamCall) (received : Received) (buffer : List ℕ) → given_in (calls ++ read_call received buffer ∷ []) ≡ given_in calls ++ given received buffer
+given_more calls received buffer = given_on calls (read_call received buffer) ∙ ap (λ l. given_in calls ++ l) (read_given received buffer)
+
+pub given_written : (calls : List StreamCall) (put : Put) (bytes : List ℕ) → given_in (calls ++ write_call put bytes ∷ []) ≡ given_in calls
+given_written calls put bytes = given_on calls (write_call put bytes) ∙ (ap (λ l. given_in calls ++ l) (written_none put bytes) ∙ append-nil (given_in calls))
+
+pub given_flushed : (calls : List StreamCall) (done : Bool) → given_in (calls ++ Flushes done ∷ []) ≡ given_in calls
+given_flushed calls done = given_on calls (Flushes done) ∙ append-nil (given_in calls)
 
 -- frames that are followed over what reads gave
 module _ (first frames : Framed) (calls : List StreamCall) (so : frames ≡ passed first (given_in calls)) where

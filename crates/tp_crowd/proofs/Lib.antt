@@ -2,3 +2,5 @@ mod Locking
 mod Going
 mod Framing
 mod Controlling
+mod Counting
+mod Commanding

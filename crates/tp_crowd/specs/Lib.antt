@@ -2,3 +2,4 @@ pub mod Fetches
 pub mod Framing
 pub mod Locked
 pub mod Ruling
+pub mod Census

@@ -1,25 +1,49 @@
 -- Internal: control lines of those who serve without end (own).
 use Rattle.std.specs.Prelude.{◌≡◌, ◌⊎◌, ℕ, List, [], ◌∷◌, codes}
+use Rattle.tp_model.specs.declared.refusal.Refusal.TheVariants.{Memory}
 use Rattle.tp_model.specs.Clauses.{View}
-use Rattle.tp_hub.specs.Told.{Accepts, Answer}
-use Rattle.tp_hub.specs.Runs.{Incoming, Orders}
+use Rattle.tp_hub.specs.declared.seat.Seat.{Seat}
+use Rattle.tp_hub.specs.Told.{Accepts, Answer, Grows, Lines, Refuses, Told}
+use Rattle.tp_hub.specs.Runs.{AsksFlush, Incoming, Orders}
+use Rattle.tp_hub.specs.Serving.{Slots}
 use Rattle.tp_hub.specs.Streams.{StreamCall}
 use Rattle.tp_lines.specs.declared.control.LinesEnd.{LinesEnd}
 use Rattle.tp_lines.specs.Controls.{AttendsLines}
 use Rattle.tp_lines.specs.ReadLines.{Leads}
+use Rattle.tp_crowd.specs.declared.ruling.Command.{Command}
+use Rattle.tp_crowd.specs.declared.ruling.Command.TheVariants.{Stop, StopNow, Flush, Clients}
+use Rattle.tp_crowd.specs.Census.{AreSeats, IsCensus}
 use Rattle.tp_crowd.specs.Locked.{SomeRuns}
 
--- a line that is not the pool's
-abbrev pub IsOrder : List ℕ → Type 0
-IsOrder line = (line ≡ codes "stop") ⊎ (line ≡ codes "stop now")
+-- the lines that are no message to the pool
+abbrev pub IsCommand : List ℕ → Command → Type 0
+IsCommand line Stop = line ≡ codes "stop"
+IsCommand line StopNow = line ≡ codes "stop now"
+IsCommand line Flush = line ≡ codes "flush"
+IsCommand line Clients = line ≡ codes "clients"
 
--- An order is told to be done; or there was no memory for that, and nothing is told.
-abbrev pub Obeys : List Incoming → List Answer → Type 0
-Obeys took answers = ((took ≡ []) × (answers ≡ [])) ⊎ ((line : List ℕ) × IsOrder line × (took ≡ Orders line ∷ []) × (answers ≡ Accepts ∷ []))
+-- what is told of who is served: of some hub; or there was no memory for it
+abbrev pub TellsWho : List Answer → Type 0
+TellsWho answers = ((slots : Slots) × (seats : List Seat) × (line : List ℕ) × AreSeats slots seats × IsCensus seats line × (answers ≡ Lines line ∷ [])) ⊎ (answers ≡ Refuses Memory ∷ [])
 
--- Some sessions over some pool take these events, and give these answers; or it is an order.
+-- of these, behind what was told before
+abbrev pub IsToldOf : List Seat → Told → Told → Type 0
+IsToldOf seats before after = (answer : Answer) × Grows before after (answer ∷ []) × (((line : List ℕ) × IsCensus seats line × (answer ≡ Lines line)) ⊎ (answer ≡ Refuses Memory))
+
+-- What is answered: a flush is one of the pool, and its answer.
+abbrev pub Obeys : {D : Type 0} → View D → Command → List Answer → Type 0
+Obeys view Stop answers = answers ≡ Accepts ∷ []
+Obeys view StopNow answers = answers ≡ Accepts ∷ []
+Obeys view Flush answers = SomeRuns view (AsksFlush ∷ []) answers
+Obeys view Clients answers = TellsWho answers
+
+-- A line is answered so; or there was no memory for that, and nothing is told.
+abbrev pub TellsSo : List ℕ → (List Answer → Type 0) → List Incoming → List Answer → Type 0
+TellsSo line Are took answers = ((took ≡ []) × (answers ≡ [])) ⊎ ((took ≡ Orders line ∷ []) × Are answers)
+
+-- Some sessions over some pool take these events, and give these answers; or it is a command.
 abbrev pub IsRuled : {D : Type 0} → View D → List Incoming → List Answer → Type 0
-IsRuled view took answers = SomeRuns view took answers ⊎ Obeys took answers
+IsRuled view took answers = SomeRuns view took answers ⊎ ((line : List ℕ) × (command : Command) × IsCommand line command × TellsSo line (Obeys view command) took answers)
 
 -- Control lines are read from a stream, and each is asked for once and answered; what becomes of the hub between two of them is not said. told: the calls of the stream.
 abbrev pub AnswersRulers : {D : Type 0} → View D → List StreamCall → List StreamCall → LinesEnd → Type 0

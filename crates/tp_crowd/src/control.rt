@@ -8,6 +8,7 @@ ghost use Rattle.tp_crowd.specs.Locked.{AnswersControl, CameOf, IsFrom};
 use crate::crowd::{Refused, Served, behind_all, not_refused, refused_by_now};
 use crate::listening::{Accepted, attend_streams};
 use crate::locked::{Alarm, HubLock, LockedDesk};
+use crate::pause::{PAUSE, pause};
 use crate::since::Start;
 use std::alloc::Global;
 use std::io::{ErrorKind, Read, Write};
@@ -22,9 +23,6 @@ use tp_hub::{Hub, Log, Made, Put, Received, Stream};
 use tp_lines::{LinesEnd, attend_lines};
 use tp_model::SharedVolumes;
 use tp_msg::Managed;
-
-/// So many milliseconds a read or an accept of the control side waits before it looks whether the clients are gone.
-const PAUSE: u64 = 100;
 
 /// A control client that takes no byte of an answer for so many milliseconds is dropped.
 const PATIENCE: u64 = 2000;
@@ -49,7 +47,7 @@ pub fn serve_listener_with_control<R, V, A>(
 where
     R: Threads + Wait + Clock + Sync,
     V: Managed + SharedVolumes + Send + Sync,
-    A: Alarm + Sync,
+    A: Alarm<V> + Sync,
     ensures asked { CameOf V.view hub result.hub }
     ensures came { result.came ≤ 64 }
     ensures offered { result.came ≤ count }
@@ -71,7 +69,7 @@ fn serve_since<R, V, A, K>(
 where
     R: Threads + Wait + Clock + Sync,
     V: Managed + SharedVolumes + Send + Sync,
-    A: Alarm + Sync,
+    A: Alarm<V> + Sync,
     K: Start<V> + Send + Sync,
     requires { K.is_start hub }
     ensures asked { IsFrom V.view K.is_start result.hub }
@@ -98,7 +96,7 @@ fn attend_both<R, V, A, K, I>(
 where
     R: Threads + Wait + Clock + Sync,
     V: Managed + SharedVolumes + Send + Sync,
-    A: Alarm + Sync,
+    A: Alarm<V> + Sync,
     K: Start<V> + Send + Sync,
     I: Iterator<Item = TcpStream> + Drop,
     requires can { I.can_next clients }
@@ -135,7 +133,7 @@ fn attend_control<R, V, A, K>(
 where
     R: Wait + Clock,
     V: Managed + SharedVolumes,
-    A: Alarm,
+    A: Alarm<V>,
     K: Start<V>,
 {
     if control.set_nonblocking(true).is_err() {
@@ -147,7 +145,7 @@ where
         }
         match control.accept() {
             Ok((stream, _)) => attend_stream(rt, alloc, hub, &stream, are_gone),
-            Err(error) if is_for_now(&error) => thread::sleep(rt, Duration::from_millis(PAUSE)),
+            Err(error) if is_for_now(&error) => pause(rt),
             Err(_) => return,
         }
     }
@@ -186,7 +184,7 @@ fn attend_stream<R, V, A, K>(
 where
     R: Wait,
     V: Managed + SharedVolumes,
-    A: Alarm,
+    A: Alarm<V>,
     K: Start<V>,
 {
     if !is_bounded(stream) {
@@ -207,7 +205,7 @@ fn answer_lines<R, V, A, K, S>(
 where
     R: Wait,
     V: Managed + SharedVolumes,
-    A: Alarm,
+    A: Alarm<V>,
     K: Start<V>,
     S: Stream,
     ensures { AnswersControl V.view (S.calls stream.old) (S.calls stream.new) result }

@@ -15,7 +15,7 @@ use std::sync::Wait;
 use std::sync::atomic::{AtomicBool, Ordering};
 use std::thread;
 use std::thread::Threads;
-use tp_hub::{Answers, Carried, Hub, Stream, carry};
+use tp_hub::{Answers, Carried, Desk, Hub, Stream, carry};
 use tp_model::{SharedVolumes, Volumes};
 use tp_msg::Managed;
 
@@ -57,7 +57,7 @@ where
     V: Managed + SharedVolumes + Send + Sync,
     S: Stream + Send + Drop,
     I: Iterator<Item = S> + Drop,
-    A: Alarm + Sync,
+    A: Alarm<V> + Sync,
     requires can { I.can_next clients }
     requires ends { IsFinite (I.remaining clients) }
     ensures asked { CameOf V.view hub result.hub }
@@ -81,7 +81,7 @@ where
     V: Managed + SharedVolumes + Send + Sync,
     S: Stream + Send + Drop,
     I: Iterator<Item = S> + Drop,
-    A: Alarm + Sync,
+    A: Alarm<V> + Sync,
     K: Start<V> + Send + Sync,
     requires start { K.is_start hub }
     requires can { I.can_next clients }
@@ -111,7 +111,7 @@ pub(crate) trait Attend<C> {
 
 /// Carries streams over a hub behind a lock.
 #[derive(Drop)]
-struct Streams<'m, R: Wait, V: Volumes, A: Alarm, K: Start<V>> {
+struct Streams<'m, R: Wait, V: Volumes, A: Alarm<V>, K: Start<V>> {
     rt: &'m R,
     alloc: Global,
     hub: &'m HubLock<'m, V, A, K>,
@@ -121,7 +121,7 @@ impl<'m, R, V, A, K, S> Attend<S> for Streams<'m, R, V, A, K>
 where
     R: Wait,
     V: Managed + SharedVolumes,
-    A: Alarm,
+    A: Alarm<V>,
     K: Start<V>,
     S: Stream + Drop,
 {
@@ -190,21 +190,39 @@ pub(crate) fn carry_stream<R, V, A, K, S>(
 where
     R: Wait,
     V: Managed + SharedVolumes,
-    A: Alarm,
+    A: Alarm<V>,
     K: Start<V>,
     S: Stream,
+    requires { number < 64 }
+{
+    carry_over(
+        alloc,
+        &mut LockedDesk { rt, alloc, hub },
+        number,
+        profile,
+        stream,
+    )
+}
+
+/// The same over any desk.
+pub(crate) fn carry_over<D: Desk, S: Stream>(
+    alloc: Global,
+    desk: &mut D,
+    number: u8,
+    profile: Profile,
+    stream: &mut S,
+) -> bool
     requires { number < 64 }
 {
     let Ok(mut buffer) = zeroes(alloc, MAX_FRAME) else {
         return false;
     };
     let mut out = Answers::new(alloc);
-    let mut desk = LockedDesk { rt, alloc, hub };
-    carry(&mut desk, number, profile, stream, &mut buffer, &mut out) != Carried::NoMemory
+    carry(desk, number, profile, stream, &mut buffer, &mut out) != Carried::NoMemory
 }
 
 /// What is left behind so many clients, all of which are gone.
-pub(crate) fn behind_all<V: Volumes, A: Alarm, K: Start<V>>(
+pub(crate) fn behind_all<V: Volumes, A: Alarm<V>, K: Start<V>>(
     hub: HubLock<'_, V, A, K>,
     refused: &[bool; 64],
     came: u8,

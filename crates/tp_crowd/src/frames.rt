@@ -23,6 +23,8 @@ pub(crate) struct Frames {
     held: usize,
     /// How many bytes of the data are missing.
     left: usize,
+    /// How many requests have begun.
+    requests: u64,
 }
 
 impl Model for Frames {
@@ -88,6 +90,7 @@ impl Frames {
             head: [0; HEAD],
             held: 0,
             left: 0,
+            requests: 0,
         }
     }
 
@@ -100,11 +103,17 @@ impl Frames {
             head: self.head,
             held: self.held,
             left: self.left,
+            requests: self.requests,
         }
     }
 
-    /// Where so many bytes of a fixed part have come.
-    fn of_head(kind: Kind, head: [u8; HEAD], held: usize) -> Frames
+    /// How many requests have begun, at most 2^64 - 1.
+    pub(crate) fn requests(&self) -> u64 {
+        self.requests
+    }
+
+    /// Where so many bytes of a fixed part have come, and so many requests had begun.
+    fn of_head(kind: Kind, head: [u8; HEAD], held: usize, requests: u64) -> Frames
         requires { held ≤ fixed_of kind }
         ensures { result ≡ head_come kind (take held head) }
     {
@@ -115,6 +124,7 @@ impl Frames {
                 head,
                 held,
                 left: 0,
+                requests,
             };
         }
         Frames {
@@ -122,6 +132,7 @@ impl Frames {
             head,
             held: 0,
             left: wanted(kind, &head[..held]) - fixed,
+            requests: requests.saturating_add((kind == Kind::Requests) as u64),
         }
     }
 
@@ -169,7 +180,7 @@ impl Frames {
         let kind = self.kind_with(bytes[0]);
         let count = (fixed_len(kind) - self.held).min(bytes.len());
         put_behind(&mut self.head, self.held, &bytes[..count]);
-        *self = Frames::of_head(kind, self.head, self.held + count);
+        *self = Frames::of_head(kind, self.head, self.held + count, self.requests);
         count
     }
 

@@ -1,29 +1,52 @@
-//! A client's stream that ends when it is told to.
+//! A client of those who serve without end: its stream, which ends when it is told to, and what is seen of its visit.
 
-ghost use Rattle.std.specs.Prelude.{◌≡◌, ◌<◌, [], length};
+ghost use Rattle.std.specs.Prelude.{◌≡◌, ◌<◌, ◌++◌, [], length};
 ghost use Rattle.tp_hub.specs.Streams.{GivesSome};
+ghost use Rattle.tp_crowd.specs.Framing.{given, given_in};
 
+use crate::chronicle::Visit;
+use crate::locked::{Alarm, LockedDesk};
+use crate::since::Start;
 use crate::sockets::Socket;
+use std::sync::Wait;
 use std::sync::atomic::{AtomicBool, Ordering};
 use std::thread::Threads;
-use tp_hub::{Log, Made, Put, Received, Stream};
+use tp_hub::{Answers, Desk, Event, Log, Made, Put, Ran, Received, Seat, Stream};
+use tp_model::{DevId, SharedVolumes, Volumes};
+use tp_msg::Managed;
 
-/// A [`Socket`] that is at its end once a flag is set: what was read before is answered, and no more is read.
+/// A [`Socket`] that is at its end once a flag is set: all that was read of it is told, and so answered, and no more is read.
 pub(crate) struct Guest<'c, R: Threads> {
     log: Log,
     socket: Socket<'c, R>,
     is_over: &'c AtomicBool,
+    received: u64,
+    sent: u64,
+    ghost told: { given_in log.calls ≡ given_in socket.log.calls },
 }
 
 impl<'c, R: Threads> Guest<'c, R> {
     /// No call of it was made yet.
     pub(crate) fn new(socket: Socket<'c, R>, is_over: &'c AtomicBool) -> Guest<'c, R>
+        requires { socket.log.calls ≡ [] }
         ensures { result.log.calls ≡ [] }
     {
         Guest {
             log: Log::new(),
             socket,
             is_over,
+            received: 0,
+            sent: 0,
+        }
+    }
+
+    /// What became of it so far, where it had this volume.
+    pub(crate) fn visit(&self, volume: Option<DevId>) -> Visit {
+        Visit {
+            volume,
+            requests: self.socket.requests(),
+            received: self.received,
+            sent: self.sent,
         }
     }
 
@@ -33,6 +56,8 @@ impl<'c, R: Threads> Guest<'c, R> {
             log: _,
             socket,
             is_over: _,
+            received: _,
+            sent: _,
         } = self;
         socket.close();
     }
@@ -47,6 +72,7 @@ fn read_unless<R: Threads>(
     requires { 0 < length buffer.old.items }
     ensures some { GivesSome result (length buffer.new.items) }
     ensures len { length buffer.new.items ≡ length buffer.old.items }
+    ensures told { given_in socket.new.log.calls ≡ given_in socket.old.log.calls ++ given result buffer.new.items }
 {
     if is_over.load(Ordering::SeqCst) {
         return Received::End;
@@ -54,17 +80,35 @@ fn read_unless<R: Threads>(
     socket.receive(buffer)
 }
 
+/// How many bytes a read brought.
+fn received_by(received: Received) -> u64 {
+    match received {
+        Received::Got(count) => count as u64,
+        _ => 0,
+    }
+}
+
+/// How many bytes a write took.
+fn taken_by(put: Put) -> u64 {
+    match put {
+        Put::Wrote(count) => count as u64,
+        _ => 0,
+    }
+}
+
 impl<'c, R: Threads> Stream for Guest<'c, R> {
     ghost calls = { λ guest. guest.log.calls };
 
     fn receive(&mut self, buffer: &mut Vec<u8>) -> Received {
         let received = read_unless(&mut self.socket, self.is_over, buffer);
+        self.received = self.received.saturating_add(received_by(received));
         self.log.note(&Made::Read(received), buffer.as_slice());
         received
     }
 
     fn send(&mut self, bytes: &[u8]) -> Put {
         let put = self.socket.send(bytes);
+        self.sent = self.sent.saturating_add(taken_by(put));
         self.log.note(&Made::Written(put), bytes);
         put
     }
@@ -73,5 +117,48 @@ impl<'c, R: Threads> Stream for Guest<'c, R> {
         let done = self.socket.flush();
         self.log.note(&Made::Flushed(done), &[]);
         done
+    }
+}
+
+/// A desk for one client that sees which volume it has.
+#[derive(Drop)]
+pub(crate) struct GuestDesk<'m, R: Wait, V: Volumes, A: Alarm<V>, K: Start<V>> {
+    pub(crate) desk: LockedDesk<'m, R, V, A, K>,
+    /// The number of its session.
+    pub(crate) number: u8,
+    pub(crate) volume: Option<DevId>,
+    pub(crate) ghost inside: { number < 64 },
+}
+
+/// The volume that the session of this number has, if it has one.
+fn volume_of<R: Wait, V: Volumes, A: Alarm<V>, K: Start<V>>(
+    desk: &LockedDesk<'_, R, V, A, K>,
+    number: u8,
+) -> Option<DevId>
+    requires { number < 64 }
+{
+    match desk.hub.seat(desk.rt, number) {
+        Seat::Holds(volume) => Some(volume),
+        Seat::Free | Seat::Waits => None,
+    }
+}
+
+impl<'m, R, V, A, K> Desk for GuestDesk<'m, R, V, A, K>
+where
+    R: Wait,
+    V: Managed + SharedVolumes,
+    A: Alarm<V>,
+    K: Start<V>,
+{
+    ghost use Rattle.tp_crowd.specs.Locked.{SomeRuns};
+
+    ghost asks = { λ a took answers b. SomeRuns V.view took answers };
+
+    fn ask(&mut self, event: Event<'_>, out: &mut Answers) -> Ran {
+        let ran = self.desk.ask(event, out);
+        if self.volume.is_none() {
+            self.volume = volume_of(&self.desk, self.number);
+        }
+        ran
     }
 }

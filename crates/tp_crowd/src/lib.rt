@@ -9,6 +9,9 @@
 #![tactic(auto)]
 
 mod ahead;
+mod alive;
+mod census;
+mod chronicle;
 mod control;
 mod crowd;
 mod door;
@@ -19,6 +22,7 @@ mod guest;
 mod listening;
 mod locked;
 mod order;
+mod pause;
 mod polled;
 mod ruling;
 mod since;
@@ -27,6 +31,7 @@ mod staying;
 mod turns;
 
 pub use ahead::Crew;
+pub use chronicle::{Chronicle, Visit, Visitor};
 pub use control::serve_listener_with_control;
 pub use crowd::{Served, serve_all};
 pub use door::Door;

@@ -68,14 +68,14 @@ impl Iterator for Accepted {
 
 /// Carries TCP streams over a hub behind a lock.
 #[derive(Drop)]
-struct Sockets<'m, R: Threads + Wait, V: Volumes, A: Alarm, K: Start<V>> {
+struct Sockets<'m, R: Threads + Wait, V: Volumes, A: Alarm<V>, K: Start<V>> {
     rt: &'m R,
     alloc: Global,
     hub: &'m HubLock<'m, V, A, K>,
     crew: Crew,
 }
 
-impl<'m, R: Threads + Wait, V: Volumes, A: Alarm, K: Start<V>> Sockets<'m, R, V, A, K> {
+impl<'m, R: Threads + Wait, V: Volumes, A: Alarm<V>, K: Start<V>> Sockets<'m, R, V, A, K> {
     /// Where it is not known how many processors there are, there is one.
     fn new(rt: &'m R, alloc: Global, hub: &'m HubLock<'m, V, A, K>) -> Sockets<'m, R, V, A, K> {
         let processors = thread::available_parallelism(rt).map_or(1, |count| count.get());
@@ -92,7 +92,7 @@ impl<'m, R, V, A, K> Attend<TcpStream> for Sockets<'m, R, V, A, K>
 where
     R: Threads + Wait,
     V: Managed + SharedVolumes,
-    A: Alarm,
+    A: Alarm<V>,
     K: Start<V>,
 {
     fn attend(&self, number: u8, stream: TcpStream) -> bool {
@@ -121,7 +121,7 @@ pub(crate) fn attend_streams<'m, R, V, A, K, I>(
 where
     R: Threads + Wait + Sync,
     V: Managed + SharedVolumes + Send + Sync,
-    A: Alarm + Sync,
+    A: Alarm<V> + Sync,
     K: Start<V> + Send + Sync,
     I: Iterator<Item = TcpStream> + Drop,
     requires can { I.can_next clients }
@@ -147,7 +147,7 @@ pub fn serve_listener<R, V, A>(
 where
     R: Threads + Wait + Sync,
     V: Managed + SharedVolumes + Send + Sync,
-    A: Alarm + Sync,
+    A: Alarm<V> + Sync,
     ensures asked { CameOf V.view hub result.hub }
     ensures came { result.came ≤ 64 }
     ensures offered { result.came ≤ count }
@@ -168,7 +168,7 @@ fn serve_since<R, V, A, K>(
 where
     R: Threads + Wait + Sync,
     V: Managed + SharedVolumes + Send + Sync,
-    A: Alarm + Sync,
+    A: Alarm<V> + Sync,
     K: Start<V> + Send + Sync,
     requires { K.is_start hub }
     ensures asked { IsFrom V.view K.is_start result.hub }

@@ -6,6 +6,8 @@ ghost use Rattle.tp_hub.specs.Runs.{Brings, incoming, session_of};
 ghost use Rattle.tp_hub.specs.Desks.{IsAsked};
 ghost use Rattle.tp_hub.specs.Places.{IsWider};
 ghost use Rattle.tp_hub.specs.Serve.{HubRuns};
+ghost use Rattle.tp_hub.specs.Serving.{Slots};
+ghost use Rattle.tp_crowd.specs.Census.{AreSeats};
 ghost use Rattle.tp_crowd.specs.Framing.{IsRead};
 ghost use Rattle.tp_crowd.specs.Locked.{IsFrom, MakesParts, SomeRun, SomeRuns};
 
@@ -17,7 +19,7 @@ use std::alloc::Global;
 use std::sync::atomic::{AtomicBool, AtomicU64, Ordering};
 use std::sync::{MutexGuard, RwLock, RwLockReadGuard, RwLockWriteGuard, Wait};
 use std::thread;
-use tp_hub::{Answers, Desk, Event, Hub, Ran};
+use tp_hub::{Answers, Desk, Event, Hub, Ran, SESSIONS, Seat};
 use tp_model::{Mode, SharedVolumes, Volumes};
 use tp_msg::Managed;
 
@@ -31,9 +33,15 @@ const TRIES_BEHIND_READS: u32 = 200;
 const TRIES_BETWEEN_READS: u32 = 100;
 
 /// What is to be told while a pool serves.
-pub trait Alarm {
-    /// Told once, when the pool has failed: by the thread of which an ask found it so, before what was asked is answered.
-    fn pool_failed(&self);
+pub trait Alarm<V> {
+    /// Why a pool has failed, as far as it tells.
+    type Cause;
+
+    /// Looks it up, while others may look at the pool too, and nobody changes it.
+    fn cause(&self, pool: &V) -> Self::Cause;
+
+    /// Told once, when the pool has failed: by the thread of which an ask found it so, before what was asked is answered, and while it has no lock.
+    fn pool_failed(&self, cause: Self::Cause);
 }
 
 /// A hub behind a lock, which one ask has alone, or READs share, and an alarm of its pool. No lock is poisoned, and taking it does not fail.
@@ -44,7 +52,7 @@ pub trait Alarm {
 /// What is known of the hub each time that somebody has it: it came of the one that was put behind the lock, of which `K` says which it was, by asks one
 /// behind another.
 #[derive(Drop)]
-pub struct HubLock<'a, V: Volumes, A: Alarm, K: Start<V>> {
+pub struct HubLock<'a, V: Volumes, A: Alarm<V>, K: Start<V>> {
     hub: RwLock<Since<V, K>>,
     order: Order,
     /// How many READs wait for the hub.
@@ -53,7 +61,11 @@ pub struct HubLock<'a, V: Volumes, A: Alarm, K: Start<V>> {
     has_sounded: AtomicBool,
 }
 
-impl<'a, V: Volumes, A: Alarm, K: Start<V>> HubLock<'a, V, A, K> {
+impl<'a, V: Volumes, A: Alarm<V>, K: Start<V>> HubLock<'a, V, A, K> {
+    ghost use Rattle.std.specs.Prelude.{◌≡◌, ◌<◌};
+    ghost use Rattle.tp_hub.specs.Seats.{seat_at};
+    ghost use Rattle.tp_hub.specs.Serving.{Slots};
+    ghost use Rattle.tp_crowd.specs.Census.{AreSeats};
     ghost use Rattle.tp_crowd.specs.Locked.{IsFrom};
 
     /// A lock that nobody has.
@@ -83,10 +95,21 @@ impl<'a, V: Volumes, A: Alarm, K: Start<V>> HubLock<'a, V, A, K> {
         hub.into_inner().into_hub()
     }
 
+    /// Who is told what becomes of it.
+    pub(crate) fn alarm(&self) -> &'a A {
+        self.alarm
+    }
+
+    /// Why its pool has failed.
+    fn cause<R: Wait>(&self, rt: &R) -> A::Cause {
+        let hub = self.shared(rt);
+        self.alarm.cause(hub.pool())
+    }
+
     /// Sounds the alarm, unless it has sounded.
-    fn sound(&self) {
+    fn sound<R: Wait>(&self, rt: &R) {
         if !self.has_sounded.swap(true, Ordering::SeqCst) {
-            self.alarm.pool_failed();
+            self.alarm.pool_failed(self.cause(rt));
         }
     }
 
@@ -99,6 +122,22 @@ impl<'a, V: Volumes, A: Alarm, K: Start<V>> HubLock<'a, V, A, K> {
         let guard = self.hub.read(rt);
         self.waiting.fetch_sub(1, Ordering::SeqCst);
         guard
+    }
+
+    /// Who is at a number.
+    pub(crate) fn seat<R: Wait>(&self, rt: &R, number: u8) -> Seat
+        requires { number < 64 }
+        ensures { (slots : Slots) × (result ≡ seat_at slots number) }
+    {
+        self.shared(rt).seat(number)
+    }
+
+    /// Who is at each number.
+    pub(crate) fn seats<R: Wait>(&self, rt: &R) -> [Seat; SESSIONS]
+        ensures { (slots : Slots) × AreSeats slots result }
+    {
+        let hub = self.shared(rt);
+        seats_of(&hub)
     }
 
     /// Lets READs that wait go first, as long as it takes to wake them.
@@ -128,7 +167,7 @@ impl<'a, V: Volumes, A: Alarm, K: Start<V>> HubLock<'a, V, A, K> {
     }
 }
 
-impl<'a, V: SharedVolumes, A: Alarm, K: Start<V>> HubLock<'a, V, A, K> {
+impl<'a, V: SharedVolumes, A: Alarm<V>, K: Start<V>> HubLock<'a, V, A, K> {
     /// Brings to the device what was written so far, while READs go on. All others wait for their turn meanwhile, so nothing is written.
     fn sync_ahead<R: Wait>(&self, rt: &R, _turn: &MutexGuard<'_, ()>) {
         self.shared(rt).sync_ahead();
@@ -146,10 +185,21 @@ impl<'a, V: SharedVolumes, A: Alarm, K: Start<V>> HubLock<'a, V, A, K> {
 /// Others ask the same hub in between, so an ask is known here to be a run of some sessions over some pool, and not of which. That it is one of those by
 /// which the hub behind the lock came of the one that was put there the lock knows; which of them, no clause says.
 #[derive(Drop)]
-pub struct LockedDesk<'m, R: Wait, V: Volumes, A: Alarm, K: Start<V>> {
+pub struct LockedDesk<'m, R: Wait, V: Volumes, A: Alarm<V>, K: Start<V>> {
     pub rt: &'m R,
     pub alloc: Global,
     pub hub: &'m HubLock<'m, V, A, K>,
+}
+
+/// Who is at each number of a hub.
+fn seats_of<V: Volumes, K: Start<V>>(hub: &Since<V, K>) -> [Seat; SESSIONS]
+    ensures { AreSeats hub.now.slots result }
+{
+    let mut seats = [Seat::Free; SESSIONS];
+    for number in 0..64u8 {
+        seats[usize::from(number)] = hub.seat(number);
+    }
+    seats
 }
 
 /// What was taken of an event that had the hub alone, and what is so behind it.
@@ -202,17 +252,17 @@ fn ask_and_look<V: Managed, K: Start<V>>(
     }
 }
 
-/// What an event wants the hub alone for, by its text alone: a message keeps what was written, and so does a piece that begins with such a request.
+/// What an event wants the hub alone for, by its text alone: a message and a flush keep what was written, and so does a piece that begins with such a request.
 fn purpose_of(event: &Event<'_>) -> Purpose {
     match *event {
         Event::Bytes(_, piece) | Event::Parted(_, piece) if is_to_keep(piece) => Purpose::Keep,
-        Event::Message(_) => Purpose::Keep,
+        Event::Message(_) | Event::Flush => Purpose::Keep,
         _ => Purpose::Change,
     }
 }
 
 /// Asks a hub behind a lock alone. What was written before is on the device already where the event is to keep it. The alarm sounds when the lock is let go.
-fn ask_alone<R: Wait, V: Managed + SharedVolumes, A: Alarm, K: Start<V>>(
+fn ask_alone<R: Wait, V: Managed + SharedVolumes, A: Alarm<V>, K: Start<V>>(
     rt: &R,
     alloc: Global,
     hub: &HubLock<'_, V, A, K>,
@@ -235,7 +285,7 @@ fn ask_alone<R: Wait, V: Managed + SharedVolumes, A: Alarm, K: Start<V>>(
     drop(turn);
     drop(device);
     if seen.is_failed {
-        hub.sound();
+        hub.sound(rt);
     }
     seen
 }
@@ -267,7 +317,7 @@ fn is_read(event: &Event<'_>) -> bool
 }
 
 /// The same of a hub behind a lock, which is shared for the time of the ask, and is not taken where the event begins with no READ.
-fn ask_shared<R: Wait, V: SharedVolumes, A: Alarm, K: Start<V>>(
+fn ask_shared<R: Wait, V: SharedVolumes, A: Alarm<V>, K: Start<V>>(
     rt: &R,
     hub: &HubLock<'_, V, A, K>,
     event: &Event<'_>,
@@ -285,7 +335,7 @@ fn ask_shared<R: Wait, V: SharedVolumes, A: Alarm, K: Start<V>>(
 }
 
 /// Makes the parts of a long request of a session, where any are left, each in an ask of its own, so that others have the hub between two.
-fn make_parts<R: Wait, V: Managed + SharedVolumes, A: Alarm, K: Start<V>>(
+fn make_parts<R: Wait, V: Managed + SharedVolumes, A: Alarm<V>, K: Start<V>>(
     rt: &R,
     alloc: Global,
     hub: &HubLock<'_, V, A, K>,
@@ -307,7 +357,7 @@ fn make_parts<R: Wait, V: Managed + SharedVolumes, A: Alarm, K: Start<V>>(
 }
 
 /// Asks the requests of a piece up to a long one, and then for its parts.
-fn ask_parts<R: Wait, V: Managed + SharedVolumes, A: Alarm, K: Start<V>>(
+fn ask_parts<R: Wait, V: Managed + SharedVolumes, A: Alarm<V>, K: Start<V>>(
     rt: &R,
     alloc: Global,
     hub: &HubLock<'_, V, A, K>,
@@ -328,7 +378,7 @@ fn ask_parts<R: Wait, V: Managed + SharedVolumes, A: Alarm, K: Start<V>>(
 }
 
 /// Asks a hub behind a lock alone, and part by part where a long request comes.
-fn ask_in_parts<R: Wait, V: Managed + SharedVolumes, A: Alarm, K: Start<V>>(
+fn ask_in_parts<R: Wait, V: Managed + SharedVolumes, A: Alarm<V>, K: Start<V>>(
     rt: &R,
     alloc: Global,
     hub: &HubLock<'_, V, A, K>,
@@ -345,7 +395,7 @@ fn ask_in_parts<R: Wait, V: Managed + SharedVolumes, A: Alarm, K: Start<V>>(
 }
 
 /// Asks a hub behind a lock once: beside others, or where that cannot be, alone.
-fn ask_once<R: Wait, V: Managed + SharedVolumes, A: Alarm, K: Start<V>>(
+fn ask_once<R: Wait, V: Managed + SharedVolumes, A: Alarm<V>, K: Start<V>>(
     rt: &R,
     alloc: Global,
     hub: &HubLock<'_, V, A, K>,
@@ -362,7 +412,7 @@ fn ask_once<R: Wait, V: Managed + SharedVolumes, A: Alarm, K: Start<V>>(
 }
 
 /// Asks the first requests of a piece, and tells how many bytes these were where it has more.
-fn ask_turn<R: Wait, V: Managed + SharedVolumes, A: Alarm, K: Start<V>>(
+fn ask_turn<R: Wait, V: Managed + SharedVolumes, A: Alarm<V>, K: Start<V>>(
     rt: &R,
     alloc: Global,
     hub: &HubLock<'_, V, A, K>,
@@ -391,7 +441,7 @@ impl<'m, R, V, A, K> Desk for LockedDesk<'m, R, V, A, K>
 where
     R: Wait,
     V: Managed + SharedVolumes,
-    A: Alarm,
+    A: Alarm<V>,
     K: Start<V>,
 {
     ghost use Rattle.tp_crowd.specs.Locked.{SomeRuns};

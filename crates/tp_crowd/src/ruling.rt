@@ -1,58 +1,68 @@
-//! Control clients of those who serve without end: lines to the pool, and orders to those who serve.
+//! Control clients of those who serve without end: lines to the pool, and commands to those who serve.
 
-ghost use Rattle.std.specs.Prelude.{◌≡◌, ◌<◌, Some};
-ghost use Rattle.tp_hub.specs.Runs.{Orders, incoming, session_of};
+ghost use Rattle.std.specs.Prelude.{◌≡◌, ◌<◌, ◌∷◌, [], Some};
+ghost use Rattle.tp_hub.specs.Runs.{AsksFlush, Orders, incoming, session_of};
+ghost use Rattle.tp_hub.specs.Told.{Accepts, HasRoom};
 ghost use Rattle.tp_hub.specs.Desks.{IsAsked};
 ghost use Rattle.tp_crowd.specs.Locked.{SomeRuns};
-ghost use Rattle.tp_crowd.specs.Ruling.{AnswersRulers, IsOrder, IsRuled, Obeys};
+ghost use Rattle.tp_crowd.specs.Ruling.{AnswersRulers, IsCommand, IsRuled, IsToldOf, Obeys, TellsSo, TellsWho};
 
+use crate::census::{CENSUS, put_census};
+use crate::chronicle::Chronicle;
 use crate::control::{Watched, is_bounded};
 use crate::door::Door;
 use crate::gate::Gate;
-use crate::locked::{Alarm, HubLock, LockedDesk};
+use crate::locked::{HubLock, LockedDesk};
+use crate::pause::pause;
 use crate::since::Start;
 use std::alloc::Global;
 use std::net::TcpStream;
 use std::sync::atomic::{AtomicBool, Ordering};
 use std::sync::{Mutex, Wait};
-use std::thread;
-use std::time::{Clock, Duration};
-use tp_hub::{Answers, Desk, Event, Mark, Ran, Stream};
+use std::time::Clock;
+use tp_hub::{Answers, Desk, Event, Mark, Ran, SESSIONS, Seat, Stream};
 use tp_lines::{LinesEnd, attend_lines};
-use tp_model::{SharedVolumes, Volumes};
+use tp_model::{Refusal, SharedVolumes, Volumes};
 use tp_msg::Managed;
-
-/// Behind an accept that failed the next one waits so many milliseconds.
-const PAUSE: u64 = 100;
 
 /// The streams of those who said that it is to end.
 pub(crate) type Askers = Mutex<Vec<TcpStream>>;
 
-/// What a control line may say to those who serve.
+/// What a control line may want of those who serve.
 #[derive(Clone, Copy, Debug, PartialEq, Eq)]
-enum Order {
+enum Command {
     /// Nobody is let in any more.
     Stop,
     /// The streams of those who are within are at their ends, too.
     StopNow,
+    /// What was written is kept.
+    Flush,
+    /// It is told who is served.
+    Clients,
 }
 
-/// The order that a line is, if it is one.
-fn order_of(line: &[u8]) -> Option<Order>
-    ensures { (order : Order) → result ≡ Some order → IsOrder line.now }
+/// The command that a line is, if it is one.
+fn command_of(line: &[u8]) -> Option<Command>
+    ensures { (command : Command) → result ≡ Some command → IsCommand line.now command }
 {
     if line == b"stop".as_slice() {
-        return Some(Order::Stop);
+        return Some(Command::Stop);
     }
     if line == b"stop now".as_slice() {
-        return Some(Order::StopNow);
+        return Some(Command::StopNow);
+    }
+    if line == b"flush".as_slice() {
+        return Some(Command::Flush);
+    }
+    if line == b"clients".as_slice() {
+        return Some(Command::Clients);
     }
     None
 }
 
-/// A desk for control lines: those that are orders are obeyed here, and any other is asked of the hub.
+/// A desk for control lines: commands are obeyed here, and any other line is asked of the hub.
 #[derive(Drop)]
-struct RuledDesk<'m, R: Wait, V: Volumes, A: Alarm, K: Start<V>> {
+struct RuledDesk<'m, R: Wait, V: Volumes, A: Chronicle<V>, K: Start<V>> {
     desk: LockedDesk<'m, R, V, A, K>,
     gate: &'m Gate,
     doors: &'m [Door],
@@ -60,26 +70,61 @@ struct RuledDesk<'m, R: Wait, V: Volumes, A: Alarm, K: Start<V>> {
     is_stopped: bool,
 }
 
-/// Tells that an order is obeyed, where there is memory for it.
-fn tell_obeyed(line: &[u8], out: &mut Answers) -> Ran
-    requires { IsOrder line.now }
-    ensures { IsAsked (λ took answers. Obeys took answers) (Orders line.now) result.events result.bytes out.old out.new }
+/// The command was not obeyed, since there was no memory for its answer.
+const NOTHING: Ran = Ran {
+    events: 0,
+    bytes: 0,
+};
+
+/// It was.
+const WHOLE: Ran = Ran {
+    events: 1,
+    bytes: 0,
+};
+
+/// Tells that a command is obeyed.
+fn tell_done(line: &[u8], out: &mut Answers) -> Ran
+    ensures { IsAsked (λ took answers. TellsSo line.now (λ told. told ≡ Accepts ∷ []) took answers) (Orders line.now) result.events result.bytes out.old out.new }
 {
     if out.make_room().is_err() {
-        return Ran {
-            events: 0,
-            bytes: 0,
-        };
+        return NOTHING;
     }
     out.note(Mark::Done);
-    Ran {
-        events: 1,
-        bytes: 0,
+    WHOLE
+}
+
+/// Tells who is served.
+fn tell_seats(alloc: Global, seats: &[Seat; SESSIONS], out: &mut Answers)
+    requires { HasRoom out.old }
+    ensures { IsToldOf seats.now out.old out.new }
+{
+    let mut line = [0; CENSUS];
+    match put_census(alloc, seats, &mut line) {
+        Ok(end) => out.tell(&line[..end]),
+        Err(_) => out.note(Mark::Refused {
+            reason: Refusal::Memory,
+        }),
     }
 }
 
-/// Asks a desk once for what is no order.
-fn ask_hub<R: Wait, V: Managed + SharedVolumes, A: Alarm, K: Start<V>>(
+/// Tells who is served by a hub.
+fn tell_clients<R: Wait, V: Volumes, A: Chronicle<V>, K: Start<V>>(
+    desk: &LockedDesk<'_, R, V, A, K>,
+    line: &[u8],
+    out: &mut Answers,
+) -> Ran
+    ensures { IsAsked (λ took answers. TellsSo line.now TellsWho took answers) (Orders line.now) result.events result.bytes out.old out.new }
+{
+    if out.make_room().is_err() {
+        return NOTHING;
+    }
+    let seats = desk.hub.seats(desk.rt);
+    tell_seats(desk.alloc, &seats, out);
+    WHOLE
+}
+
+/// Asks a desk once for what is no command.
+fn ask_hub<R: Wait, V: Managed + SharedVolumes, A: Chronicle<V>, K: Start<V>>(
     desk: &mut LockedDesk<'_, R, V, A, K>,
     event: Event<'_>,
     out: &mut Answers,
@@ -90,16 +135,44 @@ fn ask_hub<R: Wait, V: Managed + SharedVolumes, A: Alarm, K: Start<V>>(
     desk.ask(event, out)
 }
 
-/// Obeys an order.
-fn obey<R: Wait>(rt: &R, gate: &Gate, doors: &[Door], order: Order) {
-    match order {
-        Order::Stop => gate.shut(rt, doors),
-        Order::StopNow => gate.clear(rt, doors),
+/// Asks a desk once for a flush, in the place of a line.
+fn flush<R: Wait, V: Managed + SharedVolumes, A: Chronicle<V>, K: Start<V>>(
+    desk: &mut LockedDesk<'_, R, V, A, K>,
+    line: &[u8],
+    out: &mut Answers,
+) -> Ran
+    ensures { IsAsked (λ took answers. TellsSo line.now (λ told. SomeRuns V.view (AsksFlush ∷ []) told) took answers) (Orders line.now) result.events result.bytes out.old out.new }
+{
+    desk.ask(Event::Flush, out)
+}
+
+/// Obeys a command.
+fn obey<R: Wait, V: Managed + SharedVolumes, A: Chronicle<V>, K: Start<V>>(
+    desk: &mut LockedDesk<'_, R, V, A, K>,
+    gate: &Gate,
+    doors: &[Door],
+    command: Command,
+    line: &[u8],
+    out: &mut Answers,
+) -> Ran
+    ensures { IsAsked (λ took answers. TellsSo line.now (Obeys V.view command) took answers) (Orders line.now) result.events result.bytes out.old out.new }
+{
+    match command {
+        Command::Stop => {
+            gate.shut(desk.rt, doors);
+            tell_done(line, out)
+        }
+        Command::StopNow => {
+            gate.clear(desk.rt, doors);
+            tell_done(line, out)
+        }
+        Command::Flush => flush(desk, line, out),
+        Command::Clients => tell_clients(desk, line, out),
     }
 }
 
-/// Obeys a line that is an order, and notes it, or asks a desk once for any other.
-fn ask_line<R: Wait, V: Managed + SharedVolumes, A: Alarm, K: Start<V>>(
+/// Obeys a line that is a command, and notes whether it ends all, or asks a desk once for any other.
+fn ask_line<R: Wait, V: Managed + SharedVolumes, A: Chronicle<V>, K: Start<V>>(
     desk: &mut LockedDesk<'_, R, V, A, K>,
     gate: &Gate,
     doors: &[Door],
@@ -109,19 +182,28 @@ fn ask_line<R: Wait, V: Managed + SharedVolumes, A: Alarm, K: Start<V>>(
 ) -> Ran
     ensures { IsAsked (λ took answers. IsRuled V.view took answers) (Orders line.now) result.events result.bytes out.old out.new }
 {
-    let Some(order) = order_of(line) else {
-        return ask_hub(desk, Event::Message(line), out);
-    };
-    obey(desk.rt, gate, doors, order);
-    *is_stopped = true;
-    tell_obeyed(line, out)
+    match command_of(line) {
+        None => ask_hub(desk, Event::Message(line), out),
+        Some(command) => {
+            *is_stopped |= matches!(command, Command::Stop | Command::StopNow);
+            obey(desk, gate, doors, command, line, out)
+        }
+    }
+}
+
+/// Tells of a line that was answered last, where it is done and changed something.
+fn tell_change<V, A: Chronicle<V>>(chronicle: &A, line: &[u8], ran: Ran, out: &Answers) {
+    let is_done = ran.events > 0 && matches!(out.marks().last(), Some(Mark::Done));
+    if is_done && command_of(line) != Some(Command::Flush) {
+        chronicle.obeyed(line);
+    }
 }
 
 impl<'m, R, V, A, K> Desk for RuledDesk<'m, R, V, A, K>
 where
     R: Wait,
     V: Managed + SharedVolumes,
-    A: Alarm,
+    A: Chronicle<V>,
     K: Start<V>,
 {
     ghost use Rattle.tp_crowd.specs.Ruling.{IsRuled};
@@ -131,14 +213,16 @@ where
     fn ask(&mut self, event: Event<'_>, out: &mut Answers) -> Ran {
         match event {
             Event::Message(line) => {
-                ask_line(
+                let ran = ask_line(
                     &mut self.desk,
                     self.gate,
                     self.doors,
                     &mut self.is_stopped,
                     line,
                     out,
-                )
+                );
+                tell_change(self.desk.hub.alarm(), line, ran, out);
+                ran
             }
             other => ask_hub(&mut self.desk, other, out),
         }
@@ -157,7 +241,7 @@ fn answer_orders<R, V, A, K, S>(
 where
     R: Wait,
     V: Managed + SharedVolumes,
-    A: Alarm,
+    A: Chronicle<V>,
     K: Start<V>,
     S: Stream,
     ensures { AnswersRulers V.view (S.calls stream.old) (S.calls stream.new) result.0 }
@@ -186,7 +270,7 @@ fn attend_ruler<R, V, A, K>(
 where
     R: Wait,
     V: Managed + SharedVolumes,
-    A: Alarm,
+    A: Chronicle<V>,
     K: Start<V>,
 {
     if !is_bounded(&client) {
@@ -213,7 +297,7 @@ pub(crate) fn rule<R, V, A, K>(
 where
     R: Wait + Clock,
     V: Managed + SharedVolumes,
-    A: Alarm,
+    A: Chronicle<V>,
     K: Start<V>,
 {
     for _ in rt.forever() {
@@ -221,8 +305,10 @@ where
             return;
         }
         match control.accept() {
-            Ok(client) => attend_ruler(rt, alloc, hub, gate, doors, client, are_gone, askers),
-            Err(_) => thread::sleep(rt, Duration::from_millis(PAUSE)),
+            Ok((client, _)) => {
+                attend_ruler(rt, alloc, hub, gate, doors, client, are_gone, askers)
+            }
+            Err(_) => pause(rt),
         }
     }
 }

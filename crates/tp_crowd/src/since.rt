@@ -10,7 +10,7 @@ ghost use Rattle.tp_crowd.specs.Locked.{IsFrom};
 
 use std::alloc::Global;
 use std::marker::{Brand, Model, PhantomData};
-use tp_hub::{Answers, Event, Hub, Ran};
+use tp_hub::{Answers, Event, Hub, Ran, Seat};
 use tp_model::{Mode, SharedVolumes, Volumes};
 use tp_msg::Managed;
 
@@ -44,6 +44,7 @@ impl<V: Volumes, K: Start<V>> Model for Since<V, K> {
 
 impl<V: Volumes, K: Start<V>> Since<V, K> {
     ghost use Rattle.std.specs.Prelude.{◌≡◌, ◌<◌};
+    ghost use Rattle.tp_hub.specs.Seats.{seat_at};
     ghost use Rattle.tp_crowd.specs.Locked.{IsFrom};
 
     /// The hub that it begins with.
@@ -77,6 +78,21 @@ impl<V: Volumes, K: Start<V>> Since<V, K> {
         ensures { result ≡ (V.view.outline self.now.pool).mode }
     {
         self.hub.mode()
+    }
+
+    /// Its pool, to look at.
+    pub(crate) fn pool(&self) -> &V
+        ensures { result.now ≡ self.now.pool }
+    {
+        self.hub.pool()
+    }
+
+    /// Who is at a number.
+    pub(crate) fn seat(&self, number: u8) -> Seat
+        requires { number < 64 }
+        ensures { result ≡ seat_at self.now.slots number }
+    {
+        self.hub.seat(number)
     }
 }
 

@@ -56,6 +56,11 @@ impl<'c, R: Threads> Socket<'c, R> {
         }
     }
 
+    /// How many requests were read of it.
+    pub(crate) fn requests(&self) -> u64 {
+        self.frames.requests()
+    }
+
     /// Ends it, and a read that is under way.
     pub fn close(self) {
         let Socket {

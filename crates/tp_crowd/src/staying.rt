@@ -4,11 +4,13 @@ ghost use Rattle.std.specs.Prelude.{◌≡◌, ◌<◌};
 ghost use Rattle.tp_crowd.specs.Locked.{CameOf, IsFrom};
 
 use crate::ahead::Crew;
-use crate::crowd::carry_stream;
+use crate::chronicle::{Chronicle, Visit, Visitor};
+use crate::crowd::carry_over;
 use crate::door::Door;
-use crate::gate::Gate;
-use crate::guest::Guest;
-use crate::locked::{Alarm, HubLock};
+use crate::gate::{Caller, Gate};
+use crate::guest::{Guest, GuestDesk};
+use crate::locked::{HubLock, LockedDesk};
+use crate::pause::pause;
 use crate::ruling::{Askers, rule};
 use crate::since::Start;
 use crate::sockets::Socket;
@@ -20,16 +22,16 @@ use std::sync::atomic::{AtomicBool, Ordering};
 use std::sync::{Mutex, Wait};
 use std::thread;
 use std::thread::Threads;
-use std::time::{Clock, Duration};
-use tp_hub::Hub;
+use std::time::Clock;
+use tp_hub::{Answers, Desk, Event, Hub};
 use tp_model::{SharedVolumes, Volumes};
 use tp_msg::Managed;
 
 /// So many clients are served at a time.
 const PLACES: u8 = 64;
 
-/// Behind an accept that failed the next one waits so many milliseconds.
-const PAUSE: u64 = 100;
+/// When clients are told that it is over, so many seconds or so are left to them to take what they are answered.
+const LAST_SECONDS: u32 = 5;
 
 /// So many control clients are answered at a time.
 const RULERS: u8 = 4;
@@ -45,8 +47,8 @@ pub struct Stayed<V: Volumes> {
 
 /// What the threads do for those who come.
 trait Staff {
-    /// Lets those in who come to a door.
-    fn welcome(&self, door: &Door);
+    /// Lets those in who come to a door, which has this index.
+    fn welcome(&self, index: usize, door: &Door);
 
     /// Serves those who were let in, one after another, as the session of this number.
     fn serve(&self, number: u8)
@@ -58,7 +60,7 @@ trait Staff {
 
 /// Serves clients over a hub behind a lock.
 #[derive(Drop)]
-struct House<'m, R: Threads + Wait, V: Volumes, A: Alarm, K: Start<V>> {
+struct House<'m, R: Threads + Wait, V: Volumes, A: Chronicle<V>, K: Start<V>> {
     rt: &'m R,
     alloc: Global,
     hub: &'m HubLock<'m, V, A, K>,
@@ -70,28 +72,44 @@ impl<'m, R, V, A, K> House<'m, R, V, A, K>
 where
     R: Threads + Wait,
     V: Managed + SharedVolumes,
-    A: Alarm,
+    A: Chronicle<V>,
     K: Start<V>,
 {
-    /// Serves one client as the session of this number. It is sent away where its stream could not be ended from outside.
-    fn serve_one(&self, number: u8, client: TcpStream)
+    /// Carries a client as the session of this number, up to its end.
+    fn carry(&self, number: u8, stream: TcpStream) -> Visit
         requires { number < 64 }
     {
-        if !self.gate.enter(self.rt, number, &client) {
+        let socket = Socket::new(self.rt, self.alloc, &self.crew, stream);
+        let mut guest = Guest::new(socket, self.gate.is_over());
+        let mut desk = GuestDesk {
+            desk: LockedDesk {
+                rt: self.rt,
+                alloc: self.alloc,
+                hub: self.hub,
+            },
+            number,
+            volume: None,
+        };
+        let profile = self.gate.profile();
+        carry_over(self.alloc, &mut desk, number, profile, &mut guest);
+        let visit = guest.visit(desk.volume);
+        guest.close();
+        visit
+    }
+
+    /// Serves one client as the session of this number. It is sent away where its stream could not be ended from outside.
+    fn serve_one(&self, number: u8, caller: Caller)
+        requires { number < 64 }
+    {
+        let Caller { stream, door, peer } = caller;
+        if !self.gate.enter(self.rt, number, &stream) {
             return;
         }
-        let socket = Socket::new(self.rt, self.alloc, &self.crew, client);
-        let mut guest = Guest::new(socket, self.gate.is_over());
-        carry_stream(
-            self.rt,
-            self.alloc,
-            self.hub,
-            number,
-            Profile::Extended,
-            &mut guest,
-        );
-        guest.close();
+        let visitor = Visitor { number, door, peer };
+        self.hub.alarm().came(&visitor);
+        let visit = self.carry(number, stream);
         self.gate.leave(self.rt, number);
+        self.hub.alarm().went(&visitor, &visit);
     }
 }
 
@@ -99,14 +117,19 @@ impl<'m, R, V, A, K> Staff for House<'m, R, V, A, K>
 where
     R: Threads + Wait + Clock,
     V: Managed + SharedVolumes,
-    A: Alarm,
+    A: Chronicle<V>,
     K: Start<V>,
 {
-    fn welcome(&self, door: &Door) {
+    fn welcome(&self, index: usize, door: &Door) {
         for _ in self.rt.forever() {
             match door.accept() {
-                Ok(client) => {
-                    if !self.gate.bring(self.rt, client) {
+                Ok((stream, peer)) => {
+                    let caller = Caller {
+                        stream,
+                        door: index,
+                        peer,
+                    };
+                    if !self.gate.bring(self.rt, caller) {
                         return;
                     }
                 }
@@ -114,7 +137,7 @@ where
                     if self.gate.is_shut(self.rt) {
                         return;
                     }
-                    thread::sleep(self.rt, Duration::from_millis(PAUSE));
+                    pause(self.rt);
                 }
             }
         }
@@ -122,10 +145,10 @@ where
 
     fn serve(&self, number: u8) {
         for _ in self.rt.forever() {
-            let Some(client) = self.gate.next(self.rt) else {
+            let Some(caller) = self.gate.next(self.rt) else {
                 return;
             };
-            self.serve_one(number, client);
+            self.serve_one(number, caller);
         }
     }
 
@@ -142,8 +165,8 @@ where
 {
     thread::scope(thread::scope_env(), rt, move |scope| -> bool {
         let mut is_manned = true;
-        for door in doors {
-            let welcome = move || staff.welcome(door);
+        for (index, door) in doors.iter().enumerate() {
+            let welcome = move || staff.welcome(index, door);
             if scope.spawn(welcome).is_err() {
                 is_manned = false;
             }
@@ -172,7 +195,7 @@ fn attend_house<'m, R, V, A, K>(
 where
     R: Threads + Wait + Clock + Sync,
     V: Managed + SharedVolumes + Send + Sync,
-    A: Alarm + Sync,
+    A: Chronicle<V> + Sync,
     K: Start<V> + Send + Sync,
 {
     let processors = thread::available_parallelism(rt).map_or(1, |count| count.get());
@@ -184,6 +207,54 @@ where
         crew: Crew::new(processors),
     };
     attend_doors(rt, doors, &house)
+}
+
+/// Tells the pool's status about once a second, until all are gone, and lets go of those who take no answers when it is over.
+fn watch<'m, R, V, A, K>(rt: &'m R, alloc: Global, hub: &'m HubLock<'m, V, A, K>, gate: &Gate)
+where
+    R: Wait + Clock,
+    V: Managed + SharedVolumes,
+    A: Chronicle<V>,
+    K: Start<V>,
+{
+    let mut desk = LockedDesk { rt, alloc, hub };
+    let mut out = Answers::new(alloc);
+    let mut left = LAST_SECONDS;
+    for _ in rt.forever() {
+        desk.ask(Event::Status, &mut out);
+        hub.alarm().status(out.bytes());
+        out.clear();
+        if gate.wait_for_end(rt) {
+            return;
+        }
+        left = gate.hasten(rt, left);
+    }
+}
+
+/// The same, and beside them tells the pool's status until all are gone.
+fn attend_watched<R, V, A, K>(
+    rt: &R,
+    alloc: Global,
+    hub: &HubLock<'_, V, A, K>,
+    gate: &Gate,
+    doors: &[Door],
+) -> bool
+where
+    R: Threads + Wait + Clock + Sync,
+    V: Managed + SharedVolumes + Send + Sync,
+    A: Chronicle<V> + Sync,
+    K: Start<V> + Send + Sync,
+{
+    thread::scope(thread::scope_env(), rt, move |scope| -> bool {
+        let side = move || watch(rt, alloc, hub, gate);
+        let is_watched = scope.spawn(side).is_ok();
+        if !is_watched {
+            gate.shut(rt, doors);
+        }
+        let is_manned = attend_house(rt, alloc, hub, gate, doors);
+        gate.end(rt);
+        is_watched && is_manned
+    })
 }
 
 /// The same, and beside them answers control clients until the others are gone.
@@ -199,7 +270,7 @@ fn attend_both<R, V, A, K>(
 where
     R: Threads + Wait + Clock + Sync,
     V: Managed + SharedVolumes + Send + Sync,
-    A: Alarm + Sync,
+    A: Chronicle<V> + Sync,
     K: Start<V> + Send + Sync,
 {
     let are_gone = AtomicBool::new(false);
@@ -215,21 +286,26 @@ where
         if !is_ruled {
             gate.shut(rt, doors);
         }
-        let is_manned = attend_house(rt, alloc, hub, gate, doors);
+        let is_manned = attend_watched(rt, alloc, hub, gate, doors);
         are_gone.store(true, Ordering::SeqCst);
         control.shut();
         is_ruled && is_manned
     })
 }
 
-/// Serves clients without end, 64 at a time, from when they come to one of the doors, and offers each the extended profile. Who comes when all places are taken waits. Each thread serves one client after
+/// Serves clients without end, 64 at a time, from when they come to one of the doors, and offers this to each. Who comes when all places are taken waits. Each thread serves one client after
 /// another, always as the session of one number.
 ///
-/// Beside them it answers the lines of control clients, four of them at a time, as [`serve_listener_with_control`](crate::serve_listener_with_control) does. Two
-/// lines more are not the pool's: behind `stop` nobody is let in any more, and it ends when the last client has gone; behind `stop now` the clients' streams are
-/// at their ends too, and what was read of them is answered. Both are answered `ok` at once. Without a control door, and without these lines, it goes on for ever.
+/// Beside them it answers the lines of control clients, four of them at a time, as [`serve_listener_with_control`](crate::serve_listener_with_control) does. Four
+/// lines more are no messages to the pool. `flush` is a flush of it, answered `ok` when what was written is kept. `clients` tells how many are served, and the
+/// ids of the volumes that they have in ascending order, one for each who has a volume: `3 of 64: 0 7 7`. Behind `stop` nobody is let in any more, and it ends
+/// when the last client has gone; behind `stop now` the clients' streams are at their ends too, and what was read of them is answered, as far as they take the
+/// answers within some five seconds. Both are answered `ok` at once. Without a control door, and without these lines, it goes on for ever.
 ///
-/// An accept that fails is made again, a tenth of a second later. When the pool has failed, the alarm sounds once.
+/// An accept that fails is made again, a tenth of a second later. A client at a TCP address whose system does not answer any more is at its end within some minutes.
+///
+/// The chronicle is told who comes and goes, which control lines were answered that they are done, but for flushes, and about once a second the pool's status
+/// line. When the pool has failed, its alarm sounds once.
 ///
 /// The hub that is given back came of the one that was given by runs one behind the other, as that of [`serve_all`](crate::serve_all) did. That clients are let in
 /// for ever, and that it ends, no clause says.
@@ -239,15 +315,16 @@ pub fn serve_until_stopped<R, V, A>(
     hub: Hub<V>,
     doors: &[Door],
     control: Option<&Door>,
-    alarm: &A,
+    profile: Profile,
+    chronicle: &A,
 ) -> Stayed<V>
 where
     R: Threads + Wait + Clock + Sync,
     V: Managed + SharedVolumes + Send + Sync,
-    A: Alarm + Sync,
+    A: Chronicle<V> + Sync,
     ensures asked { CameOf V.view hub result.hub }
 {
-    stay_since::<R, V, A, Brand>(rt, alloc, hub, doors, control, alarm)
+    stay_since::<R, V, A, Brand>(rt, alloc, hub, doors, control, profile, chronicle)
 }
 
 /// The same of a hub that is such a start.
@@ -257,21 +334,22 @@ fn stay_since<R, V, A, K>(
     hub: Hub<V>,
     doors: &[Door],
     control: Option<&Door>,
-    alarm: &A,
+    profile: Profile,
+    chronicle: &A,
 ) -> Stayed<V>
 where
     R: Threads + Wait + Clock + Sync,
     V: Managed + SharedVolumes + Send + Sync,
-    A: Alarm + Sync,
+    A: Chronicle<V> + Sync,
     K: Start<V> + Send + Sync,
     requires { K.is_start hub }
     ensures asked { IsFrom V.view K.is_start result.hub }
 {
-    let shared = HubLock::<V, A, K>::new(hub, alarm);
-    let gate = Gate::new();
+    let shared = HubLock::<V, A, K>::new(hub, chronicle);
+    let gate = Gate::new(profile);
     let askers = Mutex::new(Vec::new(alloc));
     let is_manned = match control {
-        None => attend_house(rt, alloc, &shared, &gate, doors),
+        None => attend_watched(rt, alloc, &shared, &gate, doors),
         Some(control) => attend_both(rt, alloc, &shared, &gate, doors, control, &askers),
     };
     Stayed {

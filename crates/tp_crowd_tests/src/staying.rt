@@ -4,7 +4,8 @@ use crate::parts::exchange;
 use crate::served::listening;
 use crate::talk::{ANSWERED_GO, GO};
 use crate::waiting::Seen;
-use std::alloc::Global;
+use nbd_session::Profile;
+use std::alloc::{AllocError, Global};
 use std::io;
 use std::io::Read;
 use std::net::{Net, SocketAddr, TcpListener, TcpStream};
@@ -31,14 +32,22 @@ where
     Ok(client)
 }
 
-/// Says a line to those who serve: whether it is answered that it is done.
-fn is_done<H>(rt: &H, control: SocketAddr, line: &[u8]) -> io::Result<bool>
+/// Says a line to those who serve: whether it is answered so.
+fn is_answered<H>(rt: &H, control: SocketAddr, line: &[u8], answer: &[u8]) -> io::Result<bool>
 where
     H: Net<Listener = TcpListener, Stream = TcpStream> + Alloc<A = Global>,
 {
     let mut ruler = TcpStream::connect(rt, control)?;
     ruler.set_read_timeout(Some(Duration::from_millis(10_000)))?;
-    Ok(exchange(rt.alloc(), &mut ruler, line, 3)?.as_slice() == b"ok\n".as_slice())
+    Ok(exchange(rt.alloc(), &mut ruler, line, answer.len())?.as_slice() == answer)
+}
+
+/// Whether it is answered that it is done.
+fn is_done<H>(rt: &H, control: SocketAddr, line: &[u8]) -> io::Result<bool>
+where
+    H: Net<Listener = TcpListener, Stream = TcpStream> + Alloc<A = Global>,
+{
+    is_answered(rt, control, line, b"ok\n")
 }
 
 /// How many of so many clients, one after the other, were told of their volume.
@@ -75,33 +84,177 @@ where
     Ok((count as u32, done))
 }
 
-/// What is left: whether each thread could be made, and how many volumes are held.
-fn left_of(stayed: Stayed<Shelf>) -> (bool, usize) {
+/// What is told while one client has a volume and another has none: how many of three lines are answered so, and whether all is stopped then.
+fn ask_beside<H>(rt: &H, clients: SocketAddr, control: SocketAddr) -> io::Result<(u32, bool)>
+where
+    H: Net<Listener = TcpListener, Stream = TcpStream> + Alloc<A = Global>,
+{
+    let stays = told_client(rt, clients)?;
+    let other = greeted_client(rt, clients)?;
+    let told = [
+        is_answered(rt, control, b"clients\n", b"2 of 64: 0\n")?,
+        is_answered(rt, control, b"flush\n", b"ok\n")?,
+        is_answered(rt, control, b"flush now\n", b"refused 12\n")?,
+    ];
+    drop((stays, other));
+    Ok((count_so(&told), is_done(rt, control, b"stop now\n")?))
+}
+
+/// A read of the first MiB.
+const LONG_READ: &[u8] = b"\x25\x60\x95\x13\0\0\0\0\0\0\0\0\0\0\0\x02\0\0\0\0\0\0\0\0\0\x10\0\0";
+
+/// Many of them: more than the system holds for a client that takes none of their answers.
+fn many_reads(alloc: Global) -> Result<Vec<u8>, AllocError> {
+    let mut text = Vec::new(alloc);
+    for _ in 0..32 {
+        text.extend_from_slice(LONG_READ)?;
+    }
+    Ok(text)
+}
+
+/// A client that takes only the head of what it is answered: whether those who serve end while it stays, and whether it is done that they are to stop now.
+fn take_nothing<H>(rt: &H, clients: SocketAddr, control: SocketAddr) -> io::Result<(u32, bool)>
+where
+    H: Net<Listener = TcpListener, Stream = TcpStream> + Alloc<A = Global>,
+{
+    let mut client = told_client(rt, clients)?;
+    exchange(rt.alloc(), &mut client, &many_reads(rt.alloc())?, 16)?;
+    let mut ruler = TcpStream::connect(rt, control)?;
+    ruler.set_read_timeout(Some(Duration::from_millis(20_000)))?;
+    let done = exchange(rt.alloc(), &mut ruler, b"stop now\n", 3)?.as_slice() == b"ok\n".as_slice();
+    let is_over = matches!(ruler.read(&mut [0]), Ok(0));
+    drop(client);
+    Ok((u32::from(is_over), done))
+}
+
+/// How many of these are so.
+fn count_so(are: &[bool]) -> u32 {
+    let mut count = 0u32;
+    for is in are {
+        count = count.saturating_add(u32::from(*is));
+    }
+    count
+}
+
+/// A client that was greeted. It waits 10 seconds at most for what it reads.
+fn greeted_client<H>(rt: &H, clients: SocketAddr) -> io::Result<TcpStream>
+where
+    H: Net<Listener = TcpListener, Stream = TcpStream>,
+{
+    let mut client = TcpStream::connect(rt, clients)?;
+    client.set_read_timeout(Some(Duration::from_millis(10_000)))?;
+    client.read_exact(&mut [0; 18])?;
+    Ok(client)
+}
+
+/// So many of them.
+fn greeted_clients<H>(rt: &H, clients: SocketAddr, count: u32) -> io::Result<Vec<TcpStream>>
+where
+    H: Net<Listener = TcpListener, Stream = TcpStream> + Alloc<A = Global>,
+{
+    let mut all = Vec::new(rt.alloc());
+    for _ in 0..count {
+        all.push(greeted_client(rt, clients)?)?;
+    }
+    Ok(all)
+}
+
+/// Whether a client is sent nothing for a fifth of a second.
+fn is_kept_waiting(client: &mut TcpStream) -> io::Result<bool> {
+    client.set_read_timeout(Some(Duration::from_millis(200)))?;
+    Ok(client.read_exact(&mut [0]).is_err())
+}
+
+/// Whether it is greeted, within 10 seconds.
+fn is_greeted(client: &mut TcpStream) -> io::Result<bool> {
+    client.set_read_timeout(Some(Duration::from_millis(10_000)))?;
+    Ok(client.read_exact(&mut [0; 18]).is_ok())
+}
+
+/// One more client than are served at a time: whether it waits, and is greeted when another one has gone; and whether all is stopped then.
+fn come_as_one_more<H>(rt: &H, clients: SocketAddr, control: SocketAddr) -> io::Result<(u32, bool)>
+where
+    H: Net<Listener = TcpListener, Stream = TcpStream> + Alloc<A = Global>,
+{
+    let mut within = greeted_clients(rt, clients, 64)?;
+    let mut more = TcpStream::connect(rt, clients)?;
+    let waits = is_kept_waiting(&mut more)?;
+    drop(within.pop());
+    let greeted = is_greeted(&mut more)?;
+    Ok((
+        count_so(&[waits, greeted]),
+        is_done(rt, control, b"stop now\n")?,
+    ))
+}
+
+/// Who comes while it is served.
+#[derive(Clone, Copy)]
+enum Guests {
+    ComeAndGo,
+    Stay,
+    Ask,
+    OneMore,
+    TakeNothing,
+}
+
+/// What they are told.
+fn told_guests<H>(
+    rt: &H,
+    guests: Guests,
+    clients: SocketAddr,
+    control: SocketAddr,
+) -> io::Result<(u32, bool)>
+where
+    H: Net<Listener = TcpListener, Stream = TcpStream> + Alloc<A = Global>,
+{
+    match guests {
+        Guests::ComeAndGo => come_and_stop(rt, clients, control),
+        Guests::Stay => stay_to_the_end(rt, clients, control),
+        Guests::Ask => ask_beside(rt, clients, control),
+        Guests::OneMore => come_as_one_more(rt, clients, control),
+        Guests::TakeNothing => take_nothing(rt, clients, control),
+    }
+}
+
+/// What is left: whether each thread could be made, how many volumes are held, and of how many clients it was told that they have gone.
+type Left = (bool, usize, u64);
+
+fn left_of(stayed: Stayed<Shelf>, chronicle: &Seen) -> Left {
     let Stayed {
         hub,
         is_manned,
         askers: _,
     } = stayed;
-    (is_manned, hub.into_pool().held())
+    (is_manned, hub.into_pool().held(), chronicle.letters())
 }
 
 /// Serves until it is told to stop.
-fn served_until_stopped<H>(rt: &H, doors: &[Door], control: &Door) -> Result<(bool, usize), Refusal>
+fn served_until_stopped<H>(rt: &H, doors: &[Door], control: &Door) -> Result<Left, Refusal>
 where
     H: Threads + Wait + Clock + Sync + Alloc<A = Global>,
 {
     let hub = Hub::new(blank_shelf(rt.alloc())?);
-    let alarm = Seen::nothing();
-    Ok(left_of(serve_until_stopped(rt, rt.alloc(), hub, doors, Some(control), &alarm)))
+    let chronicle = Seen::nothing();
+    let profile = Profile::Strict;
+    let stayed = serve_until_stopped(
+        rt,
+        rt.alloc(),
+        hub,
+        doors,
+        Some(control),
+        profile,
+        &chronicle,
+    );
+    Ok(left_of(stayed, &chronicle))
 }
 
 /// What clients are told, and what is left when it was told to stop.
-type Told = ((u32, bool), (bool, usize));
+type Told = ((u32, bool), Left);
 
-/// That of clients who come and go, or of one who stays.
+/// That of such clients.
 fn told_beside<H>(
     rt: &H,
-    stays: bool,
+    guests: Guests,
     doors: &[Door],
     control: &Door,
     addresses: (SocketAddr, SocketAddr),
@@ -117,20 +270,14 @@ where
     let (clients, lines) = addresses;
     let (told, left) = join(
         rt,
-        || {
-            if stays {
-                stay_to_the_end(rt, clients, lines)
-            } else {
-                come_and_stop(rt, clients, lines)
-            }
-        },
+        || told_guests(rt, guests, clients, lines),
         || served_until_stopped(rt, doors, control),
     );
     Ok((told?, left?))
 }
 
 /// The same at doors of loopback.
-fn told_at_doors<H>(rt: &H, stays: bool) -> Result<Told, Fail>
+fn told_at_doors<H>(rt: &H, guests: Guests) -> Result<Told, Fail>
 where
     H: Net<Listener = TcpListener, Stream = TcpStream>
         + Threads
@@ -143,21 +290,45 @@ where
     let (listener, clients) = listening(rt)?;
     let control = Door::tcp(control)?;
     let doors = [Door::tcp(listener)?];
-    told_beside(rt, stays, &doors, &control, (clients, lines))
+    told_beside(rt, guests, &doors, &control, (clients, lines))
 }
 
 /// More clients than are served at a time come one after the other, and each is served; then it stops where it is told to.
 #[test]
 fn clients_come_without_end(rt: HostRuntime) -> Result<(), Fail> {
-    let told = told_at_doors(&rt, false)?;
-    assert_eq!(rt; told, ((CLIENTS, true), (true, 0)));
+    let told = told_at_doors(&rt, Guests::ComeAndGo)?;
+    assert_eq!(rt; told, ((CLIENTS, true), (true, 0, u64::from(CLIENTS))));
     Ok(())
 }
 
 /// A client that stays is at its end where it is to stop now.
 #[test]
 fn who_stays_is_let_go(rt: HostRuntime) -> Result<(), Fail> {
-    let told = told_at_doors(&rt, true)?;
-    assert_eq!(rt; told, ((0, true), (true, 0)));
+    let told = told_at_doors(&rt, Guests::Stay)?;
+    assert_eq!(rt; told, ((0, true), (true, 0, 1)));
+    Ok(())
+}
+
+/// A client that takes no answers is let go some seconds later.
+#[test]
+fn who_takes_nothing_is_let_go(rt: HostRuntime) -> Result<(), Fail> {
+    let told = told_at_doors(&rt, Guests::TakeNothing)?;
+    assert_eq!(rt; told, ((1, true), (true, 0, 1)));
+    Ok(())
+}
+
+/// Those who have no volume count too. A line that only begins as one of those that are no messages is a message.
+#[test]
+fn lines_tell_who_is_served(rt: HostRuntime) -> Result<(), Fail> {
+    let told = told_at_doors(&rt, Guests::Ask)?;
+    assert_eq!(rt; told, ((3, true), (true, 0, 2)));
+    Ok(())
+}
+
+/// One more than are served at a time waits, and is served when another one has gone.
+#[test]
+fn one_more_waits_for_a_place(rt: HostRuntime) -> Result<(), Fail> {
+    let told = told_at_doors(&rt, Guests::OneMore)?;
+    assert_eq!(rt; told, ((2, true), (true, 0, 65)));
     Ok(())
 }

@@ -5,7 +5,7 @@ ghost use Rattle.tp_hub.specs.Streams.{GivesSome, TakesSome};
 
 use std::sync::atomic::{AtomicBool, AtomicU64, Ordering};
 use std::thread;
-use tp_crowd::Alarm;
+use tp_crowd::{Alarm, Chronicle, Visit, Visitor};
 use tp_hub::{Log, Made, Put, Received, Stream};
 
 /// What a client was written: how many bytes, and how many of them are the letter `a`; and whether it waited for another one in vain.
@@ -57,10 +57,27 @@ impl Seen {
 }
 
 /// An alarm, of which each time is a byte.
-impl Alarm for Seen {
-    fn pool_failed(&self) {
+impl<V> Alarm<V> for Seen {
+    type Cause = ();
+
+    fn cause(&self, _pool: &V) {}
+
+    fn pool_failed(&self, _cause: ()) {
         self.add(b"!");
     }
+}
+
+/// A chronicle, of which each that has gone is a byte.
+impl<V> Chronicle<V> for Seen {
+    fn came(&self, _visitor: &Visitor) {}
+
+    fn went(&self, _visitor: &Visitor, _visit: &Visit) {
+        self.add(b"a");
+    }
+
+    fn obeyed(&self, _line: &[u8]) {}
+
+    fn status(&self, _line: &[u8]) {}
 }
 
 /// How many of the bytes are the letter `a`.

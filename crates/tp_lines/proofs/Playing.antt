@@ -192,34 +192,35 @@ module _ {D : Type 0} (Did : D → List Incoming → List Answer → D → Type 
         (subst (λ (l : List Exchange). GivesAll n piece l ((ds ++ a.did) ++ later) result) (sym (append_assoc xs (asked ∷ []) zs))
         (subst (λ (l : List StreamCall). GivesAll n piece (xs ++ (asked ∷ zs)) l result) (sym (append_assoc ds a.did later)) whole))))
 
--- ---- one read
+-- ---- one read, with what is offered to each who comes
 
-pub played_on : (line line' piece : List ℕ) (n m : ℕ) (xs : List Exchange) (ds : List StreamCall) → line' ≡ left_from line piece → AreDone PlaysLine (lines_from line piece) n xs ds m (Ok (tt {0})) → IsReadOnce PlaysLine Script ends_last line n xs (Gave piece ∷ ds) line' m None
-played_on line line' piece n m xs ds left p = inl (piece, ds, refl, left, p)
+module _ (profile : Profile) where
+  pub played_on : (line line' piece : List ℕ) (n m : ℕ) (xs : List Exchange) (ds : List StreamCall) → line' ≡ left_from line piece → AreDone (PlaysLine profile) (lines_from line piece) n xs ds m (Ok (tt {0})) → IsReadOnce (PlaysLine profile) Script ends_last line n xs (Gave piece ∷ ds) line' m None
+  played_on line line' piece n m xs ds left p = inl (piece, ds, refl, left, p)
 
-pub played_last : (line line' piece : List ℕ) (n m : ℕ) (why : Stopped) (xs : List Exchange) (ds : List StreamCall) → AreDone PlaysLine (lines_from line piece) n xs ds m (Err why) → IsReadOnce PlaysLine Script ends_last line n xs (Gave piece ∷ ds) line' m (Some (Err why))
-played_last line line' piece n m why xs ds p reads = ReadStop piece p
+  pub played_last : (line line' piece : List ℕ) (n m : ℕ) (why : Stopped) (xs : List Exchange) (ds : List StreamCall) → AreDone (PlaysLine profile) (lines_from line piece) n xs ds m (Err why) → IsReadOnce (PlaysLine profile) Script ends_last line n xs (Gave piece ∷ ds) line' m (Some (Err why))
+  played_last line line' piece n m why xs ds p reads = ReadStop piece p
 
-pub played_again : (line : List ℕ) (n : ℕ) → IsReadOnce PlaysLine Script ends_last line n [] (GaveAgain ∷ []) line n None
-played_again line n = inr (refl, refl, refl, refl)
+  pub played_again : (line : List ℕ) (n : ℕ) → IsReadOnce (PlaysLine profile) Script ends_last line n [] (GaveAgain ∷ []) line n None
+  played_again line n = inr (refl, refl, refl, refl)
 
-pub played_end : (line line' : List ℕ) (n m : ℕ) (result : Result (Unit {0}) Stopped) → OnOk result (m ≡ one_more n) → OnErr result (m ≡ n) → (xs : List Exchange) (ds : List StreamCall) → PlaysLine line xs ds result → IsReadOnce PlaysLine Script ends_last line n xs (GaveEnd ∷ ds) line' m (Some result)
-played_end line line' n m result next same xs ds p reads = ReadEnd (done_one PlaysLine line n m xs ds result next same p)
+  pub played_end : (line line' : List ℕ) (n m : ℕ) (result : Result (Unit {0}) Stopped) → OnOk result (m ≡ one_more n) → OnErr result (m ≡ n) → (xs : List Exchange) (ds : List StreamCall) → PlaysLine profile line xs ds result → IsReadOnce (PlaysLine profile) Script ends_last line n xs (GaveEnd ∷ ds) line' m (Some result)
+  played_end line line' n m result next same xs ds p reads = ReadEnd (done_one (PlaysLine profile) line n m xs ds result next same p)
 
-pub played_none : (line line' : List ℕ) (n : ℕ) → IsReadOnce PlaysLine Script ends_last line n [] (GaveNone ∷ []) line' n (Some (Err Script))
-played_none line line' n reads = ReadFail
+  pub played_none : (line line' : List ℕ) (n : ℕ) → IsReadOnce (PlaysLine profile) Script ends_last line n [] (GaveNone ∷ []) line' n (Some (Err Script))
+  played_none line line' n reads = ReadFail
 
--- ---- read after read
+  -- ---- read after read
 
-pub read_more : (line l l' : List ℕ) (n turns m k : ℕ) (went : Option (Result (Unit {0}) Stopped)) → went ≡ None → (xs ys : List Exchange) (ds es : List StreamCall) → SoFar PlaysLine Script ends_last line n turns l m xs ds → IsReadOnce PlaysLine Script ends_last l m ys es l' k went
-    → SoFar PlaysLine Script ends_last line n (turns + 1) l' k (xs ++ ys) (ds ++ es)
-read_more line l l' n turns m k None is xs ys ds es s once = so_far_more PlaysLine Script ends_last line l l' n turns m k xs ys ds es s once
-read_more line l l' n turns m k (Some result) is xs ys ds es s once = absurd cc
+  pub read_more : (line l l' : List ℕ) (n turns m k : ℕ) (went : Option (Result (Unit {0}) Stopped)) → went ≡ None → (xs ys : List Exchange) (ds es : List StreamCall) → SoFar (PlaysLine profile) Script ends_last line n turns l m xs ds → IsReadOnce (PlaysLine profile) Script ends_last l m ys es l' k went
+      → SoFar (PlaysLine profile) Script ends_last line n (turns + 1) l' k (xs ++ ys) (ds ++ es)
+  read_more line l l' n turns m k None is xs ys ds es s once = so_far_more (PlaysLine profile) Script ends_last line l l' n turns m k xs ys ds es s once
+  read_more line l l' n turns m k (Some result) is xs ys ds es s once = absurd cc
 
-pub read_ends : (line l l' : List ℕ) (n turns m k : ℕ) (went : Option (Result (Unit {0}) Stopped)) (result : Result (Unit {0}) Stopped) → went ≡ Some result → (xs ys : List Exchange) (ds es : List StreamCall) → SoFar PlaysLine Script ends_last line n turns l m xs ds
-    → IsReadOnce PlaysLine Script ends_last l m ys es l' k went → AreRead PlaysLine Script ends_last 0 line n (xs ++ ys) (ds ++ es) k result
-read_ends line l l' n turns m k went result is xs ys ds es s once =
-    so_far_ends PlaysLine Script ends_last line l l' n turns m k xs ys ds es result s (subst (λ (o : Option (Result (Unit {0}) Stopped)). IsReadOnce PlaysLine Script ends_last l m ys es l' k o) is once)
+  pub read_ends : (line l l' : List ℕ) (n turns m k : ℕ) (went : Option (Result (Unit {0}) Stopped)) (result : Result (Unit {0}) Stopped) → went ≡ Some result → (xs ys : List Exchange) (ds es : List StreamCall) → SoFar (PlaysLine profile) Script ends_last line n turns l m xs ds
+      → IsReadOnce (PlaysLine profile) Script ends_last l m ys es l' k went → AreRead (PlaysLine profile) Script ends_last 0 line n (xs ++ ys) (ds ++ es) k result
+  read_ends line l l' n turns m k went result is xs ys ds es s once =
+      so_far_ends (PlaysLine profile) Script ends_last line l l' n turns m k xs ys ds es result s (subst (λ (o : Option (Result (Unit {0}) Stopped)). IsReadOnce (PlaysLine profile) Script ends_last l m ys es l' k o) is once)
 
-pub from_first : (line : List ℕ) (n k : ℕ) (result : Result (Unit {0}) Stopped) → line ≡ [] → n ≡ 0 → (xs : List Exchange) (ds : List StreamCall) → AreRead PlaysLine Script ends_last 0 line n xs ds k result → PlaysScript xs ds k result
-from_first line n k result first none xs ds p = inr (subst (λ (c : ℕ). AreRead PlaysLine Script ends_last 0 [] c xs ds k result) none (subst (λ (l : List ℕ). AreRead PlaysLine Script ends_last 0 l n xs ds k result) first p))
+  pub from_first : (line : List ℕ) (n k : ℕ) (result : Result (Unit {0}) Stopped) → line ≡ [] → n ≡ 0 → (xs : List Exchange) (ds : List StreamCall) → AreRead (PlaysLine profile) Script ends_last 0 line n xs ds k result → PlaysScript profile xs ds k result
+  from_first line n k result first none xs ds p = inr (subst (λ (c : ℕ). AreRead (PlaysLine profile) Script ends_last 0 [] c xs ds k result) none (subst (λ (l : List ℕ). AreRead (PlaysLine profile) Script ends_last 0 l n xs ds k result) first p))

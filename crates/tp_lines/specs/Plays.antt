@@ -2,7 +2,6 @@
 use Rattle.std.specs.Prelude.{◌≡◌, ℕ, ◌<◌, ◌⊎◌, Bool, true, false, List, [], ◌∷◌, ◌++◌, length, MatchBool, Result, Ok, Err}
 use Rattle.tp_hub.specs.Told.{Answer}
 use Rattle.nbd_session.specs.declared.phase.Profile.{Profile}
-use Rattle.nbd_session.specs.declared.phase.Profile.TheVariants.{Strict}
 use Rattle.tp_hub.specs.Runs.{Incoming, Comes, Brings, Goes, Orders, AsksLine, AsksLineOf, taken_of}
 use Rattle.tp_hub.specs.Desks.{Exchange, IsBegun, IsCut}
 use Rattle.tp_hub.specs.Streams.{StreamCall}
@@ -32,27 +31,28 @@ Takes event asks calls (Err Memory) = (x : Exchange) × (asks ≡ x ∷ []) × (
 Takes event asks calls (Err Output) = (x : Exchange) × (asks ≡ x ∷ []) × (x.took ≡ event ∷ []) × IsSaid (text_in x.answers) calls false
 Takes event asks calls (Err Script) = ⊥
 
-abbrev pub Does : ScriptLine → List Exchange → List StreamCall → Result (Unit {0}) Stopped → Type 0
-Does Nothing asks calls result = (asks ≡ []) × (calls ≡ []) × (result ≡ Ok tt)
-Does (Open n) asks calls result = Takes (Comes n Strict) asks calls result
-Does (Bytes n digits) asks calls result = GivesAll n (bytes_of digits.now) asks calls result
-Does (Hangup n) asks calls result = Takes (Goes n) asks calls result
-Does (Message text) asks calls result = Takes (Orders text.now) asks calls result
-Does Status asks calls result = Takes AsksLine asks calls result
-Does (Thin id) asks calls result = Takes (AsksLineOf id) asks calls result
+-- profile: what a session is offered that is opened.
+abbrev pub Does : Profile → ScriptLine → List Exchange → List StreamCall → Result (Unit {0}) Stopped → Type 0
+Does profile Nothing asks calls result = (asks ≡ []) × (calls ≡ []) × (result ≡ Ok tt)
+Does profile (Open n) asks calls result = Takes (Comes n profile) asks calls result
+Does profile (Bytes n digits) asks calls result = GivesAll n (bytes_of digits.now) asks calls result
+Does profile (Hangup n) asks calls result = Takes (Goes n) asks calls result
+Does profile (Message text) asks calls result = Takes (Orders text.now) asks calls result
+Does profile Status asks calls result = Takes AsksLine asks calls result
+Does profile (Thin id) asks calls result = Takes (AsksLineOf id) asks calls result
 
 -- A text that is no line stops the script, and leads to nothing.
-abbrev pub PlaysLine : List ℕ → List Exchange → List StreamCall → Result (Unit {0}) Stopped → Type 0
-PlaysLine text asks calls result =
-    (IsNoLine text × (asks ≡ []) × (calls ≡ []) × (result ≡ Err BadLine)) ⊎ ((l : ScriptLine) × IsLine l × (text ≡ spelling l) × Does l asks calls result)
+abbrev pub PlaysLine : Profile → List ℕ → List Exchange → List StreamCall → Result (Unit {0}) Stopped → Type 0
+PlaysLine profile text asks calls result =
+    (IsNoLine text × (asks ≡ []) × (calls ≡ []) × (result ≡ Err BadLine)) ⊎ ((l : ScriptLine) × IsLine l × (text ≡ spelling l) × Does profile l asks calls result)
 
 -- The end of the script ends its last line.
 abbrev pub ends_last : List ℕ → List (List ℕ)
 ends_last line = line ∷ []
 
 -- A script is read and played from its first line; or there was no memory for it, and nothing was done. played: how many of its lines were played whole, at most 2^64 - 1.
-abbrev pub PlaysScript : List Exchange → List StreamCall → ℕ → Result (Unit {0}) Stopped → Type 0
-PlaysScript asks calls played result = ((result ≡ Err Memory) × (played ≡ 0) × (asks ≡ []) × (calls ≡ [])) ⊎ AreRead PlaysLine Script ends_last 0 [] 0 asks calls played result
+abbrev pub PlaysScript : Profile → List Exchange → List StreamCall → ℕ → Result (Unit {0}) Stopped → Type 0
+PlaysScript profile asks calls played result = ((result ≡ Err Memory) × (played ≡ 0) × (asks ≡ []) × (calls ≡ [])) ⊎ AreRead (PlaysLine profile) Script ends_last 0 [] 0 asks calls played result
 
 -- ---- one ask
 

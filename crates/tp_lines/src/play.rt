@@ -118,6 +118,7 @@ fn ask_piece<D: Desk, S: Stream>(
 /// Plays one line.
 fn play_line<D: Desk, S: Stream>(
     desk: &mut D,
+    profile: &Profile,
     text: &[u8],
     bytes: &mut [u8],
     out: &mut Answers,
@@ -126,7 +127,7 @@ fn play_line<D: Desk, S: Stream>(
     requires room { length bytes.old ≡ 8192 }
     requires empty { out.old.list ≡ [] }
     requires fits { HasRoom out.old }
-    ensures played { Leads D.asks (λ asks did. PlaysLine text.now asks did result) desk.old desk.new (S.calls stream.old) (S.calls stream.new) }
+    ensures played { Leads D.asks (λ asks did. PlaysLine profile.now text.now asks did result) desk.old desk.new (S.calls stream.old) (S.calls stream.new) }
     ensures room { length bytes.new ≡ 8192 }
     ensures empty { out.new.list ≡ [] }
     ensures fits { HasRoom out.new }
@@ -134,12 +135,13 @@ fn play_line<D: Desk, S: Stream>(
     let Some(line) = read_line(text) else {
         return Err(Stopped::BadLine);
     };
-    do_line(desk, line, bytes, out, stream)
+    do_line(desk, profile, line, bytes, out, stream)
 }
 
 /// Does what a line asks for.
 fn do_line<D: Desk, S: Stream>(
     desk: &mut D,
+    profile: &Profile,
     line: ScriptLine<'_>,
     bytes: &mut [u8],
     out: &mut Answers,
@@ -149,19 +151,14 @@ fn do_line<D: Desk, S: Stream>(
     requires room { length bytes.old ≡ 8192 }
     requires empty { out.old.list ≡ [] }
     requires fits { HasRoom out.old }
-    ensures done { Leads D.asks (λ asks did. Does line.entry asks did result) desk.old desk.new (S.calls stream.old) (S.calls stream.new) }
+    ensures done { Leads D.asks (λ asks did. Does profile.now line.entry asks did result) desk.old desk.new (S.calls stream.old) (S.calls stream.new) }
     ensures room { length bytes.new ≡ 8192 }
     ensures empty { out.new.list ≡ [] }
     ensures fits { HasRoom out.new }
 {
     match line {
         ScriptLine::Nothing => Ok(()),
-        ScriptLine::Open(number) => ask_event(
-            desk,
-            Event::Open(number, Profile::Strict),
-            out,
-            stream,
-        ),
+        ScriptLine::Open(number) => ask_event(desk, Event::Open(number, *profile), out, stream),
         ScriptLine::Bytes(number, digits) => {
             let len = unhex(digits, bytes);
             ask_piece(desk, number, &bytes[..len], out, stream)
@@ -183,6 +180,7 @@ pub struct Place {
 /// Plays the line that ends here, and begins the next one.
 fn end_line<D: Desk, S: Stream>(
     desk: &mut D,
+    profile: &Profile,
     place: &mut Place,
     bytes: &mut [u8],
     out: &mut Answers,
@@ -191,7 +189,7 @@ fn end_line<D: Desk, S: Stream>(
     requires room { length bytes.old ≡ 8192 }
     requires empty { out.old.list ≡ [] }
     requires fits { HasRoom out.old }
-    ensures played { Leads D.asks (λ asks did. PlaysLine place.old.line asks did result) desk.old desk.new (S.calls stream.old) (S.calls stream.new) }
+    ensures played { Leads D.asks (λ asks did. PlaysLine profile.now place.old.line asks did result) desk.old desk.new (S.calls stream.old) (S.calls stream.new) }
     ensures next { OnOk result (place.new.line ≡ []) }
     ensures count { OnOk result (place.new.played ≡ one_more place.old.played) }
     ensures same { OnErr result (place.new.played ≡ place.old.played) }
@@ -199,7 +197,7 @@ fn end_line<D: Desk, S: Stream>(
     ensures empty { out.new.list ≡ [] }
     ensures fits { HasRoom out.new }
 {
-    play_line(desk, place.line.text(), bytes, out, stream)?;
+    play_line(desk, profile, place.line.text(), bytes, out, stream)?;
     place.line.clear();
     place.played = place.played.saturating_add(1);
     Ok(())
@@ -208,6 +206,7 @@ fn end_line<D: Desk, S: Stream>(
 /// Takes one byte of a script.
 fn play_byte<D: Desk, S: Stream>(
     desk: &mut D,
+    profile: &Profile,
     byte: u8,
     place: &mut Place,
     bytes: &mut [u8],
@@ -217,14 +216,14 @@ fn play_byte<D: Desk, S: Stream>(
     requires room { length bytes.old ≡ 8192 }
     requires empty { out.old.list ≡ [] }
     requires fits { HasRoom out.old }
-    ensures played { Leads D.asks (λ asks did. AreDone PlaysLine (lines_from place.old.line (byte ∷ [])) place.old.played asks did place.new.played result) desk.old desk.new (S.calls stream.old) (S.calls stream.new) }
+    ensures played { Leads D.asks (λ asks did. AreDone (PlaysLine profile.now) (lines_from place.old.line (byte ∷ [])) place.old.played asks did place.new.played result) desk.old desk.new (S.calls stream.old) (S.calls stream.new) }
     ensures left { OnOk result (place.new.line ≡ left_from place.old.line (byte ∷ [])) }
     ensures room { length bytes.new ≡ 8192 }
     ensures empty { out.new.list ≡ [] }
     ensures fits { HasRoom out.new }
 {
     if byte == b'\n' {
-        return end_line(desk, place, bytes, out, stream);
+        return end_line(desk, profile, place, bytes, out, stream);
     }
     place.line.add(byte);
     Ok(())
@@ -233,6 +232,7 @@ fn play_byte<D: Desk, S: Stream>(
 /// Plays the lines that end in a piece, and holds the one behind them.
 fn play_bytes<D: Desk, S: Stream>(
     desk: &mut D,
+    profile: &Profile,
     piece: &[u8],
     place: &mut Place,
     bytes: &mut [u8],
@@ -242,14 +242,14 @@ fn play_bytes<D: Desk, S: Stream>(
     requires room { length bytes.old ≡ 8192 }
     requires empty { out.old.list ≡ [] }
     requires fits { HasRoom out.old }
-    ensures played { Leads D.asks (λ asks did. AreDone PlaysLine (lines_from place.old.line piece.now) place.old.played asks did place.new.played result) desk.old desk.new (S.calls stream.old) (S.calls stream.new) }
+    ensures played { Leads D.asks (λ asks did. AreDone (PlaysLine profile.now) (lines_from place.old.line piece.now) place.old.played asks did place.new.played result) desk.old desk.new (S.calls stream.old) (S.calls stream.new) }
     ensures left { OnOk result (place.new.line ≡ left_from place.old.line piece.now) }
     ensures room { length bytes.new ≡ 8192 }
     ensures empty { out.new.list ≡ [] }
     ensures fits { HasRoom out.new }
 {
     for byte in piece {
-        match play_byte(desk, *byte, place, bytes, out, stream) {
+        match play_byte(desk, profile, *byte, place, bytes, out, stream) {
             Ok(()) => {}
             Err(why) => return Err(why),
         }
@@ -260,6 +260,7 @@ fn play_bytes<D: Desk, S: Stream>(
 /// Reads a script once, and plays what was read. None where it goes on.
 fn play_read<D: Desk, S: Stream>(
     desk: &mut D,
+    profile: &Profile,
     piece: &mut Vec<u8>,
     place: &mut Place,
     bytes: &mut [u8],
@@ -270,19 +271,27 @@ fn play_read<D: Desk, S: Stream>(
     requires room { length bytes.old ≡ 8192 }
     requires empty { out.old.list ≡ [] }
     requires fits { HasRoom out.old }
-    ensures read { Leads D.asks (λ asks did. IsReadOnce PlaysLine Stopped.Script ends_last place.old.line place.old.played asks did place.new.line place.new.played result) desk.old desk.new (S.calls stream.old) (S.calls stream.new) }
+    ensures read { Leads D.asks (λ asks did. IsReadOnce (PlaysLine profile.now) Stopped.Script ends_last place.old.line place.old.played asks did place.new.line place.new.played result) desk.old desk.new (S.calls stream.old) (S.calls stream.new) }
     ensures some { length piece.new.items ≡ length piece.old.items }
     ensures room { length bytes.new ≡ 8192 }
     ensures empty { out.new.list ≡ [] }
     ensures fits { HasRoom out.new }
 {
     match stream.receive(piece) {
-        Received::Got(count) => match play_bytes(desk, &piece[..count], place, bytes, out, stream) {
+        Received::Got(count) => match play_bytes(
+            desk,
+            profile,
+            &piece[..count],
+            place,
+            bytes,
+            out,
+            stream,
+        ) {
             Ok(()) => None,
             Err(why) => Some(Err(why)),
         },
         Received::NotNow => None,
-        Received::End => Some(end_line(desk, place, bytes, out, stream)),
+        Received::End => Some(end_line(desk, profile, place, bytes, out, stream)),
         Received::Broken => Some(Err(Stopped::Script)),
     }
 }
@@ -290,6 +299,7 @@ fn play_read<D: Desk, S: Stream>(
 /// Reads and plays a script to its end, which ends its last line.
 fn play_all<D: Desk, S: Stream>(
     desk: &mut D,
+    profile: &Profile,
     piece: &mut Vec<u8>,
     place: &mut Place,
     bytes: &mut [u8],
@@ -300,10 +310,10 @@ fn play_all<D: Desk, S: Stream>(
     requires room { length bytes.old ≡ 8192 }
     requires empty { out.old.list ≡ [] }
     requires fits { HasRoom out.old }
-    ensures { Leads D.asks (λ asks did. AreRead PlaysLine Stopped.Script ends_last 0 place.old.line place.old.played asks did place.new.played result) desk.old desk.new (S.calls stream.old) (S.calls stream.new) }
+    ensures { Leads D.asks (λ asks did. AreRead (PlaysLine profile.now) Stopped.Script ends_last 0 place.old.line place.old.played asks did place.new.played result) desk.old desk.new (S.calls stream.old) (S.calls stream.new) }
 {
     for turn in 0..u64::MAX {
-        match play_read(desk, piece, place, bytes, out, stream) {
+        match play_read(desk, profile, piece, place, bytes, out, stream) {
             None => {}
             Some(result) => return result,
         }
@@ -343,13 +353,18 @@ pub struct Ended {
     pub played: u64,
 }
 
-/// Plays a script: each line is an event, which the desk is asked, and whose answers are written, a line each, and flushed, before anything more is asked or read.
+/// Plays a script, each of whose sessions is offered this profile: each line is an event, which the desk is asked, and whose answers are written, a line each, and flushed, before anything more is asked or read.
 /// It stops at the first line that is none, and where a read, a write or a flush fails. `Memory` where there is none for its buffers, and nothing is read then, or for a session.
 ///
 /// The end of the script ends its last line. No more memory is taken for a longer script or line: of a line 16400 bytes are kept, which no line has but
 /// a message, which is then too long to be one.
-pub fn play_script<D: Desk, S: Stream>(alloc: Global, desk: &mut D, stream: &mut S) -> Ended
-    ensures { Leads D.asks (λ asks did. PlaysScript asks did result.played result.result) desk.old desk.new (S.calls stream.old) (S.calls stream.new) }
+pub fn play_script<D: Desk, S: Stream>(
+    alloc: Global,
+    desk: &mut D,
+    profile: &Profile,
+    stream: &mut S,
+) -> Ended
+    ensures { Leads D.asks (λ asks did. PlaysScript profile.now asks did result.played result.result) desk.old desk.new (S.calls stream.old) (S.calls stream.new) }
 {
     let Ok(made) = make_stage(alloc) else {
         return Ended {
@@ -363,7 +378,9 @@ pub fn play_script<D: Desk, S: Stream>(alloc: Global, desk: &mut D, stream: &mut
         mut place,
         mut out,
     } = made;
-    let result = play_all(desk, &mut piece, &mut place, &mut bytes, &mut out, stream);
+    let result = play_all(
+        desk, profile, &mut piece, &mut place, &mut bytes, &mut out, stream,
+    );
     let played = place.played;
     Ended { result, played }
 }

@@ -38,6 +38,7 @@ use Rattle.tp_program.specs.Opening.{IsOpenedOn, IsRefusedOn}
 use Rattle.tp_program.specs.Printing.{IsTextOf, PrintsCall, status_call}
 use Rattle.tp_lines.specs.declared.play.Stopped.{Stopped}
 use Rattle.tp_lines.specs.declared.play.Stopped.TheVariants as stopped
+use Rattle.nbd_session.specs.declared.phase.Profile.{Profile}
 use Rattle.tp_lines.specs.Plays.{PlaysScript}
 use Rattle.tp_lines.specs.ReadLines.{one_more}
 use Rattle.tp_program.specs.declared.scripts.Unplayed.TheVariants.{BadLine}
@@ -266,9 +267,9 @@ module _ (name : List ℕ) (old new : List Deed) (s : PlainPool) (kept : KeepsPo
         };
       }
 
-  fed_on : (calls calls' : List StreamCall) → FeedsOn calls calls' (Ok (tt {0})) before after → (asks : List Exchange) × (ending : Carried) × IsFed asks calls calls' ending × IsLivedOn name new s asks
-  fed_on calls calls' (inl (reason, e, refused, same)) = refused_ok tt reason e
-  fed_on calls calls' (inr (asks, ending, closing, fed, told, life)) =
+  fed_on : (profile : Profile) (calls calls' : List StreamCall) → FeedsOn profile calls calls' (Ok (tt {0})) before after → (asks : List Exchange) × (ending : Carried) × IsFed profile asks calls calls' ending × IsLivedOn name new s asks
+  fed_on profile calls calls' (inl (reason, e, refused, same)) = refused_ok tt reason e
+  fed_on profile calls calls' (inr (asks, ending, closing, fed, told, life)) =
       (asks, ending, fed, lived asks (subst (λ (a : Answer). IsLifeOn before after asks (Some a)) (closed_done closing (told_of ending) told) life))
 
   served_on : (wanted : ℕ) → ServesOn wanted (Ok (tt {0})) before after → (asks : List Exchange) × IsLivedOn name new s asks
@@ -289,10 +290,10 @@ module _ (name : List ℕ) (old new : List Deed) (s : PlainPool) (kept : KeepsPo
   played_so asks (Err stopped.Script) n (Ok closed, told, life) = refused_ok tt _ told.1
   played_so asks (Err stopped.Script) n (Err reason, told, life) = refused_ok tt _ told.1
 
-  played_on : (calls calls' : List StreamCall) → PlaysOn calls calls' (Ok (tt {0})) before after
-      → (asks : List Exchange) × (played : ℕ) × (ended : Result (Unit {0}) Stopped) × Makes calls calls' (λ did. PlaysScript asks did played ended) × IsLivedOn name new s asks
-  played_on calls calls' (inl (why, e, refused, same)) = refused_ok tt _ e
-  played_on calls calls' (inr (asks, played, ended, makes, rest)) = (asks, played, ended, makes, played_so asks ended (one_more played) rest)
+  played_on : (profile : Profile) (calls calls' : List StreamCall) → PlaysOn profile calls calls' (Ok (tt {0})) before after
+      → (asks : List Exchange) × (played : ℕ) × (ended : Result (Unit {0}) Stopped) × Makes calls calls' (λ did. PlaysScript profile asks did played ended) × IsLivedOn name new s asks
+  played_on profile calls calls' (inl (why, e, refused, same)) = refused_ok tt _ e
+  played_on profile calls calls' (inr (asks, played, ended, makes, rest)) = (asks, played, ended, makes, played_so asks ended (one_more played) rest)
 
 pub told_goes_on : (name : List ℕ) (id : Option ℕ) (old new : List Deed) (calls calls' : List StreamCall) (s : PlainPool) → KeepsPool name old s → IsStatusTold name id old new calls calls' (Ok (tt {0}))
     → IsAccepted name new s (status_call id) calls calls'
@@ -319,17 +320,17 @@ ungiven_goes_on name line reason old new calls calls' s kept whole roomy (inl (e
 ungiven_goes_on name line reason old new calls calls' s kept whole roomy (inr on) =
     ungiven_on name old new s kept on.before on.after on.lasts (left_closed name on.after (Opens ToWrite name on.before ∷ old) new on.deeds) line reason calls calls' whole roomy on.does
 
-pub fed_goes_on : (name : List ℕ) (old new : List Deed) (calls calls' : List StreamCall) (s : PlainPool) → KeepsPool name old s → FeedsImage name old new calls calls' (Ok (tt {0}))
-    → (asks : List Exchange) × (ending : Carried) × IsFed asks calls calls' ending × IsLivedOn name new s asks
-fed_goes_on name old new calls calls' s kept (inl (e, refused, same)) = refused_ok tt _ refused
-fed_goes_on name old new calls calls' s kept (inr on) =
-    fed_on name old new s kept on.before on.after on.lasts (left_closed name on.after (Opens ToWrite name on.before ∷ old) new on.deeds) calls calls' on.does
+pub fed_goes_on : (profile : Profile) (name : List ℕ) (old new : List Deed) (calls calls' : List StreamCall) (s : PlainPool) → KeepsPool name old s → FeedsImage profile name old new calls calls' (Ok (tt {0}))
+    → (asks : List Exchange) × (ending : Carried) × IsFed profile asks calls calls' ending × IsLivedOn name new s asks
+fed_goes_on profile name old new calls calls' s kept (inl (e, refused, same)) = refused_ok tt _ refused
+fed_goes_on profile name old new calls calls' s kept (inr on) =
+    fed_on name old new s kept on.before on.after on.lasts (left_closed name on.after (Opens ToWrite name on.before ∷ old) new on.deeds) profile calls calls' on.does
 
-pub played_goes_on : (name : List ℕ) (old new : List Deed) (calls calls' : List StreamCall) (s : PlainPool) → KeepsPool name old s → PlaysImage name old new calls calls' (Ok (tt {0}))
-    → (asks : List Exchange) × (played : ℕ) × (ended : Result (Unit {0}) Stopped) × Makes calls calls' (λ did. PlaysScript asks did played ended) × IsLivedOn name new s asks
-played_goes_on name old new calls calls' s kept (inl (e, refused, same)) = refused_ok tt _ refused.1
-played_goes_on name old new calls calls' s kept (inr on) =
-    played_on name old new s kept on.before on.after on.lasts (left_closed name on.after (Opens ToWrite name on.before ∷ old) new on.deeds) calls calls' on.does
+pub played_goes_on : (profile : Profile) (name : List ℕ) (old new : List Deed) (calls calls' : List StreamCall) (s : PlainPool) → KeepsPool name old s → PlaysImage profile name old new calls calls' (Ok (tt {0}))
+    → (asks : List Exchange) × (played : ℕ) × (ended : Result (Unit {0}) Stopped) × Makes calls calls' (λ did. PlaysScript profile asks did played ended) × IsLivedOn name new s asks
+played_goes_on profile name old new calls calls' s kept (inl (e, refused, same)) = refused_ok tt _ refused.1
+played_goes_on profile name old new calls calls' s kept (inr on) =
+    played_on name old new s kept on.before on.after on.lasts (left_closed name on.after (Opens ToWrite name on.before ∷ old) new on.deeds) profile calls calls' on.does
 
 pub served_goes_on : (name : List ℕ) (wanted : ℕ) (old new : List Deed) (s : PlainPool) → KeepsPool name old s → ServesImage name wanted old new (Ok (tt {0})) → (asks : List Exchange) × IsLivedOn name new s asks
 served_goes_on name wanted old new s kept (inl (e, refused)) = refused_ok tt _ refused

@@ -12,3 +12,4 @@ mod Deeds
 mod Accepted
 mod Kept
 mod FirstUser
+mod Numbers

@@ -36,10 +36,10 @@ module _ (asks : Bool) (old new : List Deed) (left left' told told' : Option (Li
   does_streamed (Message image line) none done = done
   does_streamed (Status image id) none done = done
   does_streamed (Check image clears) none done = done
-  does_streamed (Feed image) none done = done
+  does_streamed (Feed image is_extended) none done = done
   does_streamed (Serve image address clients control) none done = done
-  does_streamed (Play image script) none done = absurd (none tt)
-  does_streamed (Run image places control) none done = done
+  does_streamed (Play image script is_extended) none done = absurd (none tt)
+  does_streamed (Run image service) none done = done
   does_streamed (Ask place lines) none done = done
 
   -- only a script has a bad line
@@ -48,10 +48,10 @@ module _ (asks : Bool) (old new : List Deed) (left left' told told' : Option (Li
   bad_line_is_script (Message image line) done = plain_is_good result done.2.0 done.2.1
   bad_line_is_script (Status image id) done = plain_is_good result done.2.0 done.2.1
   bad_line_is_script (Check image clears) done = plain_is_good result done.2.0 done.2.1
-  bad_line_is_script (Feed image) done = plain_is_good result done.2.0 done.2.1
+  bad_line_is_script (Feed image is_extended) done = plain_is_good result done.2.0 done.2.1
   bad_line_is_script (Serve image address clients control) done = plain_is_good result done.2.1.0 done.2.1.1
-  bad_line_is_script (Play image script) done = script_may result
-  bad_line_is_script (Run image places control) done = plain_is_good result done.2.1.0 done.2.1.1
+  bad_line_is_script (Play image script is_extended) done = script_may result
+  bad_line_is_script (Run image service) done = plain_is_good result done.2.1.0 done.2.1.1
   bad_line_is_script (Ask place lines) done = plain_is_good result done.2.1.0 done.2.1.1
 
   pub ended : (words : List Text) (asked : Asked) → AskFor words asked → Does asks asked.task old new left left' told told' result → EndsBy words (status_after result)

@@ -1,3 +1,4 @@
+pub mod Answered
 pub mod Failures
 pub mod First
 pub mod Images

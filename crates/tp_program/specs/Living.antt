@@ -8,6 +8,7 @@ use Rattle.tp_model.specs.PoolStops.{MayReopen, Nothing}
 use Rattle.tp_model.specs.Clauses.{OpensSince, TracedCall, View, found_now, outline_of_traced}
 use Rattle.tp_model.specs.Disk.{DiskState, IsSettled}
 use Rattle.nbd_session.specs.Clauses.{GoesWithTrace}
+use Rattle.nbd_session.specs.declared.phase.Profile.{Profile}
 use Rattle.tp_cache.specs.Line.{IsLine}
 use Rattle.tp_hub.specs.Serving.{AllLeave, AllLeaveSo, HubState, sessions_of}
 use Rattle.tp_meta.specs.declared.whole.Meta.{Meta}
@@ -49,9 +50,9 @@ pub record IsLived (opened : Cached Meta) (asks : List Exchange) (answer : Optio
       → IsPlainLife s life.begun.slots life.ended.slots asks answer (disk_of opened) after
 
 -- One client was served over an open pool, which was then closed.
-abbrev pub FeedsPool : Cached Meta → List StreamCall → List StreamCall → Result (Unit {0}) Refusal → DiskState → Type 0
-FeedsPool opened calls calls' result after =
-    (asks : List Exchange) × (ending : Carried) × (closing : Result (Unit {0}) Refusal) × IsFed asks calls calls' ending × (result ≡ told_behind closing (told_of ending))
+abbrev pub FeedsPool : Profile → Cached Meta → List StreamCall → List StreamCall → Result (Unit {0}) Refusal → DiskState → Type 0
+FeedsPool profile opened calls calls' result after =
+    (asks : List Exchange) × (ending : Carried) × (closing : Result (Unit {0}) Refusal) × IsFed profile asks calls calls' ending × (result ≡ told_behind closing (told_of ending))
     × IsLived opened asks (Some (closing_of closing)) after
 
 -- Clients and control lines asked a hub over an open pool, which was then closed.

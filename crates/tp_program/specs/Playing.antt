@@ -2,6 +2,7 @@
 use Rattle.std.specs.Prelude.{◌≡◌, ℕ, List, MatchBool, None, Some, Result, Ok, Err}
 use Rattle.tp_model.specs.declared.refusal.Refusal.{Refusal}
 use Rattle.tp_model.specs.Disk.{DiskState}
+use Rattle.nbd_session.specs.declared.phase.Profile.{Profile}
 use Rattle.tp_hub.specs.Desks.{Exchange}
 use Rattle.tp_hub.specs.Serving.{HubState}
 use Rattle.tp_hub.specs.Streams.{Makes, StreamCall}
@@ -23,9 +24,9 @@ EndsScript hub ended played result after = MatchBool (is_bad ended)
     ((closing : Result (Unit {0}) Refusal) × IsTold ended closing result × IsOver hub (Some (closing_of closing)) after)
 
 -- A script was played over an open pool.
-abbrev pub PlaysPool : Cached Meta → List StreamCall → List StreamCall → Result (Unit {0}) Unplayed → DiskState → Type 0
-PlaysPool opened calls calls' result after =
-    (asks : List Exchange) × (played : ℕ) × (ended : Result (Unit {0}) Stopped) × Makes calls calls' (λ did. PlaysScript asks did played ended)
+abbrev pub PlaysPool : Profile → Cached Meta → List StreamCall → List StreamCall → Result (Unit {0}) Unplayed → DiskState → Type 0
+PlaysPool profile opened calls calls' result after =
+    (asks : List Exchange) × (played : ℕ) × (ended : Result (Unit {0}) Stopped) × Makes calls calls' (λ did. PlaysScript profile asks did played ended)
     × MatchBool (is_bad ended)
     ((result ≡ Err (BadLine (one_more played))) × IsLived opened asks None after)
     ((closing : Result (Unit {0}) Refusal) × IsTold ended closing result × IsLived opened asks (Some (closing_of closing)) after)

@@ -3,6 +3,7 @@ use Rattle.std.specs.Prelude.{◌≡◌, ◌⊎◌, ℕ, Bool, true, false, List
 use Rattle.tp_model.specs.declared.refusal.Refusal.{Refusal}
 use Rattle.tp_model.specs.declared.refusal.Refusal.TheVariants as refusals
 use Rattle.tp_model.specs.Disk.{DiskState}
+use Rattle.nbd_session.specs.declared.phase.Profile.{Profile}
 use Rattle.tp_hub.specs.Desks.{Exchange}
 use Rattle.tp_hub.specs.Streams.{Makes, StreamCall}
 use Rattle.tp_images.specs.Deeds.{Deed, OnImage, Refuses}
@@ -46,26 +47,26 @@ IsTold (Err stopped.Script) (Ok closed) result = IsRefusedBy refusals.Fault resu
 
 -- ---- what is done
 
--- The pool of a disk was opened, and a hub over it was asked what the lines of a script are, which was read from the stream to which the answers were written; then it was closed. At
+-- profile: what is offered to each client. The pool of a disk was opened, and a hub over it was asked what the lines of a script are, which was read from the stream to which the answers were written; then it was closed. At
 -- a line that is none it was let go without that, and the line is told by its number. Or the pool was not opened, and nothing was read or written.
-abbrev pub PlaysOn : List StreamCall → List StreamCall → Result (Unit {0}) Unplayed → DiskState → DiskState → Type 0
-PlaysOn calls calls' result before after =
+abbrev pub PlaysOn : Profile → List StreamCall → List StreamCall → Result (Unit {0}) Unplayed → DiskState → DiskState → Type 0
+PlaysOn profile calls calls' result before after =
     ((why : Failure) × (result ≡ Err (Refused why)) × IsRefusedOn before after why.refusal × (calls' ≡ calls))
-    ⊎ ((asks : List Exchange) × (played : ℕ) × (ended : Result (Unit {0}) Stopped) × Makes calls calls' (λ did. PlaysScript asks did played ended)
+    ⊎ ((asks : List Exchange) × (played : ℕ) × (ended : Result (Unit {0}) Stopped) × Makes calls calls' (λ did. PlaysScript profile asks did played ended)
     × MatchBool (is_bad ended)
     ((result ≡ Err (BadLine (one_more played))) × IsLifeOn before after asks None)
     ((closing : Result (Unit {0}) Refusal) × IsTold ended closing result × IsLifeOn before after asks (Some (closing_of closing))))
 
 -- The same of the image of a name, which was opened to write; or it was not, which is a fault, and nothing was read or written.
-abbrev pub PlaysImage : List ℕ → List Deed → List Deed → List StreamCall → List StreamCall → Result (Unit {0}) Unplayed → Type 0
-PlaysImage name old new calls calls' result =
-    ((new ≡ Refuses ToWrite name ∷ old) × IsRefusedBy refusals.Fault result × (calls' ≡ calls)) ⊎ OnImage ToWrite name old new (PlaysOn calls calls' result)
+abbrev pub PlaysImage : Profile → List ℕ → List Deed → List Deed → List StreamCall → List StreamCall → Result (Unit {0}) Unplayed → Type 0
+PlaysImage profile name old new calls calls' result =
+    ((new ≡ Refuses ToWrite name ∷ old) × IsRefusedBy refusals.Fault result × (calls' ≡ calls)) ⊎ OnImage ToWrite name old new (PlaysOn profile calls calls' result)
 
 -- The same of the pool in memory; or it was not made.
-abbrev pub PlaysFirst : List StreamCall → List StreamCall → Result (Unit {0}) Unplayed → Type 0
-PlaysFirst calls calls' result =
+abbrev pub PlaysFirst : Profile → List StreamCall → List StreamCall → Result (Unit {0}) Unplayed → Type 0
+PlaysFirst profile calls calls' result =
     ((why : Failure) × (result ≡ Err (Refused why)) × (calls' ≡ calls))
-    ⊎ ((asks : List Exchange) × (played : ℕ) × (ended : Result (Unit {0}) Stopped) × Makes calls calls' (λ did. PlaysScript asks did played ended)
+    ⊎ ((asks : List Exchange) × (played : ℕ) × (ended : Result (Unit {0}) Stopped) × Makes calls calls' (λ did. PlaysScript profile asks did played ended)
     × MatchBool (is_bad ended)
     ((result ≡ Err (BadLine (one_more played))) × IsFirstLife asks None)
     ((closing : Result (Unit {0}) Refusal) × IsTold ended closing result × IsFirstLife asks (Some (closing_of closing))))

@@ -5,7 +5,7 @@ use Rattle.tp_model.specs.declared.refusal.Refusal.TheVariants.{Fault, Memory, S
 use Rattle.tp_model.specs.Disk.{DiskState}
 use Rattle.tp_hub.specs.Told.{Told}
 use Rattle.tp_hub.specs.Desks.{Exchange}
-use Rattle.nbd_session.specs.declared.phase.Profile.TheVariants.{Strict}
+use Rattle.nbd_session.specs.declared.phase.Profile.{Profile}
 use Rattle.tp_hub.specs.Carrying.{IsCarried}
 use Rattle.tp_hub.specs.Streams.{Makes, StreamCall}
 use Rattle.tp_hub.specs.declared.client.Carried.{Carried}
@@ -38,28 +38,28 @@ told_behind (Err reason) told = Err reason
 
 -- ---- one client
 
--- There was no memory for what is read, and nothing was asked, read or written; or the client of the stream was carried by a hub as its session 0.
-abbrev pub IsFed : List Exchange → List StreamCall → List StreamCall → Carried → Type 0
-IsFed asks calls calls' ending =
-    ((asks ≡ []) × (calls' ≡ calls) × (ending ≡ NoMemory)) ⊎ ((out : Told) × Makes calls calls' (λ did. IsCarried 0 Strict out asks did ending))
+-- There was no memory for what is read, and nothing was asked, read or written; or the client of the stream was carried by a hub as its session 0, and offered this.
+abbrev pub IsFed : Profile → List Exchange → List StreamCall → List StreamCall → Carried → Type 0
+IsFed profile asks calls calls' ending =
+    ((asks ≡ []) × (calls' ≡ calls) × (ending ≡ NoMemory)) ⊎ ((out : Told) × Makes calls calls' (λ did. IsCarried 0 profile out asks did ending))
 
 -- The pool of a disk was opened, one client was served by a hub of its own over it, and it was closed; or it was not opened, and nothing was read or written.
-abbrev pub FeedsOn : List StreamCall → List StreamCall → Result (Unit {0}) Refusal → DiskState → DiskState → Type 0
-FeedsOn calls calls' result before after =
+abbrev pub FeedsOn : Profile → List StreamCall → List StreamCall → Result (Unit {0}) Refusal → DiskState → DiskState → Type 0
+FeedsOn profile calls calls' result before after =
     ((reason : Refusal) × (result ≡ Err reason) × IsRefusedOn before after reason × (calls' ≡ calls))
-    ⊎ ((asks : List Exchange) × (ending : Carried) × (closing : Result (Unit {0}) Refusal) × IsFed asks calls calls' ending
+    ⊎ ((asks : List Exchange) × (ending : Carried) × (closing : Result (Unit {0}) Refusal) × IsFed profile asks calls calls' ending
     × (result ≡ told_behind closing (told_of ending)) × IsLifeOn before after asks (Some (closing_of closing)))
 
 -- The same of the image of a name, which was opened to write; or it was not, which is a fault, and nothing was read or written.
-abbrev pub FeedsImage : List ℕ → List Deed → List Deed → List StreamCall → List StreamCall → Result (Unit {0}) Refusal → Type 0
-FeedsImage name old new calls calls' result =
-    ((new ≡ Refuses ToWrite name ∷ old) × (result ≡ Err Fault) × (calls' ≡ calls)) ⊎ OnImage ToWrite name old new (FeedsOn calls calls' result)
+abbrev pub FeedsImage : Profile → List ℕ → List Deed → List Deed → List StreamCall → List StreamCall → Result (Unit {0}) Refusal → Type 0
+FeedsImage profile name old new calls calls' result =
+    ((new ≡ Refuses ToWrite name ∷ old) × (result ≡ Err Fault) × (calls' ≡ calls)) ⊎ OnImage ToWrite name old new (FeedsOn profile calls calls' result)
 
 -- The same of the pool in memory; or it was not made.
-abbrev pub FeedsFirst : List StreamCall → List StreamCall → Result (Unit {0}) Refusal → Type 0
-FeedsFirst calls calls' result =
+abbrev pub FeedsFirst : Profile → List StreamCall → List StreamCall → Result (Unit {0}) Refusal → Type 0
+FeedsFirst profile calls calls' result =
     ((reason : Refusal) × (result ≡ Err reason) × (calls' ≡ calls))
-    ⊎ ((asks : List Exchange) × (ending : Carried) × (closing : Result (Unit {0}) Refusal) × IsFed asks calls calls' ending
+    ⊎ ((asks : List Exchange) × (ending : Carried) × (closing : Result (Unit {0}) Refusal) × IsFed profile asks calls calls' ending
     × (result ≡ told_behind closing (told_of ending)) × IsFirstLife asks (Some (closing_of closing)))
 
 -- ---- many clients

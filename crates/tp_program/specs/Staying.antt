@@ -6,6 +6,8 @@ use Rattle.tp_model.specs.Disk.{DiskState}
 use Rattle.tp_hub.specs.Desks.{Exchange}
 use Rattle.tp_images.specs.Deeds.{Deed, OnImage, Refuses}
 use Rattle.tp_images.specs.declared.way.Way.TheVariants.{ToWrite}
+use Rattle.tp_program.specs.declared.places.NoDoor.{NoDoor}
+use Rattle.tp_program.specs.declared.places.NoDoor.TheVariants as doors
 use Rattle.tp_program.specs.Lives.{IsLifeOn, closing_of}
 use Rattle.tp_program.specs.Opening.{IsRefusedOn}
 use Rattle.tp_program.specs.Serving.{told_behind}
@@ -15,12 +17,21 @@ abbrev pub told_of_threads : Bool → Result (Unit {0}) Refusal
 told_of_threads true = Ok (tt {0})
 told_of_threads false = Err Memory
 
--- The pool of a disk was opened, a hub over it was asked by clients and control lines, and it was closed; or it was opened, but its clients could not be waited for, which is a
--- fault, and the disk is as it was; or it was not opened. That all was done is told only where it was closed.
+-- the number by which it is told why a place is not listened at
+abbrev pub told_of_place : NoDoor → Refusal
+told_of_place doors.Memory = Memory
+told_of_place (doors.System error) = Fault
+
+-- the numbers by which it is told
+abbrev pub IsNoDoor : Refusal → Type 0
+IsNoDoor reason = (reason ≡ Fault) ⊎ (reason ≡ Memory)
+
+-- The pool of a disk was opened, a hub over it was asked by clients and control lines, and it was closed; or it was opened, but its clients could not be waited for, and the disk is
+-- as it was; or it was not opened. That all was done is told only where it was closed.
 abbrev pub StaysOn : Result (Unit {0}) Refusal → DiskState → DiskState → Type 0
 StaysOn result before after =
     ((reason : Refusal) × (result ≡ Err reason) × IsRefusedOn before after reason)
-    ⊎ ((result ≡ Err Fault) × (after ≡ before))
+    ⊎ ((reason : Refusal) × (result ≡ Err reason) × IsNoDoor reason × (after ≡ before))
     ⊎ ((asks : List Exchange) × (manned : Bool) × (closing : Result (Unit {0}) Refusal)
     × (result ≡ told_behind closing (told_of_threads manned)) × IsLifeOn before after asks (Some (closing_of closing)))
 

@@ -1,10 +1,12 @@
 -- Trusted reading: what is done where the words of a command line name a task (own).
-use Rattle.std.specs.Prelude.{◌≡◌, ◌⊎◌, ◌≤◌, ℕ, Bool, List, [], ◌∷◌, Option, Some, Result, Ok, Err, MatchBool, codes}
+use Rattle.std.specs.Prelude.{◌≡◌, ◌⊎◌, ◌≤◌, ℕ, Bool, List, [], ◌∷◌, Option, Some, Result, Ok, Err, MatchBool, codes, if◌then◌else◌}
 use Rattle.std.specs.Io.KnownBytes.{Keeps}
 use Rattle.tp_model.specs.declared.refusal.Refusal.{Refusal}
 use Rattle.tp_model.specs.declared.refusal.Refusal.TheVariants.{BadDeviceId, BadGeometry, Exists, Fault}
 use Rattle.tp_model.specs.Geometry.{IsWithinLimits}
 use Rattle.tp_model.specs.DiskStops.{moment}
+use Rattle.nbd_session.specs.declared.phase.Profile.{Profile}
+use Rattle.nbd_session.specs.declared.phase.Profile.TheVariants.{Strict, Extended}
 use Rattle.tp_hub.specs.Streams.{Gave, Makes, StreamCall}
 use Rattle.tp_images.specs.Deeds.{Deed, NotOpened, OnImage}
 use Rattle.tp_images.specs.declared.way.Way.TheVariants.{ToRead, ToMake}
@@ -74,14 +76,18 @@ plain_of (Err why) = Err (Refused why)
 abbrev pub Plainly : Result (Unit {0}) Unplayed → (Result (Unit {0}) Refusal → Type 0) → Type 0
 Plainly result IsDone = (done : Result (Unit {0}) Failure) × (result ≡ plain_of done) × IsDone (number_of done)
 
--- a pool in memory, or that of an image
-abbrev pub Feeds : Image → List Deed → List Deed → List StreamCall → List StreamCall → Result (Unit {0}) Refusal → Type 0
-Feeds kept.Memory old new calls calls' result = (new ≡ old) × FeedsFirst calls calls' result
-Feeds (kept.File name) old new calls calls' result = FeedsImage name.now old new calls calls' result
+-- what is offered to the clients of standard input and of a script
+abbrev pub offered : Bool → Profile
+offered is_extended = if is_extended then Extended else Strict
 
-abbrev pub Plays : Image → List Deed → List Deed → List StreamCall → List StreamCall → Result (Unit {0}) Unplayed → Type 0
-Plays kept.Memory old new calls calls' result = (new ≡ old) × PlaysFirst calls calls' result
-Plays (kept.File name) old new calls calls' result = PlaysImage name.now old new calls calls' result
+-- a pool in memory, or that of an image
+abbrev pub Feeds : Profile → Image → List Deed → List Deed → List StreamCall → List StreamCall → Result (Unit {0}) Refusal → Type 0
+Feeds profile kept.Memory old new calls calls' result = (new ≡ old) × FeedsFirst profile calls calls' result
+Feeds profile (kept.File name) old new calls calls' result = FeedsImage profile name.now old new calls calls' result
+
+abbrev pub Plays : Profile → Image → List Deed → List Deed → List StreamCall → List StreamCall → Result (Unit {0}) Unplayed → Type 0
+Plays profile kept.Memory old new calls calls' result = (new ≡ old) × PlaysFirst profile calls calls' result
+Plays profile (kept.File name) old new calls calls' result = PlaysImage profile name.now old new calls calls' result
 
 -- A task that reads and writes one stream, if any. asks: whether who wants to format is asked first.
 abbrev pub DoesOn : Bool → Task → List Deed → List Deed → List StreamCall → List StreamCall → Result (Unit {0}) Unplayed → Type 0
@@ -91,21 +97,21 @@ DoesOn asks (Message image line) old new calls calls' result = Plainly result (I
 DoesOn asks (Status image id) old new calls calls' result = Plainly result (AsksStatus image.now id old new calls calls')
 DoesOn asks (Check image clears) old new calls calls' result =
     Plainly result (λ r. MatchBool clears (IsCleared image.now old new calls calls' r) (IsChecked image.now old new calls calls' r))
-DoesOn asks (Feed image) old new calls calls' result = Plainly result (Feeds image old new calls calls')
+DoesOn asks (Feed image is_extended) old new calls calls' result = Plainly result (Feeds (offered is_extended) image old new calls calls')
 DoesOn asks (Serve image address clients control) old new calls calls' result = (calls' ≡ calls) × Plainly result (ServesImage image.now clients old new)
-DoesOn asks (Play image script) old new calls calls' result = ⊥
-DoesOn asks (Run image places control) old new calls calls' result = (calls' ≡ calls) × Plainly result (StaysImage image.now old new)
+DoesOn asks (Play image script is_extended) old new calls calls' result = ⊥
+DoesOn asks (Run image service) old new calls calls' result = (calls' ≡ calls) × Plainly result (StaysImage image.now old new)
 DoesOn asks (Ask place lines) old new calls calls' result = (new ≡ old) × Plainly result (λ r. Unit {0})
 
 -- The script was not opened, which is a fault, and nothing was done; or its lines were read from it, and their answers written to the output.
-abbrev pub PlaysFile : Image → List Deed → List Deed → Option (List ℕ) → Option (List ℕ) → Result (Unit {0}) Unplayed → Type 0
-PlaysFile image old new told told' result =
+abbrev pub PlaysFile : Profile → Image → List Deed → List Deed → Option (List ℕ) → Option (List ℕ) → Result (Unit {0}) Unplayed → Type 0
+PlaysFile profile image old new told told' result =
     ((why : Failure) × (result ≡ Err (Refused why)) × (why.refusal ≡ Fault) × (new ≡ old) × Keeps told told')
-    ⊎ ((lines : Option (List ℕ)) × (lines' : Option (List ℕ)) × (did : List StreamCall) × IsPiped lines lines' told told' did × Plays image old new [] did result)
+    ⊎ ((lines : Option (List ℕ)) × (lines' : Option (List ℕ)) × (did : List StreamCall) × IsPiped lines lines' told told' did × Plays profile image old new [] did result)
 
 -- The task is done to images, of which these deeds stand before and behind it. left: what the input has left. told: what the output holds.
 abbrev pub Does : Bool → Task → List Deed → List Deed → Option (List ℕ) → Option (List ℕ) → Option (List ℕ) → Option (List ℕ) → Result (Unit {0}) Unplayed → Type 0
-Does asks (Play image script) old new left left' told told' result = Keeps left left' × PlaysFile image old new told told' result
+Does asks (Play image script is_extended) old new left left' told told' result = Keeps left left' × PlaysFile (offered is_extended) image old new told told' result
 Does asks task old new left left' told told' result = (did : List StreamCall) × IsPiped left left' told told' did × DoesOn asks task old new [] did result
 
 -- ---- the program

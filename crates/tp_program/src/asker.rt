@@ -1,6 +1,9 @@
 //! Lines that are sent to the control place of a server, and their answers.
 
-ghost use Rattle.std.specs.Prelude.{◌≡◌, ◌≤◌, length};
+ghost use Rattle.std.specs.Prelude.{◌≡◌};
+ghost use Rattle.std.specs.Io.{ReadsAtMost};
+ghost use Rattle.tp_model.specs.Refusals.{refusal_number};
+ghost use Rattle.tp_program.specs.Answered.{all_refusals, numbered};
 
 use crate::failure::{Cause, Failure};
 use crate::places::connect;
@@ -14,12 +17,14 @@ use tp_words::Texts;
 const PIECE: usize = 4096;
 
 /// What a line begins with by which a line is refused.
-const REFUSED: &[u8] = b"refused ";
+const REFUSED: &str = "refused ";
 
-/// The refusals that a line may be answered.
-const REFUSALS: [Refusal; 19] = [
+/// All refusals.
+const REFUSALS: [Refusal; 31] = [
     Refusal::BadGeometry,
     Refusal::Damaged,
+    Refusal::NotAPool,
+    Refusal::BadVersion,
     Refusal::Fault,
     Refusal::Memory,
     Refusal::BadSyntax,
@@ -33,21 +38,39 @@ const REFUSALS: [Refusal; 19] = [
     Refusal::TooManyDevices,
     Refusal::ReadOnly,
     Refusal::Failed,
+    Refusal::SessionInUse,
+    Refusal::NoSession,
     Refusal::NoDataSpace,
     Refusal::BadSize,
     Refusal::HeldRootExists,
     Refusal::NoHeldRoot,
+    Refusal::BadSuper,
+    Refusal::BadNode,
+    Refusal::BadOrder,
+    Refusal::BadCount,
+    Refusal::OutOfPlace,
+    Refusal::HalfEmpty,
+    Refusal::BadMapped,
+    Refusal::BadRecordSize,
 ];
+
+/// So many bytes of a line of an answer are kept, which a refusal's has not.
+const LONGEST: usize = 32;
 
 /// What was answered so far: how many whole lines, and the number of the first refusal among them.
 #[derive(Clone, Copy, Debug)]
 struct Heard {
     lines: u64,
     refused: Option<u8>,
-    /// How many bytes of a line have come, at most 255, and the number behind `refused ` as far as it has.
-    column: u8,
-    is_refusal: bool,
-    number: u8,
+    /// The front of the line that has begun, and how many bytes of it have come.
+    line: [u8; LONGEST],
+    len: usize,
+}
+
+/// The number by which a line says that it is refused, if it does.
+fn refusal_in(line: &[u8]) -> Option<u8> {
+    let number = std::str::from_utf8(line).ok()?.strip_prefix(REFUSED)?;
+    number.parse::<u8>().ok()
 }
 
 impl Heard {
@@ -56,38 +79,30 @@ impl Heard {
         Heard {
             lines: 0,
             refused: None,
-            column: 0,
-            is_refusal: true,
-            number: 0,
+            line: [0; LONGEST],
+            len: 0,
         }
     }
 
     /// One byte more of the answers.
     fn hear(&mut self, byte: u8) {
         if byte == b'\n' {
-            if self.is_refusal
-                && usize::from(self.column) > REFUSED.len()
-                && self.refused.is_none()
-            {
-                self.refused = Some(self.number);
-            }
-            self.lines = self.lines.saturating_add(1);
-            self.column = 0;
-            self.is_refusal = true;
-            self.number = 0;
+            self.end_line();
             return;
         }
-        match REFUSED.get(usize::from(self.column)) {
-            Some(wanted) => self.is_refusal &= *wanted == byte,
-            None => {
-                self.is_refusal &= byte.is_ascii_digit();
-                self.number = self
-                    .number
-                    .saturating_mul(10)
-                    .saturating_add(byte.wrapping_sub(b'0'));
-            }
+        if let Some(place) = self.line.get_mut(self.len) {
+            *place = byte;
         }
-        self.column = self.column.saturating_add(1);
+        self.len = self.len.saturating_add(1);
+    }
+
+    /// A line is whole. One that is longer than what is kept of it is no refusal.
+    fn end_line(&mut self) {
+        if self.refused.is_none() {
+            self.refused = self.line.get(..self.len).and_then(refusal_in);
+        }
+        self.lines = self.lines.saturating_add(1);
+        self.len = 0;
     }
 }
 
@@ -123,7 +138,9 @@ fn send_lines(connection: &mut TcpStream, lines: &Texts<'_>) -> io::Result<u64> 
 }
 
 /// Reads some bytes to the front of a buffer: none at the end.
-fn read_some(connection: &mut TcpStream, piece: &mut [u8]) -> io::Result<usize> {
+fn read_some<T: Read>(connection: &mut T, piece: &mut [u8]) -> io::Result<usize>
+    ensures { ReadsAtMost result piece.new }
+{
     for _ in 0..u64::MAX {
         match connection.read(piece) {
             Err(error) if error.kind() == ErrorKind::Interrupted => {}
@@ -158,14 +175,24 @@ fn hear_all<S: Stream>(connection: &mut TcpStream, stream: &mut S) -> Result<Hea
     Ok(heard)
 }
 
-/// The refusal of a number: a fault where none has it.
-fn refusal_of(number: u8) -> Refusal {
-    for refusal in REFUSALS {
+/// The first of some refusals that has a number; a fault where none has it.
+fn numbered_in(refusals: &[Refusal], number: u8) -> Refusal
+    ensures { result ≡ numbered refusals.now number }
+{
+    for refusal in refusals {
         if refusal.number() == number {
-            return refusal;
+            return *refusal;
         }
     }
     Refusal::Fault
+}
+
+/// The refusal of a number: a fault where none has it.
+fn refusal_of(number: u8) -> Refusal
+    ensures found { (refusal : Refusal) → refusal_number refusal ≡ number → result ≡ refusal }
+    ensures table { result ≡ numbered all_refusals number }
+{
+    numbered_in(&REFUSALS, number)
 }
 
 /// Whether all was answered, and nothing refused.

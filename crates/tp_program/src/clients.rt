@@ -37,13 +37,17 @@ struct Listeners {
 
 /// Where it is told that the pool has failed while clients are served.
 #[derive(Drop)]
-pub(crate) struct Errors<'m, R: Wait, E: Write> {
-    pub(crate) rt: &'m R,
-    pub(crate) writer: Mutex<&'m mut E>,
+struct Errors<'m, R: Wait, E: Write> {
+    rt: &'m R,
+    writer: Mutex<&'m mut E>,
 }
 
-impl<'m, R: Wait, E: Write> Alarm for Errors<'m, R, E> {
-    fn pool_failed(&self) {
+impl<'m, R: Wait, E: Write, V> Alarm<V> for Errors<'m, R, E> {
+    type Cause = ();
+
+    fn cause(&self, _pool: &V) {}
+
+    fn pool_failed(&self, _cause: ()) {
         let mut writer = self.writer.lock(self.rt);
         tell_failed_pool(&mut **writer);
     }
@@ -84,7 +88,7 @@ fn serve_hub<R, V, A>(
 where
     R: Threads + Wait + Clock + Sync,
     V: Managed + SharedVolumes + Send + Sync,
-    A: Alarm + Sync,
+    A: Alarm<V> + Sync,
     ensures asked { CameOf V.view hub result.hub }
     ensures offered { result.came ≤ count }
     ensures refused { result.refused ≤ result.came }

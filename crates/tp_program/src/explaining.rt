@@ -29,7 +29,7 @@ fn image_of<'a>(task: &Task<'a>) -> &'a str {
         | Task::Serve { image, .. }
         | Task::Run { image, .. } => image,
         Task::Ask { place, .. } => place,
-        Task::Feed { image } | Task::Play { image, .. } => match image {
+        Task::Feed { image, .. } | Task::Play { image, .. } => match image {
             Image::Memory => "mem:",
             Image::File(path) => path,
         },
@@ -59,20 +59,16 @@ fn addresses_of<'a>(task: &Task<'a>) -> (&'a str, &'a str) {
 
 /// The place of this number of a task, or nothing.
 fn place_of<'a>(task: &Task<'a>, number: u8) -> &'a str {
-    let Task::Run {
-        places,
-        control,
-        ..
-    } = *task
-    else {
+    let Task::Run { service, .. } = *task else {
         return "";
     };
+    let places = service.places;
     let place = match number {
         0 => Some(places.first),
         1 => places.second,
         2 => places.third,
         3 => places.fourth,
-        _ => control,
+        _ => service.control,
     };
     place.unwrap_or("")
 }

@@ -36,23 +36,21 @@ fn zeroes(alloc: Global, len: usize) -> Result<Vec<u8>, AllocError>
     vec![in alloc; 0u8; len]
 }
 
-/// Serves one client over a hub, and gives the hub back. Where there is no memory for what is read, nothing is done.
-fn feed_hub<V: Managed, S: Stream>(alloc: Global, hub: Hub<V>, stream: &mut S) -> (Hub<V>, Carried)
-    ensures { (asks : List Exchange) × AreAsked (HubRuns V.view) hub asks result.0 × IsFed asks (S.calls stream.old) (S.calls stream.new) result.1 }
+/// Serves one client over a hub, offers it this, and gives the hub back. Where there is no memory for what is read, nothing is done.
+fn feed_hub<V: Managed, S: Stream>(
+    alloc: Global,
+    hub: Hub<V>,
+    profile: &Profile,
+    stream: &mut S,
+) -> (Hub<V>, Carried)
+    ensures { (asks : List Exchange) × AreAsked (HubRuns V.view) hub asks result.0 × IsFed profile.now asks (S.calls stream.old) (S.calls stream.new) result.1 }
 {
     let Ok(mut buffer) = zeroes(alloc, PIECE) else {
         return (hub, Carried::NoMemory);
     };
     let mut out = Answers::new(alloc);
     let mut table = Table { alloc, hub };
-    let ending = carry(
-        &mut table,
-        0,
-        Profile::Strict,
-        stream,
-        &mut buffer,
-        &mut out,
-    );
+    let ending = carry(&mut table, 0, *profile, stream, &mut buffer, &mut out);
     let Table { alloc: _, hub } = table;
     (hub, ending)
 }
@@ -73,12 +71,13 @@ fn told(ending: Carried) -> Result<(), Failure>
 fn feed_pool<D: Disk + TellsTrouble + Drop, S: Stream>(
     alloc: Global,
     pool: Served<ReadCache<D>, Meta>,
+    profile: &Profile,
     stream: &mut S,
 ) -> (D, Result<(), Failure>)
     requires { holds_of pool.besides.holders ≡ empty }
-    ensures { FeedsPool pool (S.calls stream.old) (S.calls stream.new) (number_of result.1) (D.state result.0) }
+    ensures { FeedsPool profile.now pool (S.calls stream.old) (S.calls stream.new) (number_of result.1) (D.state result.0) }
 {
-    let (hub, ending) = feed_hub(alloc, Hub::new(pool), stream);
+    let (hub, ending) = feed_hub(alloc, Hub::new(pool), profile, stream);
     let (disk, closed) = end_hub(hub);
     (disk, behind(closed, told(ending)))
 }
@@ -87,13 +86,14 @@ fn feed_pool<D: Disk + TellsTrouble + Drop, S: Stream>(
 fn feed_disk<D: Disk + TellsTrouble + Drop, S: Stream>(
     alloc: Global,
     disk: D,
+    profile: &Profile,
     stream: &mut S,
 ) -> (D, Result<(), Failure>)
     requires { IsHandedOut (D.state disk) }
-    ensures { FeedsOn (S.calls stream.old) (S.calls stream.new) (number_of result.1) (D.state disk) (D.state result.0) }
+    ensures { FeedsOn profile.now (S.calls stream.old) (S.calls stream.new) (number_of result.1) (D.state disk) (D.state result.0) }
 {
     match open_pool(alloc, disk) {
-        Ok(pool) => feed_pool(alloc, pool, stream),
+        Ok(pool) => feed_pool(alloc, pool, profile, stream),
         Err((why, disk)) => (disk, Err(why)),
     }
 }
@@ -104,13 +104,14 @@ pub fn feed_image<I: Images, S: Stream>(
     images: &mut I,
     alloc: Global,
     name: &str,
+    profile: &Profile,
     stream: &mut S,
 ) -> Result<(), Failure>
-    ensures { FeedsImage name.now (I.deeds images.old) (I.deeds images.new) (S.calls stream.old) (S.calls stream.new) (number_of result) }
+    ensures { FeedsImage profile.now name.now (I.deeds images.old) (I.deeds images.new) (S.calls stream.old) (S.calls stream.new) (number_of result) }
 {
     match images.open(name) {
         Ok(disk) => {
-            let (disk, fed) = feed_disk(alloc, disk, stream);
+            let (disk, fed) = feed_disk(alloc, disk, profile, stream);
             images.close(name, disk);
             fed
         }
@@ -119,12 +120,16 @@ pub fn feed_image<I: Images, S: Stream>(
 }
 
 /// The same over a fresh pool in memory.
-pub fn feed_fresh<S: Stream>(alloc: Global, stream: &mut S) -> Result<(), Failure>
-    ensures { FeedsFirst (S.calls stream.old) (S.calls stream.new) (number_of result) }
+pub fn feed_fresh<S: Stream>(
+    alloc: Global,
+    profile: &Profile,
+    stream: &mut S,
+) -> Result<(), Failure>
+    ensures { FeedsFirst profile.now (S.calls stream.old) (S.calls stream.new) (number_of result) }
 {
     match fresh_pool(alloc) {
         Ok(pool) => {
-            let (_, fed) = feed_pool(alloc, pool, stream);
+            let (_, fed) = feed_pool(alloc, pool, profile, stream);
             fed
         }
         Err(reason) => Err(Failure::from(reason)),

@@ -22,6 +22,7 @@ ghost use Rattle.tp_hub.specs.Streams.{Makes, StreamCall};
 ghost use Rattle.tp_hub.specs.declared.client.Carried.{Carried};
 ghost use Rattle.tp_images.specs.Deeds.{Deed, IsLeftBy};
 ghost use Rattle.tp_lines.specs.Plays.{PlaysScript};
+ghost use Rattle.nbd_session.specs.declared.phase.Profile.{Profile};
 ghost use Rattle.tp_lines.specs.declared.play.Stopped.{Stopped};
 ghost use Rattle.tp_words.specs.declared.task.Sizes.{Sizes};
 ghost use Rattle.tp_program.specs.Images.{IsFormatted, IsMessageGiven, IsStatusTold, sizes_asked};
@@ -95,11 +96,11 @@ pub fn commands_go_on()
     ensures untold { (name : List ℕ) (id : Option ℕ) (reason : Refusal) (old new : List Deed) (calls calls' : List StreamCall) (s : PlainPool) → KeepsPool name old s
         → reason ≢ Refusal.Fault → reason ≢ Refusal.Memory → IsStatusTold name id old new calls calls' (Err reason) → IsTurnedDown name new s (status_call id) reason calls calls' }
     // One client, the events of a script, and clients at once: each time it is a life of the plain pool, and the image stands for the pool at its end.
-    ensures fed { (name : List ℕ) (old new : List Deed) (calls calls' : List StreamCall) (s : PlainPool) → KeepsPool name old s
-        → FeedsImage name old new calls calls' (Ok (tt {0})) → (asks : List Exchange) × (ending : Carried) × IsFed asks calls calls' ending × IsLivedOn name new s asks }
-    ensures played { (name : List ℕ) (old new : List Deed) (calls calls' : List StreamCall) (s : PlainPool) → KeepsPool name old s
-        → PlaysImage name old new calls calls' (Ok (tt {0})) → (asks : List Exchange) × (played : ℕ) × (ended : Result (Unit {0}) Stopped)
-        × Makes calls calls' (λ did. PlaysScript asks did played ended) × IsLivedOn name new s asks }
+    ensures fed { (profile : Profile) (name : List ℕ) (old new : List Deed) (calls calls' : List StreamCall) (s : PlainPool) → KeepsPool name old s
+        → FeedsImage profile name old new calls calls' (Ok (tt {0})) → (asks : List Exchange) × (ending : Carried) × IsFed profile asks calls calls' ending × IsLivedOn name new s asks }
+    ensures played { (profile : Profile) (name : List ℕ) (old new : List Deed) (calls calls' : List StreamCall) (s : PlainPool) → KeepsPool name old s
+        → PlaysImage profile name old new calls calls' (Ok (tt {0})) → (asks : List Exchange) × (played : ℕ) × (ended : Result (Unit {0}) Stopped)
+        × Makes calls calls' (λ did. PlaysScript profile asks did played ended) × IsLivedOn name new s asks }
     ensures served { (name : List ℕ) (wanted : ℕ) (old new : List Deed) (s : PlainPool) → KeepsPool name old s
         → ServesImage name wanted old new (Ok (tt {0})) → (asks : List Exchange) × IsLivedOn name new s asks }
 {

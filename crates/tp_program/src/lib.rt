@@ -15,6 +15,8 @@ mod feeding;
 mod fresh;
 pub mod headline;
 mod images;
+mod journal;
+mod moment;
 mod opening;
 mod places;
 mod programs;
@@ -26,4 +28,4 @@ mod telling;
 pub mod users;
 
 pub use programs::{Status, program, without_streams, without_words};
-pub use streams::{Stand, Terminals, stand_in};
+pub use streams::{Stand, Terminals, Timed, stand_in};

@@ -13,23 +13,55 @@ use tp_crowd::Door;
 /// What the name of a socket file begins with, as a place.
 const SOCKET_FILE: &str = "unix:";
 
-/// No memory, as the system says it.
-fn no_memory(_error: AllocError) -> io::Error {
-    io::Error::from(ErrorKind::OutOfMemory)
+/// Why a place is not listened at.
+#[derive(Clone, Copy, Debug)]
+pub(crate) enum NoDoor {
+    /// There is no memory for its path, or for the list of doors.
+    Memory,
+    /// The system refuses it.
+    System(io::Error),
 }
 
 /// A door at a place. A socket file is for its owner alone from its first moment, and takes the place of one that a server left that runs no more.
-pub(crate) fn open_door<R>(rt: &R, alloc: Global, place: &str) -> io::Result<Door>
+pub(crate) fn open_door<R>(rt: &R, alloc: Global, place: &str) -> Result<Door, NoDoor>
 where
     R: Files<File = File> + Net<Listener = TcpListener, Stream = TcpStream>,
 {
-    match place.strip_prefix(SOCKET_FILE) {
-        None => Door::tcp(TcpListener::bind(rt, place)?),
-        Some(path) => {
-            find_free(rt, path)?;
-            Door::unix(bind_file(rt, alloc, path)?)
-        }
+    let opened = match place.strip_prefix(SOCKET_FILE) {
+        None => open_address(rt, place),
+        Some(path) => match names_beside(alloc, path) {
+            Ok((folder, file)) => open_file(rt, path, &folder, &file),
+            Err(_) => return Err(NoDoor::Memory),
+        },
+    };
+    match opened {
+        Ok(door) => Ok(door),
+        Err(error) => Err(NoDoor::System(error)),
     }
+}
+
+/// A door at a TCP address.
+fn open_address<R>(rt: &R, address: &str) -> io::Result<Door>
+where
+    R: Net<Listener = TcpListener, Stream = TcpStream>,
+{
+    Door::tcp(TcpListener::bind(rt, address)?)
+}
+
+/// The folder beside a path in which its socket file is made, and the file in it.
+fn names_beside(alloc: Global, path: &str) -> Result<(String, String), AllocError> {
+    let folder = format!(in alloc; "{path}.new")?;
+    let file = format!(in alloc; "{path}.new/s")?;
+    Ok((folder, file))
+}
+
+/// A door at a socket file, which is made in that folder as that file.
+fn open_file<R>(rt: &R, path: &str, folder: &str, file: &str) -> io::Result<Door>
+where
+    R: Files<File = File> + Net<Listener = TcpListener, Stream = TcpStream>,
+{
+    find_free(rt, path)?;
+    Door::unix(bind_file(rt, path, folder, file)?)
 }
 
 /// Refuses a path where something else stands than a socket file that nobody answers on.
@@ -52,15 +84,14 @@ fn find_free<R: Files<File = File> + Net>(rt: &R, path: &str) -> io::Result<()> 
 /// Listens at a socket file. It is made in a folder that nobody else may enter, and moved to its path when its rights stand.
 fn bind_file<R: Files<File = File> + Net>(
     rt: &R,
-    alloc: Global,
     path: &str,
+    folder: &str,
+    file: &str,
 ) -> io::Result<UnixListener> {
-    let folder = format!(in alloc; "{path}.new").map_err(no_memory)?;
-    let file = format!(in alloc; "{path}.new/s").map_err(no_memory)?;
-    clear(rt, &folder, &file);
-    DirBuilder::new().mode(0o700).create(rt, folder.as_str())?;
-    let bound = bind_for_owner(rt, &file, path);
-    clear(rt, &folder, &file);
+    clear(rt, folder, file);
+    DirBuilder::new().mode(0o700).create(rt, folder)?;
+    let bound = bind_for_owner(rt, file, path);
+    clear(rt, folder, file);
     bound
 }
 

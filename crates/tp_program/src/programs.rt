@@ -8,7 +8,7 @@ ghost use Rattle.tp_words.specs.declared.task.Task.TheVariants.{Play};
 ghost use Rattle.tp_program.specs.Failures.{number_of};
 ghost use Rattle.tp_program.specs.Images.{IsChecked, IsCleared, IsFormatted};
 ghost use Rattle.tp_program.specs.Statuses.{EndsBy, status_after, status_code, status_of, status_without};
-ghost use Rattle.tp_program.specs.Tasks.{AsksStatus, Does, DoesOn, Feeds, FormatsAsked, Performs, Plays, PlaysFile, plain_of};
+ghost use Rattle.tp_program.specs.Tasks.{AsksStatus, Does, DoesOn, Feeds, FormatsAsked, Performs, Plays, PlaysFile, offered, plain_of};
 
 use crate::asker::ask_place;
 use crate::asking::may_destroy;
@@ -23,6 +23,7 @@ use crate::images::{
 use crate::running::run_image;
 use crate::scripts::{Unplayed, play_fresh, play_image};
 use crate::streams::Terminals;
+use nbd_session::Profile;
 use std::alloc::Global;
 use std::convert::AsStr;
 use std::fs::File;
@@ -278,18 +279,30 @@ fn check<I: Images, S: Stream>(
     }
 }
 
+/// What is offered to the clients of standard input and of a script.
+fn offered(is_extended: bool) -> Profile
+    ensures { result ≡ offered is_extended }
+{
+    if is_extended {
+        Profile::Extended
+    } else {
+        Profile::Strict
+    }
+}
+
 /// Serves one client over a pool in memory, or over that of an image.
 fn feed<I: Images, S: Stream>(
     images: &mut I,
     alloc: Global,
     image: Image<'_>,
+    profile: &Profile,
     stream: &mut S,
 ) -> Result<(), Failure>
-    ensures { Feeds image.entry (I.deeds images.old) (I.deeds images.new) (S.calls stream.old) (S.calls stream.new) (number_of result) }
+    ensures { Feeds profile.now image.entry (I.deeds images.old) (I.deeds images.new) (S.calls stream.old) (S.calls stream.new) (number_of result) }
 {
     match image {
-        Image::Memory => feed_fresh(alloc, stream),
-        Image::File(name) => feed_image(images, alloc, name, stream),
+        Image::Memory => feed_fresh(alloc, profile, stream),
+        Image::File(name) => feed_image(images, alloc, name, profile, stream),
     }
 }
 
@@ -298,13 +311,14 @@ fn play_on<I: Images, S: Stream>(
     images: &mut I,
     alloc: Global,
     image: Image<'_>,
+    profile: &Profile,
     stream: &mut S,
 ) -> Result<(), Unplayed>
-    ensures { Plays image.entry (I.deeds images.old) (I.deeds images.new) (S.calls stream.old) (S.calls stream.new) result }
+    ensures { Plays profile.now image.entry (I.deeds images.old) (I.deeds images.new) (S.calls stream.old) (S.calls stream.new) result }
 {
     match image {
-        Image::Memory => play_fresh(alloc, stream),
-        Image::File(name) => play_image(images, alloc, name, stream),
+        Image::Memory => play_fresh(alloc, profile, stream),
+        Image::File(name) => play_image(images, alloc, name, profile, stream),
     }
 }
 
@@ -313,15 +327,16 @@ fn play_since<'a, I: Images, R: Read, W: Write, K: Begins>(
     images: &mut I,
     alloc: Global,
     image: Image<'_>,
+    profile: &Profile,
     ends: Ends<'a, R, W>,
 ) -> (Ends<'a, R, W>, Result<(), Unplayed>)
     requires { K.opening ≡ record { reader = ends.input.ghost_name; writer = ends.output.ghost_name; left = R.remaining ends.input.now; told = W.contents ends.output.now } }
     ensures same { (result.0.input.ghost_name ≡ ends.entry.input.ghost_name) × (result.0.output.ghost_name ≡ ends.entry.output.ghost_name) }
     ensures played { (did : List StreamCall) × IsPiped (R.remaining ends.entry.input.now) (R.remaining result.0.input.now) (W.contents ends.entry.output.now) (W.contents result.0.output.now) did
-        × Plays image.entry (I.deeds images.old) (I.deeds images.new) [] did result.1 }
+        × Plays profile.now image.entry (I.deeds images.old) (I.deeds images.new) [] did result.1 }
 {
     let mut piped = Piped::<R, W, K>::begin(ends);
-    let played = play_on(images, alloc, image, &mut piped);
+    let played = play_on(images, alloc, image, profile, &mut piped);
     (piped.end(), played)
 }
 
@@ -330,13 +345,20 @@ fn play_lines<I: Images, R: Read, W: Write>(
     images: &mut I,
     alloc: Global,
     image: Image<'_>,
+    profile: &Profile,
     input: &mut R,
     output: &mut W,
 ) -> Result<(), Unplayed>
     ensures { (did : List StreamCall) × IsPiped (R.remaining input.old) (R.remaining input.new) (W.contents output.old) (W.contents output.new) did
-        × Plays image.entry (I.deeds images.old) (I.deeds images.new) [] did result }
+        × Plays profile.now image.entry (I.deeds images.old) (I.deeds images.new) [] did result }
 {
-    let (_, played) = play_since::<I, R, W, Brand>(images, alloc, image, Ends { input, output });
+    let (_, played) = play_since::<I, R, W, Brand>(
+        images,
+        alloc,
+        image,
+        profile,
+        Ends { input, output },
+    );
     played
 }
 
@@ -346,13 +368,14 @@ fn play_file<F: Files<File = File>, I: Images, W: Write>(
     images: &mut I,
     alloc: Global,
     image: Image<'_>,
+    profile: &Profile,
     path: &str,
     output: &mut W,
 ) -> Result<(), Unplayed>
-    ensures { PlaysFile image.entry (I.deeds images.old) (I.deeds images.new) (W.contents output.old) (W.contents output.new) result }
+    ensures { PlaysFile profile.now image.entry (I.deeds images.old) (I.deeds images.new) (W.contents output.old) (W.contents output.new) result }
 {
     match File::open(files, path) {
-        Ok(mut script) => play_lines(images, alloc, image, &mut script, output),
+        Ok(mut script) => play_lines(images, alloc, image, profile, &mut script, output),
         Err(error) => Err(Unplayed::Refused(Failure::fault(Cause::Script(error)))),
     }
 }
@@ -387,7 +410,9 @@ where
         }
         Task::Status { image, id } => plain(tell_status(images, alloc, image, id, stream)),
         Task::Check { image, clears } => plain(check(images, alloc, image, clears, stream)),
-        Task::Feed { image } => plain(feed(images, alloc, image, stream)),
+        Task::Feed { image, is_extended } => {
+            plain(feed(images, alloc, image, &offered(is_extended), stream))
+        }
         Task::Serve {
             image,
             address,
@@ -396,11 +421,9 @@ where
         } => plain(serve_image(
             system, images, alloc, image, address, clients, control, errors,
         )),
-        Task::Run {
-            image,
-            places,
-            control,
-        } => plain(run_image(system, images, alloc, image, &places, control, errors)),
+        Task::Run { image, service } => {
+            plain(run_image(system, images, alloc, image, &service, errors))
+        }
         Task::Ask { place, lines } => plain(ask_place(system, place, &lines, stream)),
         Task::Play { .. } => Err(Unplayed::Refused(Failure::fault(Cause::Output))),
     }
@@ -472,13 +495,17 @@ fn can_answer(terminals: Terminals) -> bool
     terminals.input && terminals.errors
 }
 
-/// The pool and the script of a task that plays one.
-fn script_of<'a>(task: &Task<'a>) -> Option<(Image<'a>, &'a str)>
-    ensures script { IfSome result (λ script. task.now ≡ Play script.0 script.1) }
+/// The pool and the script of a task that plays one, and whether its clients are offered what `run` offers.
+fn script_of<'a>(task: &Task<'a>) -> Option<(Image<'a>, &'a str, bool)>
+    ensures script { IfSome result (λ script. task.now ≡ Play script.0 script.1 script.2) }
     ensures none { IfNone result (IsScript task.now → ⊥) }
 {
     match *task {
-        Task::Play { image, script } => Some((image, script)),
+        Task::Play {
+            image,
+            script,
+            is_extended,
+        } => Some((image, script, is_extended)),
         _ => None,
     }
 }
@@ -506,7 +533,15 @@ where
         (R.remaining input.old) (R.remaining input.new) (W.contents output.old) (W.contents output.new) result }
 {
     match script_of(&task) {
-        Some((image, script)) => play_file(system, images, alloc, image, script, output),
+        Some((image, script, is_extended)) => play_file(
+            system,
+            images,
+            alloc,
+            image,
+            &offered(is_extended),
+            script,
+            output,
+        ),
         None => perform_piped(
             system,
             images,

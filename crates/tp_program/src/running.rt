@@ -6,19 +6,21 @@ ghost use Rattle.tp_disk.specs.HandedOut.{IsHandedOut};
 ghost use Rattle.tp_holders.specs.Holders.{holds_of};
 ghost use Rattle.tp_program.specs.Failures.{number_of};
 ghost use Rattle.tp_program.specs.Living.{StaysPool};
-ghost use Rattle.tp_program.specs.Staying.{StaysImage, StaysOn, told_of_threads};
+ghost use Rattle.tp_program.specs.Staying.{IsNoDoor, StaysImage, StaysOn, told_of_place, told_of_threads};
 
-use crate::clients::Errors;
 use crate::closing::{behind, end_hub};
 use crate::failure::{Cause, Failure};
+use crate::journal::Journal;
 use crate::opening::open_pool;
-use crate::places::open_door;
+use crate::places::{NoDoor, open_door};
+use nbd_session::Profile;
 use std::alloc::Global;
 use std::fs::File;
-use std::io::{self, ErrorKind, Write};
+use std::io::Write;
 use std::net::{Net, TcpListener, TcpStream};
 use std::rt::Files;
-use std::sync::{Mutex, Wait};
+use std::sync::Wait;
+use std::thread;
 use std::thread::Threads;
 use std::time::Clock;
 use tp_cache::ReadCache;
@@ -27,9 +29,9 @@ use tp_disk::{SharedDisk, TellsTrouble};
 use tp_hub::Hub;
 use tp_images::Images;
 use tp_meta::Meta;
-use tp_model::Refusal;
+use tp_model::{DevId, Refusal};
 use tp_served::Served;
-use tp_words::Texts;
+use tp_words::{Service, Texts};
 
 /// The number by which a refusal tells the place of control lines. Those of clients are told by 0 to 3.
 pub(crate) const CONTROL: u8 = 4;
@@ -42,10 +44,14 @@ struct Doors {
 }
 
 /// A place that is not listened at.
-fn closed_place(number: u8, error: io::Error) -> Failure
-    ensures { result.refusal ≡ Refusal.Fault }
+fn closed_place(number: u8, why: NoDoor) -> Failure
+    ensures told { result.refusal ≡ told_of_place why }
+    ensures kind { IsNoDoor result.refusal }
 {
-    Failure::fault(Cause::Place(number, error))
+    match why {
+        NoDoor::Memory => Failure::from(Refusal::Memory),
+        NoDoor::System(error) => Failure::fault(Cause::Place(number, error)),
+    }
 }
 
 /// Opens the door of a place, if there is one, behind others.
@@ -58,7 +64,7 @@ fn add_door<R>(
 ) -> Result<(), Failure>
 where
     R: Files<File = File> + Net<Listener = TcpListener, Stream = TcpStream>,
-    ensures { IfErr result (λ why. why.refusal ≡ Refusal.Fault) }
+    ensures { IfErr result (λ why. IsNoDoor why.refusal) }
 {
     let Some(place) = place else {
         return Ok(());
@@ -66,9 +72,9 @@ where
     match open_door(rt, alloc, place) {
         Ok(door) => match doors.push(door) {
             Ok(()) => Ok(()),
-            Err(_) => Err(closed_place(number, io::Error::from(ErrorKind::OutOfMemory))),
+            Err(_) => Err(closed_place(number, NoDoor::Memory)),
         },
-        Err(error) => Err(closed_place(number, error)),
+        Err(why) => Err(closed_place(number, why)),
     }
 }
 
@@ -76,7 +82,7 @@ where
 fn open_clients<R>(rt: &R, alloc: Global, places: &Texts<'_>) -> Result<Vec<Door>, Failure>
 where
     R: Files<File = File> + Net<Listener = TcpListener, Stream = TcpStream>,
-    ensures { IfErr result (λ why. why.refusal ≡ Refusal.Fault) }
+    ensures { IfErr result (λ why. IsNoDoor why.refusal) }
 {
     let mut doors = Vec::new(alloc);
     add_door(rt, alloc, 0, Some(places.first), &mut doors)?;
@@ -90,14 +96,14 @@ where
 fn open_control<R>(rt: &R, alloc: Global, place: Option<&str>) -> Result<Option<Door>, Failure>
 where
     R: Files<File = File> + Net<Listener = TcpListener, Stream = TcpStream>,
-    ensures { IfErr result (λ why. why.refusal ≡ Refusal.Fault) }
+    ensures { IfErr result (λ why. IsNoDoor why.refusal) }
 {
     let Some(place) = place else {
         return Ok(None);
     };
     match open_door(rt, alloc, place) {
         Ok(door) => Ok(Some(door)),
-        Err(error) => Err(closed_place(CONTROL, error)),
+        Err(why) => Err(closed_place(CONTROL, why)),
     }
 }
 
@@ -126,26 +132,27 @@ fn tell_doors<E: Write>(doors: &Doors, places: &Texts<'_>, control: Option<&str>
     }
 }
 
-/// Opens all doors, and then tells where each is.
+/// Opens all doors, and then tells where each is, unless faults alone are told.
 fn open_doors<R, E>(
     rt: &R,
     alloc: Global,
-    places: &Texts<'_>,
-    control: Option<&str>,
+    service: &Service<'_>,
     errors: &mut E,
 ) -> Result<Doors, Failure>
 where
     R: Files<File = File> + Net<Listener = TcpListener, Stream = TcpStream>,
     E: Write,
-    ensures { IfErr result (λ why. why.refusal ≡ Refusal.Fault) }
+    ensures { IfErr result (λ why. IsNoDoor why.refusal) }
 {
-    let clients = open_clients(rt, alloc, places)?;
-    let ruler = open_control(rt, alloc, control)?;
+    let clients = open_clients(rt, alloc, &service.places)?;
+    let ruler = open_control(rt, alloc, service.control)?;
     let doors = Doors {
         clients,
         control: ruler,
     };
-    tell_doors(&doors, places, control, errors);
+    if !service.is_quiet {
+        tell_doors(&doors, &service.places, service.control, errors);
+    }
     Ok(doors)
 }
 
@@ -163,34 +170,40 @@ fn refused_threads(is_manned: bool) -> Result<(), Failure>
     }
 }
 
+/// What is offered to each client. A default that no volume can have is none.
+fn profile_of(service: &Service<'_>) -> Profile {
+    let default = match service.default {
+        None => None,
+        Some(id) => DevId::checked(id).ok(),
+    };
+    Profile::extended(default)
+}
+
 /// Serves clients over a pool until it is told to stop, closes the pool, and hands its disk back. That closing is refused is told first, and then that a thread could
 /// not be made. How the clients' sessions end is no refusal, and nothing that the control side does is. That the pool fails is told when it does, and at the end closing is
 /// refused. Who said that it is to stop is let go when the pool is closed.
-fn run_pool<R, D, E>(
+fn run_pool<R, D>(
     rt: &R,
     alloc: Global,
     pool: Served<ReadCache<D>, Meta>,
     doors: &Doors,
-    errors: &mut E,
+    profile: Profile,
+    journal: &Journal<'_, R>,
 ) -> (D, Result<(), Failure>)
 where
     R: Threads + Wait + Clock + Sync,
     D: SharedDisk + TellsTrouble + Drop + Send + Sync,
-    E: Write + Send,
     requires { holds_of pool.besides.holders ≡ empty }
     ensures { StaysPool pool (number_of result.1) (D.state result.0) }
 {
-    let alarm = Errors {
-        rt,
-        writer: Mutex::new(errors),
-    };
     let stayed = serve_until_stopped(
         rt,
         alloc,
         Hub::new(pool),
         doors.clients.as_slice(),
         doors.control.as_ref(),
-        &alarm,
+        profile,
+        journal,
     );
     let Stayed {
         hub,
@@ -202,13 +215,42 @@ where
     (disk, behind(closed, refused_threads(is_manned)))
 }
 
+/// The same, and beside it what is noted is written, by a thread of its own; where there is none for that, the lines that wait are written at the end.
+fn run_told<R, D, E>(
+    rt: &R,
+    alloc: Global,
+    pool: Served<ReadCache<D>, Meta>,
+    doors: &Doors,
+    profile: Profile,
+    journal: &Journal<'_, R>,
+    errors: &mut E,
+) -> (D, Result<(), Failure>)
+where
+    R: Threads + Wait + Clock + Sync,
+    D: SharedDisk + TellsTrouble + Drop + Send + Sync,
+    E: Write + Send,
+    requires { holds_of pool.besides.holders ≡ empty }
+    ensures { StaysPool pool (number_of result.1) (D.state result.0) }
+{
+    let run = move || -> (D, Result<(), Failure>)
+        requires { holds_of pool.besides.holders ≡ empty }
+        ensures { StaysPool pool (number_of result.1) (D.state result.0) }
+    {
+        let ran = run_pool(rt, alloc, pool, doors, profile, journal);
+        journal.close();
+        ran
+    };
+    let (_, ran) = thread::join(rt, move || journal.write_to(errors), run);
+    ran
+}
+
 /// The same over the pool of a disk, which is handed back. The pool is opened before the doors are.
 fn run_disk<R, D, E>(
     rt: &R,
     alloc: Global,
     disk: D,
-    places: &Texts<'_>,
-    control: Option<&str>,
+    name: &str,
+    service: &Service<'_>,
     errors: &mut E,
 ) -> (D, Result<(), Failure>)
 where
@@ -227,8 +269,12 @@ where
         Ok(pool) => pool,
         Err((why, disk)) => return (disk, Err(why)),
     };
-    match open_doors(rt, alloc, places, control, errors) {
-        Ok(doors) => run_pool(rt, alloc, pool, &doors, errors),
+    match open_doors(rt, alloc, service, errors) {
+        Ok(doors) => {
+            let journal = Journal::new(rt, alloc, name, service);
+            let profile = profile_of(service);
+            run_told(rt, alloc, pool, &doors, profile, &journal, errors)
+        }
         Err(why) => (pool.into_disk(), Err(why)),
     }
 }
@@ -240,8 +286,7 @@ pub fn run_image<R, I, E>(
     images: &mut I,
     alloc: Global,
     name: &str,
-    places: &Texts<'_>,
-    control: Option<&str>,
+    service: &Service<'_>,
     errors: &mut E,
 ) -> Result<(), Failure>
 where
@@ -257,7 +302,7 @@ where
 {
     match images.open(name) {
         Ok(disk) => {
-            let (disk, ran) = run_disk(rt, alloc, disk, places, control, errors);
+            let (disk, ran) = run_disk(rt, alloc, disk, name, service, errors);
             images.close(name, disk);
             ran
         }

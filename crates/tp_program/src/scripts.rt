@@ -17,6 +17,7 @@ use crate::failure::{Cause, Failure};
 use crate::fresh::fresh_pool;
 use crate::opening::open_pool;
 use crate::table::Table;
+use nbd_session::Profile;
 use std::alloc::Global;
 use tp_cache::ReadCache;
 use tp_disk::{Disk, TellsTrouble};
@@ -88,13 +89,18 @@ fn end_script<D: Disk + TellsTrouble + Drop>(
     (disk, told(closed, result))
 }
 
-/// Plays the script that a stream gives over a hub, and gives the hub back.
-fn play_hub<V: Managed, S: Stream>(alloc: Global, hub: Hub<V>, stream: &mut S) -> (Hub<V>, Ended)
+/// Plays the script that a stream gives over a hub, offers this to each client, and gives the hub back.
+fn play_hub<V: Managed, S: Stream>(
+    alloc: Global,
+    hub: Hub<V>,
+    profile: &Profile,
+    stream: &mut S,
+) -> (Hub<V>, Ended)
     ensures { (asks : List Exchange) × AreAsked (HubRuns V.view) hub asks result.0
-        × Makes (S.calls stream.old) (S.calls stream.new) (λ did. PlaysScript asks did result.1.played result.1.result) }
+        × Makes (S.calls stream.old) (S.calls stream.new) (λ did. PlaysScript profile.now asks did result.1.played result.1.result) }
 {
     let mut table = Table { alloc, hub };
-    let ended = play_script(alloc, &mut table, stream);
+    let ended = play_script(alloc, &mut table, profile, stream);
     let Table { alloc: _, hub } = table;
     (hub, ended)
 }
@@ -103,12 +109,13 @@ fn play_hub<V: Managed, S: Stream>(alloc: Global, hub: Hub<V>, stream: &mut S) -
 fn play_pool<D: Disk + TellsTrouble + Drop, S: Stream>(
     alloc: Global,
     pool: Served<ReadCache<D>, Meta>,
+    profile: &Profile,
     stream: &mut S,
 ) -> (D, Result<(), Unplayed>)
     requires { holds_of pool.besides.holders ≡ empty }
-    ensures { PlaysPool pool (S.calls stream.old) (S.calls stream.new) result.1 (D.state result.0) }
+    ensures { PlaysPool profile.now pool (S.calls stream.old) (S.calls stream.new) result.1 (D.state result.0) }
 {
-    let (hub, ended) = play_hub(alloc, Hub::new(pool), stream);
+    let (hub, ended) = play_hub(alloc, Hub::new(pool), profile, stream);
     end_script(hub, ended)
 }
 
@@ -116,13 +123,14 @@ fn play_pool<D: Disk + TellsTrouble + Drop, S: Stream>(
 fn play_disk<D: Disk + TellsTrouble + Drop, S: Stream>(
     alloc: Global,
     disk: D,
+    profile: &Profile,
     stream: &mut S,
 ) -> (D, Result<(), Unplayed>)
     requires { IsHandedOut (D.state disk) }
-    ensures { PlaysOn (S.calls stream.old) (S.calls stream.new) result.1 (D.state disk) (D.state result.0) }
+    ensures { PlaysOn profile.now (S.calls stream.old) (S.calls stream.new) result.1 (D.state disk) (D.state result.0) }
 {
     match open_pool(alloc, disk) {
-        Ok(pool) => play_pool(alloc, pool, stream),
+        Ok(pool) => play_pool(alloc, pool, profile, stream),
         Err((why, disk)) => (disk, Err(Unplayed::Refused(why))),
     }
 }
@@ -132,13 +140,14 @@ pub fn play_image<I: Images, S: Stream>(
     images: &mut I,
     alloc: Global,
     name: &str,
+    profile: &Profile,
     stream: &mut S,
 ) -> Result<(), Unplayed>
-    ensures { PlaysImage name.now (I.deeds images.old) (I.deeds images.new) (S.calls stream.old) (S.calls stream.new) result }
+    ensures { PlaysImage profile.now name.now (I.deeds images.old) (I.deeds images.new) (S.calls stream.old) (S.calls stream.new) result }
 {
     match images.open(name) {
         Ok(disk) => {
-            let (disk, played) = play_disk(alloc, disk, stream);
+            let (disk, played) = play_disk(alloc, disk, profile, stream);
             images.close(name, disk);
             played
         }
@@ -147,12 +156,16 @@ pub fn play_image<I: Images, S: Stream>(
 }
 
 /// The same over a fresh pool in memory.
-pub fn play_fresh<S: Stream>(alloc: Global, stream: &mut S) -> Result<(), Unplayed>
-    ensures { PlaysFirst (S.calls stream.old) (S.calls stream.new) result }
+pub fn play_fresh<S: Stream>(
+    alloc: Global,
+    profile: &Profile,
+    stream: &mut S,
+) -> Result<(), Unplayed>
+    ensures { PlaysFirst profile.now (S.calls stream.old) (S.calls stream.new) result }
 {
     match fresh_pool(alloc) {
         Ok(pool) => {
-            let (_, played) = play_pool(alloc, pool, stream);
+            let (_, played) = play_pool(alloc, pool, profile, stream);
             played
         }
         Err(reason) => Err(Unplayed::Refused(Failure::from(reason))),

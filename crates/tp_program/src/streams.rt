@@ -1,9 +1,9 @@
 //! The standard streams.
 
-ghost use Rattle.std.specs.Prelude.{IfOk};
-
+use libc::net::{POLLOUT, poll};
+use libc::types::pollfd;
 use std::fs::File;
-use std::io;
+use std::io::{self, ErrorKind, Write};
 use std::os::fd::AsRawFd;
 use std::rt::Files;
 
@@ -34,4 +34,73 @@ pub fn stand_in<F: Files<File = File>>(files: &F) -> io::Result<Stand> {
         *place = Some(file);
     }
     Ok(stand)
+}
+
+/// The most bytes of one write: a pipe that takes any takes so many at once.
+const MOST: usize = 4096;
+
+/// A stream whose reader may stop reading: a write waits for it so many milliseconds at most, and is then given up. Behind that the next ones are given up at
+/// once, until the reader has read.
+#[derive(Drop)]
+pub struct Timed<W: Write + AsRawFd + Drop> {
+    inner: W,
+    patience: i32,
+    is_stuck: bool,
+}
+
+impl<W: Write + AsRawFd + Drop> Timed<W> {
+    ghost use Rattle.std.specs.Prelude.{◌≡◌};
+
+    /// Of a stream whose reader reads.
+    pub fn new(inner: W, patience: u16) -> Timed<W>
+        ensures { result.inner ≡ inner }
+    {
+        Timed {
+            inner,
+            patience: i32::from(patience),
+            is_stuck: false,
+        }
+    }
+
+    /// The stream.
+    pub fn into_inner(self) -> W
+        ensures { result ≡ self.inner }
+    {
+        let Timed {
+            inner,
+            patience: _,
+            is_stuck: _,
+        } = self;
+        inner
+    }
+
+    /// Whether the system takes some bytes at once, or within the time that is waited for that.
+    fn is_ready(&mut self) -> bool
+        ensures { self.new.inner ≡ self.old.inner }
+    {
+        let patience = if self.is_stuck { 0 } else { self.patience };
+        let mut asked = [pollfd {
+            fd: self.inner.as_raw_fd(),
+            events: POLLOUT,
+            revents: 0,
+        }];
+        self.is_stuck = poll(&mut asked, patience) == 0;
+        !self.is_stuck
+    }
+}
+
+impl<W: Write + AsRawFd + Drop> Write for Timed<W> {
+    ghost contents = { λ timed. W.contents timed.inner };
+
+    fn write(&mut self, bytes: &[u8]) -> io::Result<usize> {
+        if !self.is_ready() {
+            return Err(io::Error::from(ErrorKind::TimedOut));
+        }
+        let count = bytes.len().min(MOST);
+        self.inner.write(&bytes[..count])
+    }
+
+    fn flush(&mut self) -> io::Result<()> {
+        self.inner.flush()
+    }
 }

@@ -1,11 +1,11 @@
 -- What the getters of `clap` read among the arguments, in words of the command line.
 use Rattle.std.proofs.Common.{◌≡◌, ◌≤◌, ℕ, List, Option, Some, None, sym, subst, ap, ◌∙◌}
-use Rattle.std.specs.Prelude.{MatchOption, codes, option_map}
+use Rattle.std.specs.Prelude.{MatchOption, codes, is_some, option_map}
 use Rattle.std.specs.Borrow.{Bor}
 use Rattle.std.specs.Str.Parse.{digits_value, without_leading_plus}
 use Rattle.clap.specs.Words.{Row, Text, all_of, first_of}
 use Rattle.tp_words.specs.declared.task.Texts.{Texts}
-use Rattle.tp_words.specs.CommandLine.{HasClients, HasNumber, HasText, HasTexts, IsNumber, LacksClients, LacksNumber, LacksText, LacksTexts, texts_in}
+use Rattle.tp_words.specs.CommandLine.{HasClients, HasNoNumber, HasNoneUpTo, HasNumber, HasText, HasTexts, IsAbove, IsNumber, IsUpTo, LacksClients, LacksNumber, LacksText, LacksTexts, MayHaveNumber, MayHaveUpTo, texts_in}
 
 -- a text is read exactly where there is one
 pub text_read : (id : Text) (rows : List Row) (r : Option (Bor Text)) → option_map (λ s. s.now) r ≡ first_of id rows
@@ -68,3 +68,15 @@ texts_among id rows xs None e not = λ four has. not four (same (sym e ∙ has))
     same : {x y : List Text} → Some x ≡ Some y → x ≡ y
     same e = cc
 texts_among id rows xs (Some four) e is = e ∙ ap Some is
+
+-- what is there is no number, so none up to a greatest one
+pub no_number_up_to : (most : ℕ) (id : Text) (rows : List Row) → HasNoNumber id rows → HasNoneUpTo most id rows
+no_number_up_to most id rows not = (not.0, λ n has few. not.1 has.0 has.1 n has.2)
+
+-- a number that is one up to it, or is not
+pub up_to_among : (most : ℕ) (id : Text) (rows : List Row) (o : Option ℕ) (r : Option (Option ℕ)) → MayHaveNumber id rows o → MatchOption r (IsAbove most o) (λ few. IsUpTo most o few)
+    → MatchOption r (HasNoneUpTo most id rows) (λ few. MayHaveUpTo most id rows few)
+up_to_among most id rows None None has not = absurd not
+up_to_among most id rows (Some m) None has not = (ap is_some has.1, λ n found few. not (subst (λ (k : ℕ). k ≤ most) (one_number id rows n m found has) few))
+up_to_among most id rows o (Some None) has is = subst (λ (x : Option ℕ). MayHaveNumber id rows x) (sym is.0) has
+up_to_among most id rows o (Some (Some n)) has is = (subst (λ (x : Option ℕ). MayHaveNumber id rows x) (sym is.0) has, is.1)

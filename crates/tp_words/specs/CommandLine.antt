@@ -1,5 +1,5 @@
 -- Trusted reading: the command line: what `clap` makes of the words, the task that they name, and whether it is to be explained.
-use Rattle.std.specs.Prelude.{◌≡◌, ◌≢◌, ◌⊎◌, ◌<◌, ◌≤◌, ◌^◌, ℕ, Bool, true, false, List, [], ◌∷◌, ◌++◌, Option, None, Some, codes, if◌then◌else◌, is_some, ⊤}
+use Rattle.std.specs.Prelude.{◌≡◌, ◌≢◌, ◌⊎◌, ◌<◌, ◌≤◌, ◌^◌, ℕ, Bool, true, false, List, [], ◌∷◌, ◌++◌, Option, None, Some, codes, if◌then◌else◌, is_some, ⊤, IfSome}
 use Rattle.std.specs.Bool.{MatchBool}
 use Rattle.std.specs.Borrow.{Bor}
 use Rattle.std.specs.Option.{option_map_or}
@@ -46,6 +46,10 @@ flag_rule id name = record (new_rule id) { long = Some name; action = Some SetTr
 abbrev pub option_rule : Text → Text → Rule
 option_rule id name = record (new_rule id) { long = Some name; value_names = 1 }
 
+-- the same of one that is a number of 64 bits
+abbrev pub number_option_rule : Text → Text → Rule
+number_option_rule id name = record (option_rule id name) { parser = Some number_parser }
+
 -- an option `--name VALUE` that has to be there, and may be there several times
 abbrev pub repeated_rule : Text → Text → Rule
 repeated_rule id name = record (option_rule id name) { required = true; action = Some Append }
@@ -76,9 +80,13 @@ status_app = with_rule (image_app (codes "status")) (optional_number_rule (codes
 abbrev pub check_app : App
 check_app = with_rule (image_app (codes "check")) (flag_rule (codes "CLEAR") (codes "clear-needs-check-flag"))
 
--- `thinpool feed IMAGE`
+-- `--extended`: clients are offered what `run` offers
+abbrev pub extended_rule : Rule
+extended_rule = flag_rule (codes "EXTENDED") (codes "extended")
+
+-- `thinpool feed IMAGE [--extended]`
 abbrev pub feed_app : App
-feed_app = image_app (codes "feed")
+feed_app = with_rule (image_app (codes "feed")) extended_rule
 
 -- `thinpool serve IMAGE ADDR COUNT [--control ADDRESS]`
 abbrev pub serve_app : App
@@ -86,13 +94,19 @@ serve_app =
     with_rule (with_rule (with_rule (image_app (codes "serve"))
     (text_rule (codes "ADDR"))) (number_rule (codes "COUNT"))) (option_rule (codes "CONTROL") (codes "control"))
 
--- `thinpool play IMAGE SCRIPT`
+-- `thinpool play IMAGE SCRIPT [--extended]`
 abbrev pub play_app : App
-play_app = with_rule (image_app (codes "play")) (text_rule (codes "SCRIPT"))
+play_app = with_rule (with_rule (image_app (codes "play")) (text_rule (codes "SCRIPT"))) extended_rule
 
--- `thinpool run IMAGE --listen WHERE.. [--control WHERE]`
+-- a command of which some is told: `[--low-water PERCENT] [--quiet]`
+abbrev pub told_app : App → App
+told_app app = with_rule (with_rule app (number_option_rule (codes "LOW_WATER") (codes "low-water"))) (flag_rule (codes "QUIET") (codes "quiet"))
+
+-- `thinpool run IMAGE --listen WHERE.. [--control WHERE] [--default ID] [--low-water PERCENT] [--quiet]`
 abbrev pub run_app : App
-run_app = with_rule (with_rule (image_app (codes "run")) (repeated_rule (codes "LISTEN") (codes "listen"))) (option_rule (codes "CONTROL") (codes "control"))
+run_app =
+    told_app (with_rule (with_rule (with_rule (image_app (codes "run")) (repeated_rule (codes "LISTEN") (codes "listen"))) (option_rule (codes "CONTROL") (codes "control")))
+    (number_option_rule (codes "DEFAULT") (codes "default")))
 
 -- `thinpool ask WHERE LINE [LINE2] [LINE3] [LINE4]`
 abbrev pub ask_app : App
@@ -206,7 +220,8 @@ IsCheck rows (Check image clears) = HasText (codes "IMAGE") rows image × (clear
 IsCheck rows task = ⊥
 
 abbrev pub IsFeed : List Row → Task → Type 0
-IsFeed rows (Feed image) = (text : Bor Text) × HasText (codes "IMAGE") rows text × IsImage text.now image
+IsFeed rows (Feed image is_extended) =
+    ((text : Bor Text) × HasText (codes "IMAGE") rows text × IsImage text.now image) × (is_extended ≡ is_used (codes "EXTENDED") rows)
 IsFeed rows task = ⊥
 
 -- a number of clients, 1 to 64
@@ -222,7 +237,8 @@ IsServe rows (Serve image address clients control) =
 IsServe rows task = ⊥
 
 abbrev pub IsPlay : List Row → Task → Type 0
-IsPlay rows (Play image script) = ((text : Bor Text) × HasText (codes "IMAGE") rows text × IsImage text.now image) × HasText (codes "SCRIPT") rows script
+IsPlay rows (Play image script is_extended) =
+    ((text : Bor Text) × HasText (codes "IMAGE") rows text × IsImage text.now image) × HasText (codes "SCRIPT") rows script × (is_extended ≡ is_used (codes "EXTENDED") rows)
 IsPlay rows task = ⊥
 
 -- ---- texts, once to four times
@@ -241,8 +257,28 @@ HasTexts id rows texts = all_of id rows ≡ Some (texts_in texts)
 abbrev pub LacksTexts : Text → List Row → Type 0
 LacksTexts id rows = (texts : Texts) → HasTexts id rows texts → ⊥
 
+-- a number up to a greatest one, of an argument that may be left out
+abbrev pub MayHaveUpTo : ℕ → Text → List Row → Option ℕ → Type 0
+MayHaveUpTo most id rows None = LacksText id rows
+MayHaveUpTo most id rows (Some n) = HasNumber id rows n × (n ≤ most)
+
+-- it is there, and is none
+abbrev pub HasNoneUpTo : ℕ → Text → List Row → Type 0
+HasNoneUpTo most id rows = (is_some (first_of id rows) ≡ true) × ((n : ℕ) → HasNumber id rows n → n ≤ most → ⊥)
+
+-- a number that may be left out is the same one up to it
+abbrev pub IsUpTo : ℕ → Option ℕ → Option ℕ → Type 0
+IsUpTo most number few = (few ≡ number) × IfSome few (λ n. n ≤ most)
+
+-- it is there, and above it
+abbrev pub IsAbove : ℕ → Option ℕ → Type 0
+IsAbove most None = ⊥
+IsAbove most (Some n) = n ≤ most → ⊥
+
 abbrev pub IsRun : List Row → Task → Type 0
-IsRun rows (Run image places control) = HasText (codes "IMAGE") rows image × HasTexts (codes "LISTEN") rows places × MayHaveText (codes "CONTROL") rows control
+IsRun rows (Run image service) =
+    HasText (codes "IMAGE") rows image × HasTexts (codes "LISTEN") rows service.places × MayHaveText (codes "CONTROL") rows service.control
+    × MayHaveUpTo 16777215 (codes "DEFAULT") rows service.default × MayHaveUpTo 100 (codes "LOW_WATER") rows service.low_water × (service.is_quiet ≡ is_used (codes "QUIET") rows)
 IsRun rows task = ⊥
 
 abbrev pub IsAsk : List Row → Task → Type 0
@@ -279,7 +315,7 @@ LacksTask name rows = by_name name
     (LacksText (codes "IMAGE") rows)
     (LacksText (codes "IMAGE") rows ⊎ LacksText (codes "ADDR") rows ⊎ LacksClients rows)
     (LacksText (codes "IMAGE") rows ⊎ LacksText (codes "SCRIPT") rows)
-    (LacksText (codes "IMAGE") rows ⊎ LacksTexts (codes "LISTEN") rows)
+    (LacksText (codes "IMAGE") rows ⊎ LacksTexts (codes "LISTEN") rows ⊎ HasNoneUpTo 16777215 (codes "DEFAULT") rows ⊎ HasNoneUpTo 100 (codes "LOW_WATER") rows)
     (LacksText (codes "WHERE") rows ⊎ LacksText (codes "LINE") rows)
     ⊤
 
@@ -328,7 +364,7 @@ NameTask words = (task : Task) × (mistakes words ≡ []) × Name words task
 
 -- the task is to play a script
 abbrev pub IsScript : Task → Type 0
-IsScript (Play image script) = ⊤
+IsScript (Play image script is_extended) = ⊤
 IsScript task = ⊥
 
 -- the words have no mistake, and name that task

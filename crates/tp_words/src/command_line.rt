@@ -1,12 +1,13 @@
 //! The reading of a command line.
 
 ghost use Rattle.std.specs.Prelude.{◌≡◌, ◌⊎◌, ◌≤◌, [], ℕ, IfOk, List, MatchOption, MatchResult, codes, drop, false, map};
-ghost use Rattle.clap.specs.Words.{HasKind, Text, app_of, found_of, rows_of, rule_of, new_app, subcommand_rows_of, with_rule, with_subcommand};
+ghost use Rattle.clap.specs.Words.{App, HasKind, Text, app_of, found_of, rows_of, rule_of, new_app, subcommand_rows_of, with_rule, with_subcommand};
 ghost use Rattle.clap.specs.declared.builder.command.Command.TheViews.{out-Command};
 ghost use Rattle.tp_words.specs.declared.task.Texts.{Texts};
-ghost use Rattle.tp_words.specs.CommandLine.{AskFor, HasClients, HasNoNumber, HasNumber, HasSizes, HasText, HasTexts, IsAsk, IsCheck, IsFeed, IsFormat, IsImage, IsMessage, IsNumber, IsPlay, IsRun, IsServe, IsStatus, IsTask, IsTaskOf, IsUnread, LacksClients, LacksNumber, LacksSizes, LacksTask, LacksTaskOf, LacksText, LacksTexts, MayHaveNumber, MayHaveText, NameNone, ask_app, check_app, feed_app, flag_rule, format_app, image_app, is_explained, is_used, message_app, mistakes, number_rule, option_rule, optional_number_rule, optional_rule, play_app, repeated_rule, run_app, serve_app, status_app, text_rule, texts_in, thinpool_app, without_flag, without_subcommands};
+ghost use Rattle.tp_words.specs.CommandLine.{AskFor, HasClients, HasNoNumber, HasNumber, HasSizes, HasText, HasTexts, IsAsk, IsCheck, IsFeed, IsFormat, IsImage, IsMessage, IsNumber, IsPlay, IsRun, IsServe, IsStatus, IsTask, IsTaskOf, IsUnread, LacksClients, LacksNumber, LacksSizes, LacksTask, LacksTaskOf, LacksText, LacksTexts, MayHaveNumber, MayHaveText, NameNone, ask_app, check_app, extended_rule, feed_app, flag_rule, format_app, image_app, is_explained, is_used, message_app, mistakes, number_rule, option_rule, optional_number_rule, optional_rule, play_app, repeated_rule, run_app, serve_app, status_app, text_rule, texts_in, thinpool_app, without_flag, without_subcommands};
 
-use crate::task::{Asked, Image, Sizes, Task, Texts, Unread};
+use crate::running::{ask_command, ask_task, fault_of_run, run_command, run_task};
+use crate::task::{Asked, Image, Sizes, Task, Unread};
 use clap::error::ErrorKind;
 use clap::{Arg, ArgAction, ArgMatches, Command};
 use std::alloc::{AllocError, Global};
@@ -98,8 +99,9 @@ other volumes have; put in its place a copy that is clean. To save what can be r
 
 const FEED_HELP: &str = "\
 The client speaks NBD (fixed newstyle) on standard input, and is answered on standard output. The volumes' names are their ids. Offsets
-and lengths are in bytes, whole sectors of 512; a request has 1048576 bytes at most. A FLUSH that is answered is on the disk. When the
-client ends, the pool is closed, and what it wrote is on the disk. TRIM frees blocks of the pool, and gives nothing back to the host.
+and lengths are in bytes, whole sectors of 512; a request has 1048576 bytes at most, but with --extended TRIM and WRITE_ZEROES, which may
+have up to 4294967295. A FLUSH that is answered is on the disk. When the client ends, the pool is closed, and what it wrote is on the disk.
+TRIM frees blocks of the pool, and gives nothing back to the host.
 
 The volume 0 of a pool of 10 GiB is asked for by
   printf '\\0\\0\\0\\3IHAVEOPT\\0\\0\\0\\7\\0\\0\\0\\7\\0\\0\\0\\0010\\0\\0' | thinpool feed pool.img | xxd";
@@ -130,27 +132,9 @@ SCRIPT is a file of lines, each an event; its answers are printed, a line each. 
 What is refused prints 'refused N', the number of the refusal, and the script goes on. At a line that is none of these it stops with status 2, and the
 pool is not closed: what was not flushed is as after a stop. Else the pool is closed at the end.
 
+With --extended the clients may send TRIM and WRITE_ZEROES of any length, as those of 'run'.
+
   thinpool play mem: script.txt";
-
-const RUN_HELP: &str = "\
-WHERE is 'unix:PATH', a socket file, or 'HOST:PORT', a TCP address, as 127.0.0.1:10809 or [::1]:10809. The clients speak NBD (fixed
-newstyle), 64 of them at a time, each as it comes; who comes then waits for a place. It serves until a control line tells it to stop, and
-then closes the pool. A socket file is for its owner alone (mode 0600). One that a server left that runs no more is replaced. Where each place is
-is told on standard error. At a TCP address there is no authentication.
-
-With --control it also answers lines, each by one: those of 'serve --control', and
-  stop      nobody is let in any more, and it ends when the last client has gone: 'ok'
-  stop now  the clients' streams are ended too, behind the answers of what was read of them: 'ok'
-Whoever can connect there can delete volumes: take a socket file. 'thinpool ask' sends such lines.
-
-  thinpool run pool.img --listen unix:/run/thinpool/nbd.sock --control unix:/run/thinpool/control.sock";
-
-const ASK_HELP: &str = "\
-It prints a line of answer for each line. Where one is refused it ends with 1, behind all of them. Behind 'stop' or 'stop now' it waits until the
-server has closed its pool.
-
-  thinpool ask unix:/run/thinpool/control.sock status 'create_thin 1'
-  thinpool ask unix:/run/thinpool/control.sock 'stop now'";
 
 /// Reads the words of a command line, the first of them the program's name. `--explain` may stand behind it, in front of all others.
 ///
@@ -209,7 +193,7 @@ fn program_name<S: AsStr>(words: &[S]) -> Option<&str> {
 }
 
 /// An argument that has to be there.
-fn text<'a>(alloc: Global, id: &'a str, help: &'a str) -> Arg<'a>
+pub(crate) fn text<'a>(alloc: Global, id: &'a str, help: &'a str) -> Arg<'a>
     ensures rule { rule_of result ≡ text_rule id.entry.now }
     ensures local { result.global ≡ false }
 {
@@ -235,7 +219,7 @@ fn optional_number<'a>(alloc: Global, id: &'a str, help: &'a str) -> Arg<'a>
 }
 
 /// A flag `--name`: its text is `true` where the words have it, and else `false`.
-fn flag<'a>(alloc: Global, id: &'a str, name: &'a str, help: &'a str) -> Arg<'a>
+pub(crate) fn flag<'a>(alloc: Global, id: &'a str, name: &'a str, help: &'a str) -> Arg<'a>
     ensures rule { rule_of result ≡ flag_rule id.entry.now name.entry.now }
     ensures local { result.global ≡ false }
 {
@@ -246,7 +230,13 @@ fn flag<'a>(alloc: Global, id: &'a str, name: &'a str, help: &'a str) -> Arg<'a>
 }
 
 /// An option `--name VALUE`, which may be left out. Help calls its value by that name.
-fn option<'a>(alloc: Global, id: &'a str, name: &'a str, value: &'a str, help: &'a str) -> Arg<'a>
+pub(crate) fn option<'a>(
+    alloc: Global,
+    id: &'a str,
+    name: &'a str,
+    value: &'a str,
+    help: &'a str,
+) -> Arg<'a>
     ensures rule { rule_of result ≡ option_rule id.entry.now name.entry.now }
     ensures local { result.global ≡ false }
 {
@@ -254,7 +244,13 @@ fn option<'a>(alloc: Global, id: &'a str, name: &'a str, value: &'a str, help: &
 }
 
 /// The same that has to be there, and may be there several times.
-fn repeated<'a>(alloc: Global, id: &'a str, name: &'a str, value: &'a str, help: &'a str) -> Arg<'a>
+pub(crate) fn repeated<'a>(
+    alloc: Global,
+    id: &'a str,
+    name: &'a str,
+    value: &'a str,
+    help: &'a str,
+) -> Arg<'a>
     ensures rule { rule_of result ≡ repeated_rule id.entry.now name.entry.now }
     ensures local { result.global ≡ false }
 {
@@ -264,7 +260,7 @@ fn repeated<'a>(alloc: Global, id: &'a str, name: &'a str, value: &'a str, help:
 }
 
 /// An argument that may be left out.
-fn optional<'a>(alloc: Global, id: &'a str, help: &'a str) -> Arg<'a>
+pub(crate) fn optional<'a>(alloc: Global, id: &'a str, help: &'a str) -> Arg<'a>
     ensures rule { rule_of result ≡ optional_rule id.entry.now }
     ensures local { result.global ≡ false }
 {
@@ -272,7 +268,7 @@ fn optional<'a>(alloc: Global, id: &'a str, help: &'a str) -> Arg<'a>
 }
 
 /// A command with one argument more.
-fn with<'a>(command: Command<'a>, arg: Arg<'a>) -> Result<Command<'a>, AllocError>
+pub(crate) fn with<'a>(command: Command<'a>, arg: Arg<'a>) -> Result<Command<'a>, AllocError>
     requires { arg.global ≡ false }
     ensures app { IfOk result (λ made. app_of made ≡ with_rule (app_of command.entry) (rule_of arg.entry)) }
     ensures local { IfOk result (λ made. (out-Command made).has_globals ≡ (out-Command command.entry).has_globals) }
@@ -281,7 +277,7 @@ fn with<'a>(command: Command<'a>, arg: Arg<'a>) -> Result<Command<'a>, AllocErro
 }
 
 /// A command with a longer help.
-fn explained<'a>(command: Command<'a>, help: &'a str) -> Command<'a>
+pub(crate) fn explained<'a>(command: Command<'a>, help: &'a str) -> Command<'a>
     ensures app { app_of result ≡ app_of command.entry }
     ensures local { (out-Command result).has_globals ≡ (out-Command command.entry).has_globals }
 {
@@ -289,7 +285,7 @@ fn explained<'a>(command: Command<'a>, help: &'a str) -> Command<'a>
 }
 
 /// A command of an image.
-fn of_image<'a>(
+pub(crate) fn of_image<'a>(
     alloc: Global,
     name: &'a str,
     about: &'a str,
@@ -303,7 +299,7 @@ fn of_image<'a>(
 }
 
 /// A command without arguments.
-fn named<'a>(alloc: Global, name: &'a str, about: &'a str) -> Command<'a>
+pub(crate) fn named<'a>(alloc: Global, name: &'a str, about: &'a str) -> Command<'a>
     ensures app { app_of result ≡ new_app name.entry.now }
     ensures local { (out-Command result).has_globals ≡ false }
 {
@@ -368,6 +364,15 @@ fn check_command<'a>(alloc: Global) -> Result<Command<'a>, AllocError>
     Ok(explained(command, CHECK_HELP))
 }
 
+/// The flag by which clients are offered what `run` offers.
+fn extended<'a>(alloc: Global) -> Arg<'a>
+    ensures rule { rule_of result ≡ extended_rule }
+    ensures local { result.global ≡ false }
+{
+    let help = "Offer what 'run' offers: TRIM and WRITE_ZEROES of any length";
+    flag(alloc, "EXTENDED", "extended", help)
+}
+
 fn feed_command<'a>(alloc: Global) -> Result<Command<'a>, AllocError>
     ensures app { IfOk result (λ made. app_of made ≡ feed_app) }
     ensures local { IfOk result (λ made. (out-Command made).has_globals ≡ false) }
@@ -376,6 +381,7 @@ fn feed_command<'a>(alloc: Global) -> Result<Command<'a>, AllocError>
     let image =
         "The file that holds the pool, or 'mem:' for a fresh pool in memory with one volume, 0";
     let command = of_image(alloc, "feed", about, image)?;
+    let command = with(command, extended(alloc))?;
     Ok(explained(command, FEED_HELP))
 }
 
@@ -408,44 +414,8 @@ fn play_command<'a>(alloc: Global) -> Result<Command<'a>, AllocError>
         "The file that holds the pool, or 'mem:' for a fresh pool in memory with one volume, 0";
     let command = of_image(alloc, "play", about, image)?;
     let command = with(command, text(alloc, "SCRIPT", "The file of the script"))?;
+    let command = with(command, extended(alloc))?;
     Ok(explained(command, PLAY_HELP))
-}
-
-fn run_command<'a>(alloc: Global) -> Result<Command<'a>, AllocError>
-    ensures app { IfOk result (λ made. app_of made ≡ run_app) }
-    ensures local { IfOk result (λ made. (out-Command made).has_globals ≡ false) }
-{
-    let about =
-        "Serve NBD clients without end, 64 at a time, until told to stop, then close the pool";
-    let image = "The file that holds the pool";
-    let listen = "Where to listen for clients; up to four times";
-    let control = "Where to listen for control lines while clients are served";
-    let command = of_image(alloc, "run", about, image)?;
-    let command = with(
-        command,
-        repeated(alloc, "LISTEN", "listen", "WHERE", listen),
-    )?;
-    let command = with(
-        command,
-        option(alloc, "CONTROL", "control", "WHERE", control),
-    )?;
-    Ok(explained(command, RUN_HELP))
-}
-
-fn ask_command<'a>(alloc: Global) -> Result<Command<'a>, AllocError>
-    ensures app { IfOk result (λ made. app_of made ≡ ask_app) }
-    ensures local { IfOk result (λ made. (out-Command made).has_globals ≡ false) }
-{
-    let about = "Send lines to the control place of a server, and print the answers";
-    let place = "The place that 'run' or 'serve' was given behind --control";
-    let line = "A line, in quotes";
-    let command = named(alloc, "ask", about);
-    let command = with(command, text(alloc, "WHERE", place))?;
-    let command = with(command, text(alloc, "LINE", line))?;
-    let command = with(command, optional(alloc, "LINE2", "The next one"))?;
-    let command = with(command, optional(alloc, "LINE3", "The next one"))?;
-    let command = with(command, optional(alloc, "LINE4", "The next one"))?;
-    Ok(explained(command, ASK_HELP))
 }
 
 /// The program, as yet without its commands.
@@ -467,16 +437,15 @@ fn program<'a>(alloc: Global) -> Command<'a>
 fn known_commands<'a>(alloc: Global) -> Result<Command<'a>, AllocError>
     ensures { IfOk result (λ known. app_of known ≡ thinpool_app) }
 {
-    let known = program(alloc);
-    let known = add(known, format_command(alloc)?)?;
-    let known = add(known, message_command(alloc)?)?;
-    let known = add(known, status_command(alloc)?)?;
-    let known = add(known, check_command(alloc)?)?;
-    let known = add(known, feed_command(alloc)?)?;
-    let known = add(known, serve_command(alloc)?)?;
-    let known = add(known, play_command(alloc)?)?;
-    let known = add(known, run_command(alloc)?)?;
-    add(known, ask_command(alloc)?)
+    let known = add_to_made(Ok(program(alloc)), format_command(alloc));
+    let known = add_to_made(known, message_command(alloc));
+    let known = add_to_made(known, status_command(alloc));
+    let known = add_to_made(known, check_command(alloc));
+    let known = add_to_made(known, feed_command(alloc));
+    let known = add_to_made(known, serve_command(alloc));
+    let known = add_to_made(known, play_command(alloc));
+    let known = add_to_made(known, run_command(alloc));
+    add_to_made(known, ask_command(alloc))
 }
 
 /// Commands with one more.
@@ -485,6 +454,35 @@ fn add<'a>(known: Command<'a>, command: Command<'a>) -> Result<Command<'a>, Allo
     ensures { IfOk result (λ made. app_of made ≡ with_subcommand (app_of known.entry) (app_of command.entry).top) }
 {
     known.subcommand(command)
+}
+
+/// The same with one that there may be no memory for.
+fn add_made<'a>(
+    known: Command<'a>,
+    made: Result<Command<'a>, AllocError>,
+) -> Result<Command<'a>, AllocError>
+    requires { IfOk made (λ command. (out-Command command).has_globals ≡ false) }
+    ensures { (more : App) → IfOk made.entry (λ command. app_of command ≡ more) → IfOk result (λ all. app_of all ≡ with_subcommand (app_of known.entry) more.top) }
+{
+    match made {
+        Ok(command) => add(known, command),
+        Err(error) => Err(error),
+    }
+}
+
+/// The same of commands that there may be no memory for. A `?` where commands live is dear to prove, so both are passed on whole.
+fn add_to_made<'a>(
+    known: Result<Command<'a>, AllocError>,
+    made: Result<Command<'a>, AllocError>,
+) -> Result<Command<'a>, AllocError>
+    requires { IfOk made (λ command. (out-Command command).has_globals ≡ false) }
+    ensures { (before more : App) → IfOk known.entry (λ commands. app_of commands ≡ before) → IfOk made.entry (λ command. app_of command ≡ more)
+        → IfOk result (λ all. app_of all ≡ with_subcommand before more.top) }
+{
+    match known {
+        Ok(commands) => add_made(commands, made),
+        Err(error) => Err(error),
+    }
 }
 
 /// The task of a subcommand with its arguments.
@@ -569,7 +567,8 @@ fn feed_task<'a>(arguments: &ArgMatches<'a>) -> Option<Task<'a>>
 {
     let text = text_of(arguments, "IMAGE")?;
     let image = image_of(text);
-    Some(Task::Feed { image })
+    let is_extended = has_flag(arguments, "EXTENDED");
+    Some(Task::Feed { image, is_extended })
 }
 
 fn serve_task<'a>(arguments: &ArgMatches<'a>) -> Option<Task<'a>>
@@ -596,65 +595,11 @@ fn play_task<'a>(arguments: &ArgMatches<'a>) -> Option<Task<'a>>
     let text = text_of(arguments, "IMAGE")?;
     let script = text_of(arguments, "SCRIPT")?;
     let image = image_of(text);
-    Some(Task::Play { image, script })
-}
-
-fn run_task<'a>(arguments: &ArgMatches<'a>) -> Option<Task<'a>>
-    ensures { MatchOption result (LacksText (codes "IMAGE") (rows_of (found_of arguments.now)) ⊎ LacksTexts (codes "LISTEN") (rows_of (found_of arguments.now)))
-        (λ task. IsRun (rows_of (found_of arguments.now)) task) }
-{
-    let image = text_of(arguments, "IMAGE")?;
-    let places = texts_of(arguments, "LISTEN")?;
-    let ruler = text_if_there(arguments, "CONTROL");
-    Some(Task::Run {
+    let is_extended = has_flag(arguments, "EXTENDED");
+    Some(Task::Play {
         image,
-        places,
-        control: ruler,
-    })
-}
-
-fn ask_task<'a>(arguments: &ArgMatches<'a>) -> Option<Task<'a>>
-    ensures { MatchOption result (LacksText (codes "WHERE") (rows_of (found_of arguments.now)) ⊎ LacksText (codes "LINE") (rows_of (found_of arguments.now)))
-        (λ task. IsAsk (rows_of (found_of arguments.now)) task) }
-{
-    let place = text_of(arguments, "WHERE")?;
-    let first = text_of(arguments, "LINE")?;
-    let second = text_if_there(arguments, "LINE2");
-    let third = text_if_there(arguments, "LINE3");
-    let fourth = text_if_there(arguments, "LINE4");
-    let lines = Texts {
-        first,
-        second,
-        third,
-        fourth,
-    };
-    Some(Task::Ask { place, lines })
-}
-
-/// The texts of an argument that may be there several times: one to four of them.
-fn texts_of<'a>(arguments: &ArgMatches<'a>, id: &str) -> Option<Texts<'a>>
-    ensures { MatchOption result (LacksTexts id.now (rows_of (found_of arguments.now))) (λ texts. HasTexts id.now (rows_of (found_of arguments.now)) texts) }
-{
-    let texts = arguments.get_strs(id)?;
-    four_of(texts)
-}
-
-/// One to four texts.
-fn four_of<'a>(texts: &[&'a str]) -> Option<Texts<'a>>
-    ensures { MatchOption result ((four : Texts) → map (λ text. text.now) texts.now ≡ texts_in four → ⊥) (λ four. map (λ text. text.now) texts.now ≡ texts_in four) }
-{
-    if texts.len() > 4 {
-        return None;
-    }
-    let first = texts.first().copied()?;
-    let second = texts.get(1).copied();
-    let third = texts.get(2).copied();
-    let fourth = texts.get(3).copied();
-    Some(Texts {
-        first,
-        second,
-        third,
-        fourth,
+        script,
+        is_extended,
     })
 }
 
@@ -696,21 +641,21 @@ fn sizes_of(arguments: &ArgMatches<'_>) -> Option<Sizes>
 }
 
 /// A text among the arguments.
-fn text_of<'a>(arguments: &ArgMatches<'a>, id: &str) -> Option<&'a str>
+pub(crate) fn text_of<'a>(arguments: &ArgMatches<'a>, id: &str) -> Option<&'a str>
     ensures { MatchOption result (LacksText id.now (rows_of (found_of arguments.now))) (λ text. HasText id.now (rows_of (found_of arguments.now)) text) }
 {
     arguments.get_str(id)
 }
 
 /// The same of one that may be left out.
-fn text_if_there<'a>(arguments: &ArgMatches<'a>, id: &str) -> Option<&'a str>
+pub(crate) fn text_if_there<'a>(arguments: &ArgMatches<'a>, id: &str) -> Option<&'a str>
     ensures { MayHaveText id.now (rows_of (found_of arguments.now)) result }
 {
     text_of(arguments, id)
 }
 
 /// Whether a flag is among the arguments.
-fn has_flag(arguments: &ArgMatches<'_>, id: &str) -> bool
+pub(crate) fn has_flag(arguments: &ArgMatches<'_>, id: &str) -> bool
     ensures { result ≡ is_used id.now (rows_of (found_of arguments.now)) }
 {
     match text_of(arguments, id) {
@@ -739,7 +684,7 @@ fn number_in(text: &str) -> Option<u64>
 }
 
 /// The same where it is among them.
-fn number_if_there(arguments: &ArgMatches<'_>, id: &str) -> Option<Option<u64>>
+pub(crate) fn number_if_there(arguments: &ArgMatches<'_>, id: &str) -> Option<Option<u64>>
     ensures { MatchOption result (HasNoNumber id.now (rows_of (found_of arguments.now))) (λ n. MayHaveNumber id.now (rows_of (found_of arguments.now)) n) }
 {
     let Some(_) = text_of(arguments, id) else {
@@ -760,14 +705,12 @@ fn image_of(text: &str) -> Image<'_>
     }
 }
 
-/// What is told of words that name no task: they are as the commands want them but for the number of clients, or of places.
+/// What is told of words that name no task: they are as the commands want them but for the number of clients, or the places or the percentage of a server.
 fn misused(alloc: Global, matches: &ArgMatches<'_>) -> Unread
     ensures { (words : List Text) → mistakes words ≡ [] → NameNone words → IsUnread words result }
 {
     let text = match matches.subcommand() {
-        Some(("run", _)) => {
-            "error: there are more than four places to listen at\n\nUsage: thinpool run [OPTIONS] --listen <WHERE> <IMAGE>\n"
-        }
+        Some(("run", arguments)) => fault_of_run(arguments),
         _ => {
             "error: COUNT is not from 1 to 64\n\nUsage: thinpool serve [OPTIONS] <IMAGE> <ADDR> <COUNT>\n"
         }

@@ -5,8 +5,9 @@
 
 mod command_line;
 mod reading;
+mod running;
 mod task;
 
 pub use command_line::command;
 pub use reading::{NoWords, words};
-pub use task::{Asked, Image, Sizes, Task, Texts, Unread};
+pub use task::{Asked, Image, Service, Sizes, Task, Texts, Unread};

@@ -32,14 +32,16 @@ pub enum Task<'a> {
         image: &'a str,
         clears: bool,
     },
-    /// To serve one client on standard input and output. A read that fails is the client's hangup.
+    /// To serve one client on standard input and output, who is offered what `run` offers, if `is_extended`. A read that fails is the client's hangup.
     Feed {
         image: Image<'a>,
+        is_extended: bool,
     },
-    /// To play the script in a file over a pool, and then to close the pool.
+    /// To play the script in a file over a pool, and then to close the pool. Its clients are offered what `run` offers, if `is_extended`.
     Play {
         image: Image<'a>,
         script: &'a str,
+        is_extended: bool,
     },
     /// To serve so many clients of a TCP address, 1 to 64, and then to close the pool; meanwhile also to answer the lines of those who come to the
     /// address `control`, where there is one.
@@ -49,18 +51,31 @@ pub enum Task<'a> {
         clients: u8,
         control: Option<&'a str>,
     },
-    /// To serve clients without end, 64 at a time, who come to these places, until it is told to stop by a line of those who come to the place `control`, where
-    /// there is one; and then to close the pool.
+    /// To serve clients without end, 64 at a time, until it is told to stop, and then to close the pool.
     Run {
         image: &'a str,
-        places: Texts<'a>,
-        control: Option<&'a str>,
+        service: Service<'a>,
     },
     /// To send lines to a control place, and to print what is answered.
     Ask {
         place: &'a str,
         lines: Texts<'a>,
     },
+}
+
+/// How clients are served without end.
+#[derive(Clone, Copy, Debug, PartialEq, Eq)]
+pub struct Service<'a> {
+    /// Where clients come.
+    pub places: Texts<'a>,
+    /// Where those come who send control lines, one of which may tell it to stop.
+    pub control: Option<&'a str>,
+    /// The id of the volume that a client has who names none, 0 to 16777215; without it such a client has none.
+    pub default: Option<u64>,
+    /// It is told when less than so many hundredths of the data or metadata blocks are free, 0 to 100; the program's own number where none was given.
+    pub low_water: Option<u64>,
+    /// Whether faults alone are told.
+    pub is_quiet: bool,
 }
 
 /// The texts of what may be given once to four times, in order.

@@ -12,5 +12,5 @@ invariant-loop-turn g l = record {
   room : length l.bytes ≡ 8192;
   empty : l.out.list ≡ [];
   fits : HasRoom l.out;
-  so_far : Leads g.D.Desk.asks (SoFar PlaysLine Script ends_last l.initial.place.line l.initial.place.played l.turn l.place.line l.place.played) l.initial.desk l.desk (g.S.Stream.calls l.initial.stream) (g.S.Stream.calls l.stream);
+  so_far : Leads g.D.Desk.asks (SoFar (PlaysLine l.profile) Script ends_last l.initial.place.line l.initial.place.played l.turn l.place.line l.place.played) l.initial.desk l.desk (g.S.Stream.calls l.initial.stream) (g.S.Stream.calls l.stream);
 }

@@ -11,5 +11,5 @@ invariant-loop-byte g l = record {
   empty : l.out.list ≡ [];
   fits : HasRoom l.out;
   left : l.place.line ≡ left_from l.initial.place.line (take l.byte-index l.piece);
-  so_far : Leads g.D.Desk.asks (λ asks did. AreDone PlaysLine (lines_from l.initial.place.line (take l.byte-index l.piece)) l.initial.place.played asks did l.place.played (Ok (tt {0}))) l.initial.desk l.desk (g.S.Stream.calls l.initial.stream) (g.S.Stream.calls l.stream);
+  so_far : Leads g.D.Desk.asks (λ asks did. AreDone (PlaysLine l.profile) (lines_from l.initial.place.line (take l.byte-index l.piece)) l.initial.place.played asks did l.place.played (Ok (tt {0}))) l.initial.desk l.desk (g.S.Stream.calls l.initial.stream) (g.S.Stream.calls l.stream);
 }

@@ -1,7 +1,8 @@
 use Rattle.std.proofs.Common.{Bool, subst, sym}
 use Rattle.std.specs.Prelude.{◌&&◌}
 use Rattle.tp_words.specs.declared.task.Task.{Task}
-use Rattle.tp_program.specs.Tasks.{Does}
+use Rattle.nbd_session.specs.declared.phase.Profile.{Profile}
+use Rattle.tp_program.specs.Tasks.{Does, PlaysFile}
 use Rattle.tp_program.proofs.Tasks.{does_streamed, keeps_same}
 use Rattle.tp_program.proofs.programs.perform.Goals as goal
 
@@ -11,8 +12,10 @@ returns-in-Some g c =
     let left = g.R.Read.remaining in
     let told = g.W.Write.contents in
     subst (λ (t : Task). Does (c.args.terminals.input && c.args.terminals.errors) t (deeds c.args.images.now) (deeds c.play_file.new.images) (left c.args.input.now) (left c.args.input.now)
-    (told c.args.output.now) (told c.play_file.new.output) c.play_file.result) (sym c.in-Some.ensures.script)
-    (keeps_same (left c.args.input.now), c.play_file.ensures)
+    (told c.args.output.now) (told c.play_file.new.output) c.play_file.result) (sym c.in-Some.ensures.script) (
+      keeps_same (left c.args.input.now),
+      subst (λ (p : Profile). PlaysFile p c.in-Some.image (deeds c.args.images.now) (deeds c.play_file.new.images) (told c.args.output.now) (told c.play_file.new.output) c.play_file.result) c.offered.ensures c.play_file.ensures,
+    )
 
 pub returns-in-None : goal.returns-in-None
 returns-in-None g c =

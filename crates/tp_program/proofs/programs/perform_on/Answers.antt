@@ -1,6 +1,8 @@
 use Rattle.std.proofs.Common.{rules, subst, sym}
 use Rattle.tp_words.specs.declared.task.Task.{Task}
-use Rattle.tp_program.specs.Tasks.{DoesOn}
+use Rattle.nbd_session.specs.declared.phase.Profile.{Profile}
+use Rattle.tp_program.specs.Failures.{number_of}
+use Rattle.tp_program.specs.Tasks.{DoesOn, Feeds}
 use Rattle.tp_program.proofs.programs.perform_on.Goals as goal
 
 pub returns-in-Format : goal.returns-in-Format
@@ -12,6 +14,16 @@ returns-in-Format g c =
 
 pub returns-in-Message : goal.returns-in-Message
 returns-in-Message g c = search rules
+
+pub returns-in-Feed : goal.returns-in-Feed
+returns-in-Feed g c =
+    let calls = g.S.Stream.calls in
+    let deeds = g.I.Images.deeds in
+    subst (λ (t : Task). DoesOn c.args.asks t (deeds c.args.images.now) (deeds c.feed.new.images) (calls c.args.stream.now) (calls c.feed.new.stream) c.plain-in-Feed.result) (sym c.in-Feed.is) (
+      c.feed.result,
+      c.plain-in-Feed.ensures,
+      subst (λ (p : Profile). Feeds p c.in-Feed.image (deeds c.args.images.now) (deeds c.feed.new.images) (calls c.args.stream.now) (calls c.feed.new.stream) (number_of c.feed.result)) c.offered.ensures c.feed.ensures,
+    )
 
 pub returns-in-Check : goal.returns-in-Check
 returns-in-Check g c = search rules

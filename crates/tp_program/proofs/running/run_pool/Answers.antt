@@ -15,6 +15,6 @@ returns g c =
       stayed.result.is_manned,
       closing,
       c.behind.ensures ∙ ap (λ (r : Result (Unit {0}) Refusal). told_behind closing r) c.refused_threads.ensures,
-      lived c.new-2.result stayed.result.hub asks (Some (closing_of closing)) (g.D.Disk.state c.end_hub-disk.result.0) stayed.ensures.asked.1 c.end_hub-disk.ensures c.args.pool c.new-2.ensures.pool
-          c.new-2.ensures.sessions,
+      lived c.new.result stayed.result.hub asks (Some (closing_of closing)) (g.D.Disk.state c.end_hub-disk.result.0) stayed.ensures.asked.1 c.end_hub-disk.ensures c.args.pool c.new.ensures.pool
+          c.new.ensures.sessions,
     )

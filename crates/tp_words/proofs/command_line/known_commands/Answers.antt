@@ -1,16 +1,31 @@
-use Rattle.std.proofs.Common.{◌∙◌, ap, ap₂}
-use Rattle.std.proofs.lemmas.Result.{IfOk-weaker}
-use Rattle.clap.specs.Words.{App, with_subcommand}
+use Rattle.tp_words.specs.CommandLine.{ask_app, check_app, feed_app, format_app, message_app, play_app, run_app, serve_app, status_app, without_subcommands}
+use Rattle.clap.specs.Words.{with_subcommand}
 use Rattle.tp_words.proofs.command_line.known_commands.Goals as goal
 
 pub returns : goal.returns
 returns c =
-    let first = c.in_ok-known.ensures ∙ ap₂ with_subcommand c.program-known.ensures (ap (λ (a : App). a.top) c.in_ok-format_command.ensures.app) in
-    let second = c.in_ok-known-2.ensures ∙ ap₂ with_subcommand first (ap (λ (a : App). a.top) c.in_ok-message_command.ensures.app) in
-    let third = c.in_ok-known-3.ensures ∙ ap₂ with_subcommand second (ap (λ (a : App). a.top) c.in_ok-status_command.ensures.app) in
-    let fourth = c.in_ok-known-4.ensures ∙ ap₂ with_subcommand third (ap (λ (a : App). a.top) c.in_ok-check_command.ensures.app) in
-    let fifth = c.in_ok-known-5.ensures ∙ ap₂ with_subcommand fourth (ap (λ (a : App). a.top) c.in_ok-feed_command.ensures.app) in
-    let sixth = c.in_ok-known-6.ensures ∙ ap₂ with_subcommand fifth (ap (λ (a : App). a.top) c.in_ok-serve_command.ensures.app) in
-    let seventh = c.in_ok-known-7.ensures ∙ ap₂ with_subcommand sixth (ap (λ (a : App). a.top) c.in_ok-play_command.ensures.app) in
-    let eighth = c.in_ok-known-8.ensures ∙ ap₂ with_subcommand seventh (ap (λ (a : App). a.top) c.in_ok-run_command.ensures.app) in
-    IfOk-weaker c.add-9.result _ _ (λ known h. h ∙ ap₂ with_subcommand eighth (ap (λ (a : App). a.top) c.in_ok-ask_command.ensures.app)) c.add-9.ensures
+    let one = with_subcommand without_subcommands format_app.top in
+    let two = with_subcommand one message_app.top in
+    let three = with_subcommand two status_app.top in
+    let four = with_subcommand three check_app.top in
+    let five = with_subcommand four feed_app.top in
+    let six = with_subcommand five serve_app.top in
+    let seven = with_subcommand six play_app.top in
+    let eight = with_subcommand seven run_app.top in
+    c.add_to_made.ensures eight ask_app
+    (c.add_to_made-known-8.ensures seven run_app
+    (c.add_to_made-known-7.ensures six play_app
+    (c.add_to_made-known-6.ensures five serve_app
+    (c.add_to_made-known-5.ensures four feed_app
+    (c.add_to_made-known-4.ensures three check_app
+    (c.add_to_made-known-3.ensures two status_app
+    (c.add_to_made-known-2.ensures one message_app
+    (c.add_to_made-known.ensures without_subcommands format_app c.program.ensures c.format_command.ensures.app)
+    c.message_command.ensures.app)
+    c.status_command.ensures.app)
+    c.check_command.ensures.app)
+    c.feed_command.ensures.app)
+    c.serve_command.ensures.app)
+    c.play_command.ensures.app)
+    c.run_command.ensures.app)
+    c.ask_command.ensures.app

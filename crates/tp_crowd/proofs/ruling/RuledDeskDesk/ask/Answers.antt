@@ -7,5 +7,5 @@ use Rattle.tp_crowd.proofs.ruling.RuledDeskDesk.ask.Goals as goal
 
 pub returns-in-Message : goal.returns-in-Message
 returns-in-Message g c =
-    subst (λ (e : Event). IsAsked (λ took answers. IsRuled g.V.Volumes.view took answers) (incoming e) c.ask_line.result.events c.ask_line.result.bytes c.args.out.now c.ask_line.new.out)
-    (sym c.in-Message.is) c.ask_line.ensures
+    subst (λ (e : Event). IsAsked (λ took answers. IsRuled g.V.Volumes.view took answers) (incoming e) c.ask_line-ran.result.events c.ask_line-ran.result.bytes c.args.out.now c.ask_line-ran.new.out)
+    (sym c.in-Message.is) c.ask_line-ran.ensures

@@ -1,0 +1,59 @@
+-- Lines that are answered by those who serve.
+use Rattle.std.proofs.Common.{◌≡◌, ℕ, zero, suc, ◌≤◌, List, [], ◌∷◌, inl, inr, refl, ap, arith}
+use Rattle.tp_model.specs.Clauses.{View}
+use Rattle.tp_hub.specs.declared.seat.Seat.{Seat}
+use Rattle.tp_hub.specs.Told.{Answer, Told}
+use Rattle.tp_hub.specs.Runs.{AsksFlush, Orders}
+use Rattle.tp_hub.specs.Desks.{IsAsked}
+use Rattle.tp_hub.specs.Serving.{Slots}
+use Rattle.tp_hub.proofs.Turning.{grows_behind}
+use Rattle.tp_crowd.specs.declared.ruling.Command.{Command}
+use Rattle.tp_crowd.specs.Census.{AreSeats}
+use Rattle.tp_crowd.specs.Locked.{SomeRuns}
+use Rattle.tp_crowd.specs.Ruling.{IsCommand, IsRuled, IsToldOf, Obeys, TellsSo, TellsWho}
+
+-- who is served was told in the place of a line
+pub clients_told : (line : List ℕ) (slots : Slots) (seats : List Seat) (before mid after : Told) → AreSeats slots seats → mid.list ≡ before.list → before.room ≤ mid.room → before.marks ≤ mid.marks → IsToldOf seats mid after
+    → IsAsked (λ took answers. TellsSo line TellsWho took answers) (Orders line) 1 0 before after
+clients_told line slots seats before mid after are same room marks (answer, grows, which) = record {
+  answers = answer ∷ [];
+  did = inr (refl, elim which [ inl it ↦ inl (slots, seats, it.0, are, it.1, ap (λ (a : Answer). a ∷ []) it.2) | inr refused ↦ inr (ap (λ (a : Answer). a ∷ []) refused) ]);
+  adds = grows_behind before mid after (answer ∷ []) same room marks grows;
+  cut = (refl, refl);
+  silent = λ none nothing. absurd (omega (arith, none));
+  begun = λ fits. omega arith;
+}
+
+module _ {D : Type 0} (view : View D) (line : List ℕ) where
+  -- a flush was asked in its place
+  pub flush_asked : (events bytes : ℕ) (before after : Told) → IsAsked (λ took answers. SomeRuns view took answers) AsksFlush events bytes before after
+      → IsAsked (λ took answers. TellsSo line (λ told. SomeRuns view (AsksFlush ∷ []) told) took answers) (Orders line) events bytes before after
+  flush_asked zero bytes before after a = record {
+    answers = a.answers;
+    did = inl (refl, a.silent refl a.cut);
+    adds = a.adds;
+    cut = a.cut;
+    silent = a.silent;
+    begun = a.begun;
+  }
+  flush_asked (suc zero) bytes before after a = record {
+    answers = a.answers;
+    did = inr (refl, a.did);
+    adds = a.adds;
+    cut = a.cut;
+    silent = a.silent;
+    begun = a.begun;
+  }
+  flush_asked (suc (suc n)) bytes before after a = let none = a.cut.0 in absurd (omega (arith, none))
+
+  -- it is a command
+  pub commanded : (command : Command) (events bytes : ℕ) (before after : Told) → IsCommand line command → IsAsked (λ took answers. TellsSo line (Obeys view command) took answers) (Orders line) events bytes before after
+      → IsAsked (λ took answers. IsRuled view took answers) (Orders line) events bytes before after
+  commanded command events bytes before after is a = record {
+    answers = a.answers;
+    did = inr (line, command, is, a.did);
+    adds = a.adds;
+    cut = a.cut;
+    silent = a.silent;
+    begun = a.begun;
+  }

@@ -1,0 +1,10 @@
+use Rattle.std.proofs.Common.{◌≡◌, length}
+use Rattle.tp_crowd.proofs.Counting.{AreSeen}
+use Rattle.tp_crowd.proofs.locked.seats_of.Given as goal
+
+-- those that were looked at
+abbrev pub invariant-loop-number : goal.invariant-loop-number
+invariant-loop-number g l = record {
+  count : length l.seats ≡ 64;
+  each : AreSeen l.hub.slots l.seats l.number;
+}

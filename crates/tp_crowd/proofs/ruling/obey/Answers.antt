@@ -1,0 +1,13 @@
+use Rattle.tp_crowd.proofs.ruling.obey.Goals as goal
+
+pub returns-in-Stop : goal.returns-in-Stop
+returns-in-Stop g c = rw c.in-Stop.is c.tell_done.ensures
+
+pub returns-in-StopNow : goal.returns-in-StopNow
+returns-in-StopNow g c = rw c.in-StopNow.is c.tell_done-in-StopNow.ensures
+
+pub returns-in-Flush : goal.returns-in-Flush
+returns-in-Flush g c = rw c.in-Flush.is c.flush.ensures
+
+pub returns-in-Clients : goal.returns-in-Clients
+returns-in-Clients g c = rw c.in-Clients.is c.tell_clients.ensures

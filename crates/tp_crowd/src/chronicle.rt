@@ -1,0 +1,45 @@
+//! What is told of those who are served without end.
+
+use crate::locked::Alarm;
+use std::net::SocketAddr;
+use tp_model::DevId;
+
+/// One who has come, and has a place.
+#[derive(Clone, Copy, Debug)]
+pub struct Visitor {
+    /// The number of its session, 0 to 63.
+    pub number: u8,
+    /// The door that it came by, by its index among the doors.
+    pub door: usize,
+    /// Where it comes from; nothing of one who came by a socket file.
+    pub peer: Option<SocketAddr>,
+}
+
+/// What became of one who has gone.
+#[derive(Clone, Copy, Debug)]
+pub struct Visit {
+    /// The volume that it had, if it had one.
+    pub volume: Option<DevId>,
+    /// How many requests it sent.
+    pub requests: u64,
+    /// How many bytes were read from its stream.
+    pub received: u64,
+    /// How many bytes were written to it.
+    pub sent: u64,
+}
+
+/// Who is told what becomes of those who are served without end. Each call is made by one of their threads, while that has no lock: others go on meanwhile, and this
+/// one waits.
+pub trait Chronicle<V>: Alarm<V> {
+    /// One has come, and has a place.
+    fn came(&self, visitor: &Visitor);
+
+    /// It has gone, and its place is free.
+    fn went(&self, visitor: &Visitor, visit: &Visit);
+
+    /// A control line was answered that it is done.
+    fn obeyed(&self, line: &[u8]);
+
+    /// The pool's status line, as it is about once a second.
+    fn status(&self, line: &[u8]);
+}

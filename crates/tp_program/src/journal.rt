@@ -1,0 +1,305 @@
+//! What is told on standard error while clients are served without end.
+
+use crate::moment::Moment;
+use std::alloc::Global;
+use std::fmt::{self, Display, Formatter};
+use std::io::Write;
+use std::mem;
+use std::sync::atomic::{AtomicBool, Ordering};
+use std::sync::{Condvar, Mutex, Wait};
+use std::time::Clock;
+use tp_cache::ReadCache;
+use tp_crowd::{Alarm, Chronicle, Visit, Visitor};
+use tp_disk::{Disk, TellsTrouble, Trouble};
+use tp_meta::Meta;
+use tp_model::Refusal;
+use tp_served::Served;
+use tp_words::{Service, Texts};
+
+/// At most so many lines wait to be written. Those that come then are lost.
+const MOST_LINES: usize = 1000;
+
+/// It is told when less than so many hundredths are free, where no other number was given.
+const LOW_WATER: u64 = 10;
+
+/// The lines that are to be written, and whether no more come.
+#[derive(Drop)]
+struct Pages {
+    lines: Vec<String>,
+    is_closed: bool,
+}
+
+/// Lines for standard error. Who notes one waits for no writer: a thread of its own writes them. One is lost where there is no memory for it, or where too many wait.
+#[derive(Drop)]
+pub(crate) struct Journal<'m, R: Wait + Clock> {
+    rt: &'m R,
+    alloc: Global,
+    image: &'m str,
+    places: Texts<'m>,
+    is_quiet: bool,
+    low_water: u64,
+    pages: Mutex<Pages>,
+    has_more: Condvar,
+    /// Whether it was told that little is free, and nothing else since.
+    is_data_low: AtomicBool,
+    is_metadata_low: AtomicBool,
+}
+
+/// How many blocks of a kind are used, of how many.
+#[derive(Clone, Copy)]
+struct Use {
+    used: u64,
+    all: u64,
+}
+
+/// What is told.
+#[derive(Clone, Copy)]
+enum News<'a> {
+    Came(&'a str, &'a Visitor),
+    Went(&'a Visitor, &'a Visit),
+    Obeyed(&'a str),
+    Failed(&'a str, Option<Trouble>),
+    Low(&'a str, Use),
+}
+
+impl Display for News<'_> {
+    fn fmt<W: fmt::Write>(&self, f: &mut Formatter<W>) -> fmt::Result {
+        match self {
+            News::Came(place, visitor) => tell_coming(place, visitor, f),
+            News::Went(visitor, visit) => tell_going(visitor, visit, f),
+            News::Obeyed(line) => write!(f, "control: {line}"),
+            News::Failed(image, trouble) => tell_failure(image, trouble, f),
+            News::Low(kind, blocks) => tell_low(kind, blocks, f),
+        }
+    }
+}
+
+/// Who has come, and where.
+fn tell_coming<W: fmt::Write>(place: &str, visitor: &Visitor, f: &mut Formatter<W>) -> fmt::Result {
+    write!(f, "client {} came to {place}", visitor.number)?;
+    match visitor.peer {
+        Some(peer) => write!(f, " from {peer}"),
+        None => Ok(()),
+    }
+}
+
+/// Who has gone, and what it did.
+fn tell_going<W: fmt::Write>(
+    visitor: &Visitor,
+    visit: &Visit,
+    f: &mut Formatter<W>,
+) -> fmt::Result {
+    write!(f, "client {} went: ", visitor.number)?;
+    match visit.volume {
+        Some(volume) => write!(f, "volume {}", volume.number())?,
+        None => f.write_str("no volume")?,
+    }
+    write!(
+        f,
+        ", {} requests, {} bytes in, {} bytes out",
+        visit.requests, visit.received, visit.sent
+    )
+}
+
+/// That the pool failed, and why.
+fn tell_failure<W: fmt::Write>(
+    image: &str,
+    trouble: &Option<Trouble>,
+    f: &mut Formatter<W>,
+) -> fmt::Result {
+    write!(f, "{}: the pool failed", Refusal::Fault)?;
+    match trouble {
+        Some(trouble) => write!(f, ": {image}: {trouble}"),
+        None => Ok(()),
+    }
+}
+
+/// That few blocks of a kind are free.
+fn tell_low<W: fmt::Write>(kind: &str, blocks: &Use, f: &mut Formatter<W>) -> fmt::Result {
+    write!(
+        f,
+        "{kind} is low: {} of {} blocks are free",
+        blocks.free(),
+        blocks.all
+    )
+}
+
+impl Use {
+    /// Those that a word of a status line tells, as `12/128`.
+    fn of_word(word: &str) -> Option<Use> {
+        let (used, all) = word.split_once('/')?;
+        Some(Use {
+            used: used.parse::<u64>().ok()?,
+            all: all.parse::<u64>().ok()?,
+        })
+    }
+
+    /// How many are free.
+    fn free(self) -> u64 {
+        self.all.saturating_sub(self.used)
+    }
+
+    /// Whether less than so many hundredths are.
+    fn is_below(self, percent: u64) -> bool {
+        self.free().saturating_mul(100) < self.all.saturating_mul(percent)
+    }
+}
+
+/// What a pool's status line tells of its metadata blocks, and of its data blocks. None of a failed pool.
+fn uses_in(line: &str) -> Option<(Use, Use)> {
+    let (_, uses) = line.split_once(' ')?;
+    let (metadata, rest) = uses.split_once(' ')?;
+    let (data, _) = rest.split_once(' ')?;
+    Some((Use::of_word(metadata)?, Use::of_word(data)?))
+}
+
+impl<'m, R: Wait + Clock> Journal<'m, R> {
+    /// Nothing was noted yet.
+    pub(crate) fn new(
+        rt: &'m R,
+        alloc: Global,
+        image: &'m str,
+        service: &Service<'m>,
+    ) -> Journal<'m, R> {
+        Journal {
+            rt,
+            alloc,
+            image,
+            places: service.places,
+            is_quiet: service.is_quiet,
+            low_water: service.low_water.unwrap_or(LOW_WATER),
+            pages: Mutex::new(Pages {
+                lines: Vec::new(alloc),
+                is_closed: false,
+            }),
+            has_more: Condvar::new(),
+            is_data_low: AtomicBool::new(false),
+            is_metadata_low: AtomicBool::new(false),
+        }
+    }
+
+    /// The door of this number, as the words name it.
+    fn place(&self, number: usize) -> &'m str {
+        let place = match number {
+            0 => Some(self.places.first),
+            1 => self.places.second,
+            2 => self.places.third,
+            _ => self.places.fourth,
+        };
+        place.unwrap_or("")
+    }
+
+    /// Notes a line, with the time.
+    fn note(&self, news: &News<'_>) {
+        let moment = Moment::now(self.rt);
+        let Ok(line) = format!(in self.alloc; "thinpool: {moment} {news}\n") else {
+            return;
+        };
+        let mut pages = self.pages.lock(self.rt);
+        if pages.lines.len() < MOST_LINES {
+            let _ = pages.lines.push(line);
+        }
+        drop(pages);
+        self.has_more.notify_one();
+    }
+
+    /// The same of what is no fault.
+    fn note_unless_quiet(&self, news: &News<'_>) {
+        if !self.is_quiet {
+            self.note(news);
+        }
+    }
+
+    /// Notes once that little is free, until it is more again.
+    fn look_at(&self, kind: &str, blocks: Use, was_low: &AtomicBool) {
+        let is_low = blocks.is_below(self.low_water);
+        if !was_low.swap(is_low, Ordering::SeqCst) && is_low {
+            self.note_unless_quiet(&News::Low(kind, blocks));
+        }
+    }
+
+    /// No more lines come.
+    pub(crate) fn close(&self) {
+        let mut pages = self.pages.lock(self.rt);
+        pages.is_closed = true;
+        drop(pages);
+        self.has_more.notify_one();
+    }
+
+    /// Waits for lines, takes them, and tells whether no more come.
+    fn take(&self) -> (Vec<String>, bool) {
+        let pages = self.pages.lock(self.rt);
+        let mut pages = self.has_more.wait_while(
+            self.rt,
+            pages,
+            |pages| pages.lines.is_empty() && !pages.is_closed,
+        );
+        let lines = mem::replace(&mut pages.lines, Vec::new(self.alloc));
+        (lines, pages.is_closed)
+    }
+
+    /// Writes lines as they are noted, until no more come. Where the writer fails they are lost.
+    pub(crate) fn write_to<E: Write>(&self, errors: &mut E) {
+        for _ in self.rt.forever() {
+            let (lines, is_closed) = self.take();
+            write_lines(&lines, errors);
+            if is_closed {
+                return;
+            }
+        }
+    }
+}
+
+/// Writes lines.
+fn write_lines<E: Write>(lines: &[String], errors: &mut E) {
+    for line in lines {
+        let _ = errors.write_all(line.as_bytes());
+    }
+}
+
+impl<'m, R, D> Alarm<Served<ReadCache<D>, Meta>> for Journal<'m, R>
+where
+    R: Wait + Clock,
+    D: Disk + TellsTrouble + Drop,
+{
+    type Cause = Option<Trouble>;
+
+    fn cause(&self, pool: &Served<ReadCache<D>, Meta>) -> Option<Trouble> {
+        pool.disk().trouble()
+    }
+
+    fn pool_failed(&self, cause: Option<Trouble>) {
+        self.note(&News::Failed(self.image, cause));
+    }
+}
+
+impl<'m, R, D> Chronicle<Served<ReadCache<D>, Meta>> for Journal<'m, R>
+where
+    R: Wait + Clock,
+    D: Disk + TellsTrouble + Drop,
+{
+    fn came(&self, visitor: &Visitor) {
+        let place = self.place(visitor.door);
+        self.note_unless_quiet(&News::Came(place, visitor));
+    }
+
+    fn went(&self, visitor: &Visitor, visit: &Visit) {
+        self.note_unless_quiet(&News::Went(visitor, visit));
+    }
+
+    fn obeyed(&self, line: &[u8]) {
+        if let Ok(line) = std::str::from_utf8(line) {
+            self.note_unless_quiet(&News::Obeyed(line));
+        }
+    }
+
+    fn status(&self, line: &[u8]) {
+        let Ok(line) = std::str::from_utf8(line) else {
+            return;
+        };
+        if let Some((metadata, data)) = uses_in(line) {
+            self.look_at("data", data, &self.is_data_low);
+            self.look_at("metadata", metadata, &self.is_metadata_low);
+        }
+    }
+}
