@@ -164,15 +164,41 @@ def free_port():
         return it.getsockname()[1]
 
 
-def wait_for(port):
-    """Waits until a server on loopback takes a client, and goes again."""
-    for _ in range(50 * LIMIT):
+class Place:
+    """Where a server listens: a port of loopback, or a socket file."""
+
+    def __init__(self, port=0, path=None):
+        self.port, self.path = port, path
+
+    def __str__(self):
+        return f"unix:{self.path}" if self.path else f"127.0.0.1:{self.port}"
+
+    def uri(self, name=""):
+        return f"nbd+unix:///{name}?socket={self.path}" if self.path else f"nbd://{self}/{name}"
+
+    def connect(self, limit=LIMIT):
+        if not self.path:
+            return socket.create_connection(("127.0.0.1", self.port), timeout=limit)
+        stream = socket.socket(socket.AF_UNIX)
         try:
-            socket.create_connection(("127.0.0.1", port)).close()
-            return
+            stream.settimeout(limit)
+            stream.connect(self.path)
         except OSError:
-            time.sleep(0.02)
-    raise Stuck("a server does not come up")
+            stream.close()
+            raise
+        return stream
+
+    def wait(self, process=None):
+        """Waits until a server takes a client, and goes again."""
+        for _ in range(50 * LIMIT):
+            try:
+                self.connect().close()
+                return
+            except OSError:
+                if process and process.poll() is not None:
+                    break
+                time.sleep(0.02)
+        raise Stuck("a server does not come up")
 
 
 def request(kind, offset=0, length=0, data=b"", flags=0, cookie=1):
@@ -200,10 +226,12 @@ class Client:
         os.set_blocking(writes, False)
 
     @staticmethod
-    def at(port, limit=LIMIT):
-        """A client of a server on loopback."""
-        stream = socket.create_connection(("127.0.0.1", port), timeout=limit)
-        stream.setsockopt(socket.IPPROTO_TCP, socket.TCP_NODELAY, 1)
+    def at(where, limit=LIMIT):
+        """A client of a server at a place, or at a port of loopback."""
+        place = where if isinstance(where, Place) else Place(where)
+        stream = place.connect(limit)
+        if not place.path:
+            stream.setsockopt(socket.IPPROTO_TCP, socket.TCP_NODELAY, 1)
         return Client(stream.fileno(), stream.fileno(), [stream], limit)
 
     @staticmethod
@@ -272,58 +300,131 @@ class Client:
 
 
 class Server:
-    """`thinpool serve` of an image on loopback, or without a count of clients `thinpool run`, with what it prints in files of a folder."""
+    """`thinpool serve` of an image to a count of clients, or without one `thinpool run`, with what it prints in files of a folder. It listens at loopback, or over "unix" at
+    socket files. What it tells may go to a stream of the caller's own."""
 
-    def __init__(self, ground, image, count, is_controlled=False, closed=(), before=()):
-        self.ground, self.closed = ground, closed
+    def __init__(self, ground, image, count=None, is_controlled=False, over="tcp", closed=(), before=(), more=(), **how):
+        self.ground, self.image, self.count = ground, image, count
         self.err, self.out = ground.path("serve.err"), ground.path("serve.out")
-        self.port = free_port() if 2 in closed else 0
-        where = f"127.0.0.1:{self.port}"
-        words = [*before, ground.program, *(["run", image, "--listen", where] if count is None else ["serve", image, where, str(count)])]
-        words += ["--control", "127.0.0.1:0"] if is_controlled else []
+        self.is_finished = False
+        # Where it does not tell its port, it is given one.
+        self.is_heard = not (2 in closed or "stderr" in how or "--quiet" in more)
+        self.place = self.new_place("nbd.sock", over)
+        self.ruler = self.new_place("control.sock", over) if is_controlled else None
+        words = [*before, ground.program, *(["run", image, "--listen", str(self.place)] if count is None else ["serve", image, str(self.place), str(count)])]
+        words += ["--control", str(self.ruler)] if is_controlled else []
         with open(self.out, "wb") as out, open(self.err, "wb") as err:
-            self.process = start(words, closed=closed, stdin=subprocess.DEVNULL, stdout=out, stderr=err)
-        self.control_port = self.wait_until_up(is_controlled)
+            self.process = start([*words, *more], closed=closed, **{"stdin": subprocess.DEVNULL, "stdout": out, "stderr": err, **how})
+        self.wait_until_up()
 
-    def wait_until_up(self, is_controlled):
-        """Waits until it listens, and gives the port of control lines."""
-        wanted = r"(?s)thinpool: listening on \S+:(\d+)\n" + (r".*thinpool: control on \S+:(\d+)\n" if is_controlled else "")
+    def new_place(self, name, over):
+        if over == "unix":
+            return Place(path=self.ground.path(name))
+        return Place(0 if self.is_heard else free_port())
+
+    def wait_until_up(self):
+        """Waits until it listens, and notes the ports of places that the system has picked."""
+        if not self.is_heard and self.count is None:
+            for it in filter(None, (self.place, self.ruler)):
+                it.wait(self.process)
+            return
+        wanted = r"(?s)thinpool: listening on (\S+)\n" + (r".*thinpool: control on (\S+)\n" if self.ruler else "")
         for _ in range(50 * LIMIT):
             found = re.match(wanted, self.told())
             if found:
-                self.port = int(found[1])
-                return int(found[2]) if is_controlled else None
-            if 2 in self.closed and self.listens():
-                return None
+                for place, told in zip((self.place, self.ruler), found.groups()):
+                    place.port = place.port or told_port(told)
+                return
+            if not self.is_heard and self.listens():
+                return
             if self.process.poll() is not None:
                 break
             time.sleep(0.02)
-        raise Failed(f"serve does not come up: status {self.process.poll()}, told {self.told()!r}")
+        raise Failed(f"a server does not come up: status {self.process.poll()}, told {self.told()!r}")
 
     def listens(self):
         """Whether the system has a listener at its port: to connect would be to be a client."""
         with open("/proc/net/tcp", encoding="ascii") as lines:
-            return any(it.split()[1].endswith(f":{self.port:04X}") and it.split()[3] == "0A" for it in lines)
+            return any(it.split()[1].endswith(f":{self.place.port:04X}") and it.split()[3] == "0A" for it in lines)
 
     def told(self):
         return held(self.err).decode(errors="replace")
 
+    @property
+    def port(self):
+        return self.place.port
+
+    @property
+    def control_port(self):
+        return self.ruler.port
+
+    def uri(self, name=""):
+        return self.place.uri(name)
+
     def client(self, export="0", limit=LIMIT):
-        return Client.at(self.port, limit).go(export)
+        return Client.at(self.place, limit).go(export)
 
     def control(self, line, limit=LIMIT):
         """The answer to a control line."""
-        with socket.create_connection(("127.0.0.1", self.control_port), timeout=limit) as stream:
+        with self.ruler.connect(limit) as stream:
             stream.sendall(line.encode() + b"\n")
             with stream.makefile() as lines:
                 return lines.readline().rstrip("\n")
+
+    def ask(self, *lines, **how):
+        """Control lines by `thinpool ask`."""
+        return self.ground.run("ask", str(self.ruler), *lines, **how)
+
+    def asked(self, *lines, **how):
+        """What is answered to control lines that are not refused."""
+        ran = self.ask(*lines, **how)
+        want((ran.status == 0 and not ran.err, f"ask {' '.join(lines)}: {ran.told()}"))
+        return ran.out.decode()
+
+    def waits_for(self, answer, line="clients"):
+        """Waits until a control line is answered so."""
+        for _ in range(20 * LIMIT):
+            if (found := self.control(line)) == answer:
+                return
+            time.sleep(0.05)
+        raise Stuck(f"{line} is answered {found!r}, and not {answer!r}")
+
+    def tells(self, pattern, limit=10):
+        """Waits until it has told this, and gives the match."""
+        end = time.monotonic() + limit
+        while not (found := re.search(pattern, self.told())):
+            want((time.monotonic() < end, f"it does not tell {pattern!r}, but {self.told()!r}"))
+            time.sleep(0.02)
+        return found
 
     def ended(self, limit=LIMIT):
         """How it ends, by itself."""
         return Ran(end_of(self.process, limit), held(self.out), held(self.err))
 
+    def finish(self, line="stop", limit=LIMIT):
+        """Has it end, by this line or by the clients that are left of its count, and wants that it ends well with a clean image. Once it has, there is nothing to do."""
+        if self.is_finished:
+            return
+        if self.ruler and self.count is None:
+            answer = self.asked(line, limit=limit)
+            want((answer == "ok\n", f"{line} is answered {answer!r}"))
+        end = time.monotonic() + limit
+        while self.count is not None and self.process.poll() is None and time.monotonic() < end:
+            with contextlib.suppress(OSError):
+                self.place.connect(1).close()
+            time.sleep(0.005)
+        ran = self.ended(limit)
+        want((ran.status == 0, f"the server ended: {ran.told()}"))
+        self.ground.want_clean(self.image)
+        self.is_finished = True
+
     def kill(self):
         kill(self.process)
+
+
+def told_port(where):
+    """The port of a TCP address; none of a socket file."""
+    return 0 if where.startswith("unix:") else int(where.rsplit(":", 1)[1])
 
 
 class Ground:
@@ -364,6 +465,14 @@ class Ground:
     def stays(self, image, **how):
         """`thinpool run`."""
         return Server(self, image, None, **how)
+
+    def fresh(self, name, volume_blocks, blocks, volumes=2):
+        """A new image, with volumes that are empty."""
+        image = self.path(name)
+        self.made("format", image, "128", str(volume_blocks), "4096", str(blocks))
+        for number in range(volumes):
+            self.made("message", image, f"create_thin {number}")
+        return image
 
     def check(self, image):
         """What is wrong with an image, or nothing."""
