@@ -11,6 +11,7 @@ mod laws;
 mod life;
 mod noting;
 mod overlay;
+mod past;
 mod places;
 mod reading;
 mod step;
@@ -22,6 +23,7 @@ mod writing_out;
 pub use cache::NodeCache;
 pub use laws::stops_of_a_cache;
 pub use life::{Life, Start, flush_cache_twice};
+pub use past::Past;
 pub use places::{Places, ReadPlaces};
 pub use reading::ReadCache;
 

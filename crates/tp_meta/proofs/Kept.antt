@@ -91,9 +91,6 @@ module _ (last : Superblock) (kept : Store) (t : Tm) (area : SlotId) (old : Disk
       (still_area last kept t.geometry part area a b within same (still_leaves last kept old a run) differ
       (subst (λ (v : Tm). LeavesOutside (counts_sector v.geometry part area) (counts_sectors v.geometry part) a b) e r))
 
-  pub after_last : (ok : Bool) (a b : DiskState) → IsRun last kept old a → b ≡ after_flush ok a → IsRun last kept old b
-  after_last ok a b run e = goes_on_flush {P = IsStillCommit last kept old.cells} ok run e
-
 -- ---- what reads give
 
 pub area_data : (g : Geometry) (part : Part) (area : SlotId) (before image : List Sector) → IsWithinLimits g → SameOutside (counts_sector g part area) (counts_sectors g part) before image → SameData g before image
@@ -107,7 +104,7 @@ part_apart e = omega (arith, ap (λ (p : Part). number p) e)
     number Data = 1
 
 -- the counts of both parts, once the data blocks' are written behind the others
-both_written : (g : Geometry) (t : Tm) (area : SlotId) (one two : List Sector) → HoldsCounts one g Metadata area t.metadata_now
+pub both_written : (g : Geometry) (t : Tm) (area : SlotId) (one two : List Sector) → HoldsCounts one g Metadata area t.metadata_now
     → SameOutside (counts_sector g Data area) (counts_sectors g Data) one two → HoldsCounts two g Data area t.data_now → (part : Part) → HoldsCounts two g part area (now_of t part)
 both_written g t area one two first out second Metadata = HoldsCounts-outside g Metadata area t.metadata_now out (counts_apart g Metadata Data area area (λ both. part_apart both.0)) first
 both_written g t area one two first out second Data = second
@@ -124,7 +121,7 @@ holds_seen t a b opens held s e h = record { stands = subst (λ (image : List Se
 pub other_area : (n m : ℕ) (area : SlotId) → m ≡ next_sequence n → slot_number area ≡ m % 2 → slot_number area ≡ n % 2 → ⊥
 other_area n m area e here there = omega (arith, e, here, there)
 
-slot_same : (a b : SlotId) → slot_number a ≡ slot_number b → a ≡ b
+pub slot_same : (a b : SlotId) → slot_number a ≡ slot_number b → a ≡ b
 slot_same Zero Zero e = refl
 slot_same Zero One e = absurd (omega (arith, e))
 slot_same One Zero e = absurd (omega (arith, e))
@@ -223,22 +220,12 @@ flush_keeps last s a b was e =
     leaves_settled (λ image. IsCommit image last s × SameData last.geometry (seen a.cells) image) (seen a.cells) b.cells (ap (λ (d : DiskState). d.cells) e)
     (was (seen a.cells) (AfterStop-seen a.cells), SameData-none last.geometry (seen a.cells))
 
-pub on_ok_of : {T E P : Type 0} (r : Result T E) → P → OnOk r P
-on_ok_of (Ok x) p = p
-on_ok_of (Err x) p = tt
-
 -- what reads give of data blocks while the store of nodes is written
-pub written_data : (t : Tm) (area : SlotId) (a b c d e : List Sector) → IsWithinLimits t.geometry → IsSized t → SameKept t.metadata_kept a b
-    → SameOutside (counts_sector t.geometry Metadata area) (counts_sectors t.geometry Metadata) b c → SameOutside (counts_sector t.geometry Data area) (counts_sectors t.geometry Data) c d → e ≡ d → SameData t.geometry a e
-written_data t area a b c d e within sized nodes metadata others same =
-    subst (λ (image : List Sector). SameData t.geometry a image) (sym same)
-    (SameData-then t.geometry a c d (SameData-then t.geometry a b c (data_kept t.geometry t.metadata_kept a b sized.metadata_kept nodes) (area_data t.geometry Metadata area b c within metadata))
-    (area_data t.geometry Data area c d within others))
-
-pub both_written_seen : (t : Tm) (area : SlotId) (one two three : List Sector) → three ≡ two → HoldsCounts one t.geometry Metadata area t.metadata_now
-    → SameOutside (counts_sector t.geometry Data area) (counts_sectors t.geometry Data) one two → HoldsCounts two t.geometry Data area t.data_now → (part : Part) → HoldsCounts three t.geometry part area (now_of t part)
-both_written_seen t area one two three same first out second part =
-    subst (λ (image : List Sector). HoldsCounts image t.geometry part area (now_of t part)) (sym same) (both_written t.geometry t area one two first out second part)
+pub written_data : (t : Tm) (area : SlotId) (a b c d : List Sector) → IsWithinLimits t.geometry → IsSized t → SameKept t.metadata_kept a b
+    → SameOutside (counts_sector t.geometry Metadata area) (counts_sectors t.geometry Metadata) b c → SameOutside (counts_sector t.geometry Data area) (counts_sectors t.geometry Data) c d → SameData t.geometry a d
+written_data t area a b c d within sized nodes metadata others =
+    SameData-then t.geometry a c d (SameData-then t.geometry a b c (data_kept t.geometry t.metadata_kept a b sized.metadata_kept nodes) (area_data t.geometry Metadata area b c within metadata))
+    (area_data t.geometry Data area c d within others)
 
 -- ---- the counts of the next commit
 

@@ -6,6 +6,8 @@ mod Commits
 mod Areas
 mod Telling
 mod Kept
+mod Midway
+mod Begun
 mod Looking
 mod FirstCommit
 mod Reformatted

@@ -7,6 +7,7 @@ use Rattle.tp_sharing.specs.Volumes.{Volumes}
 use Rattle.tp_mapping.specs.Mapping as mapping
 use Rattle.tp_mapping.specs.Trees.{StandForVolumes}
 use Rattle.tp_meta.specs.Metadata.{LooksUp}
+use Rattle.tp_meta.specs.Midway.{TellsFor}
 use Rattle.tp_meta.specs.Standing.{StandsFor}
 use Rattle.tp_meta.specs.declared.whole.Meta.{Meta}
 
@@ -15,5 +16,13 @@ pub looks_up : {A : Type 0} {before after : DiskState} {result : Result A StoreE
 looks_up {A} {before} {after} {result} m looked = record {
   told = IfOk-weaker result _ _ (λ answer told now kept st. told st.honest now.volumes kept.volumes st.mapping) looked.told;
   damaged = λ e now kept st. looked.damaged e st.honest now.volumes kept.volumes st.mapping;
+  state = looked.state;
+}
+
+pub reads_up : {A : Type 0} {before after : DiskState} {result : Result A StoreError} {Told : A → Volumes → Type 0} (m : Meta)
+    → mapping.LooksUp (StandForVolumes m.mapping) before after result Told → LooksUp (TellsFor m) before after result (λ answer now. Told answer now.volumes)
+reads_up {A} {before} {after} {result} m looked = record {
+  told = IfOk-weaker result _ _ (λ answer told now kept t. told t.honest now.volumes kept.volumes t.mapping) looked.told;
+  damaged = λ e now kept t. looked.damaged e t.honest now.volumes kept.volumes t.mapping;
   state = looked.state;
 }

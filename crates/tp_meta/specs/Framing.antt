@@ -66,10 +66,12 @@ room_covers (suc n) now kept =
 
 -- ---- the laws of metadata
 
+pub marks_whole : (m : Meta) → length m.marks ≡ m.mapping.tm.geometry.data_blocks → marks_of m ≡ m.marks
+marks_whole m long = take_at m.marks (replicate {A = Bool} m.mapping.tm.geometry.data_blocks false) m.mapping.tm.geometry.data_blocks long
+
 -- where they stand, there is a mark for each data block
 pub marks_are : (m : Meta) (disk : DiskState) (now kept : Contents) → StandsFor m disk now kept → marks_of m ≡ m.marks
-marks_are m disk now kept st =
-    take_at m.marks (replicate {A = Bool} m.mapping.tm.geometry.data_blocks false) m.mapping.tm.geometry.data_blocks st.marks_long
+marks_are m disk now kept st = marks_whole m st.marks_long
 
 -- the last commit uses as many metadata blocks as its counts tell
 used_by_commit : (m : Meta) (disk : DiskState) (now kept : Contents) → StandsFor m disk now kept

@@ -7,3 +7,4 @@ pub mod Reformatting
 pub mod Framing
 pub mod Marking
 pub mod Stale
+pub mod Midway

@@ -1,7 +1,7 @@
 //! The commit of a store of nodes.
 ghost use Rattle.std.specs.Prelude.{◌≡◌, ◌≢◌, ◌⊎◌, ◌+◌, ◌%◌, ◌<◌, ◌≤◌, ℕ, List, [], OnErr, OnOk, is_err};
 ghost use Rattle.tp_model.specs.Geometry.{IsWithinLimits, fixed_part, sectors_of_image};
-ghost use Rattle.tp_model.specs.Disk.{seen};
+ghost use Rattle.tp_model.specs.Disk.{DiskState, FaultHasCause, IsSameDisk, Writes, seen};
 ghost use Rattle.tp_model.specs.DiskStops.{Leaves, LeavesOnly};
 ghost use Rattle.tp_layout.specs.Super.{slot_number};
 ghost use Rattle.tp_layout.specs.declared.counts.Part.{Part};
@@ -15,13 +15,15 @@ ghost use Rattle.tp_stored.specs.Contents.{SameData};
 ghost use Rattle.tp_tm.specs.Tm.{IsSized, kept_now, now_of};
 ghost use Rattle.tp_tm.specs.Holds.{Holds};
 ghost use Rattle.tp_meta.specs.Committing.{IsNextCommit, IsStillCommit, KeepsCounts, MayCommit};
-ghost use Rattle.tp_meta.specs.Metadata.{RanWithFlushes};
+ghost use Rattle.tp_meta.specs.Metadata.{IsLater, RanWithFlushes};
+ghost use Rattle.tp_meta.specs.Midway.{IsNamed, IsWritten, StoresCommit};
 ghost use Rattle.tp_meta.specs.Stale.{AreCurrent, NameFixed, SameArea, marks_in};
 
+use crate::ending::end_store;
+use crate::naming::put;
 use crate::stale::{AreaMarks, StaleBlocks};
 use tp_disk::{Disk, Fault};
 use tp_layout::{Part, SlotId, Superblock};
-use tp_super::store;
 use tp_tm::Tm;
 
 /// Keeps a store of nodes as the commit of a superblock, and all that was written to data blocks. Of the counts it writes
@@ -51,19 +53,65 @@ pub fn commit_store<D: Disk>(
     ensures unchanged { OnErr result (tm.new ≡ tm.old) }
     ensures ran { RanWithFlushes 2 2 (is_err result) result (D.state disk.old) (D.state disk.new) }
 {
+    let named = next;
+    let last = next;
+    match begin_store(tm, disk, next, stale) {
+        Ok(()) => {}
+        Err(Fault) => return Err(Fault),
+    }
+    match go_on_store(tm, disk, named, stale) {
+        Ok(()) => end_store(tm, disk, last, stale),
+        Err(Fault) => Err(Fault),
+    }
+}
+
+/// The first part of a commit: writes the nodes, and of the counts what `commit_store` does. A stop leaves the last commit.
+pub(crate) fn begin_store<D: Disk>(
+    tm: &mut Tm,
+    disk: &mut D,
+    next: Superblock,
+    stale: &StaleBlocks,
+) -> Result<(), Fault>
+    requires { sectors_of_image tm.old.geometry ≤ (D.state disk.old).size }
+    ensures written { OnOk result (IsWritten 0 tm.new stale.now next (D.state disk.old) (D.state disk.new)) }
+    ensures failed { OnErr result (StoresCommit tm.old tm.new stale.now stale.now next result (D.state disk.old) (D.state disk.new)) }
+    ensures unchanged { tm.new ≡ tm.old }
+{
     let area = next.slot();
     let changed = AreaMarks::changed_in(tm);
     let marks = stale.of(area).joined(&changed);
-    write_store(tm, disk, area, &marks)?;
-    store(disk, &next)?;
-    tm.keep();
-    stale.kept_in(area, &changed);
-    Ok(())
+    match write_parts(tm, disk, area, &marks) {
+        Ok(()) => Ok(()),
+        Err(Fault) => Err(Fault),
+    }
 }
 
-/// Writes the nodes, and the marked count blocks of now into an area, and keeps them. Until a superblock names them they
-/// are in no commit.
-fn write_store<D: Disk>(
+/// The second part: flushes the nodes and the counts, and writes the superblock.
+pub(crate) fn go_on_store<D: Disk>(
+    tm: &Tm,
+    disk: &mut D,
+    next: Superblock,
+    stale: &StaleBlocks,
+) -> Result<(), Fault>
+    requires { sectors_of_image tm.now.geometry ≤ (D.state disk.old).size }
+    ensures named { OnOk result ((before : DiskState) → IsWritten 0 tm.now stale.now next before (D.state disk.old) → IsNamed tm.now stale.now next before (D.state disk.new)) }
+    ensures failed { OnErr result ((before : DiskState) → IsWritten 0 tm.now stale.now next before (D.state disk.old)
+        → StoresCommit tm.now tm.now stale.now stale.now next result before (D.state disk.new)) }
+    ensures same_disk { IsSameDisk (D.state disk.old) (D.state disk.new) }
+{
+    let _ = tm.geometry().fixed_part();
+    match disk.flush() {
+        Ok(()) => {}
+        Err(Fault) => return Err(Fault),
+    }
+    match put(disk, &next) {
+        Ok(()) => Ok(()),
+        Err(Fault) => Err(Fault),
+    }
+}
+
+/// Writes the nodes, and the marked count blocks of now into an area. Until a superblock names them they are in no commit.
+fn write_parts<D: Disk>(
     tm: &mut Tm,
     disk: &mut D,
     area: SlotId,
@@ -82,13 +130,25 @@ fn write_store<D: Disk>(
     ensures same_data { SameData tm.old.geometry (seen (D.state disk.old).cells) (seen (D.state disk.new).cells) }
     ensures sized { IsWithinLimits tm.old.geometry × IsSized tm.old }
     ensures unchanged { tm.new ≡ tm.old }
-    ensures ran { RanWithFlushes 1 1 (is_err result) result (D.state disk.old) (D.state disk.new) }
+    ensures time { IsLater (D.state disk.old) (D.state disk.new) }
+    ensures same_disk { IsSameDisk (D.state disk.old) (D.state disk.new) }
+    ensures cause { FaultHasCause (is_err result) (D.state disk.old) (D.state disk.new) }
+    ensures flushes { (D.state disk.new).flushes ≡ (D.state disk.old).flushes }
 {
     let _ = tm.geometry().fixed_part();
     tm.write_nodes(disk)?;
     tm.write_area(disk, Part::Metadata, area, &marks.metadata)?;
     tm.write_area(disk, Part::Data, area, &marks.data)?;
-    disk.flush()
+    Ok(())
+}
+
+/// Has a cache below write what it keeps: it does so before it hands on a write that is no whole block of its own, and of the empty one nothing is left then.
+pub(crate) fn write_back<D: Disk>(disk: &mut D) -> Result<(), Fault>
+    ensures any { Writes 0 [] (D.state disk.old) (D.state disk.new) }
+    ensures ok { OnOk result ((D.state disk.new).failures ≡ (D.state disk.old).failures) }
+    ensures err { OnErr result ((D.state disk.new).failures ≡ (D.state disk.old).failures + 1) }
+{
+    disk.write(0, &[])
 }
 
 /// Keeps what was written to data blocks, under a commit that stays.

@@ -5,6 +5,7 @@
 
 mod committing;
 mod devices;
+mod ending;
 mod formatting;
 mod homes;
 mod keeping;
@@ -13,6 +14,7 @@ mod losing;
 mod marking;
 mod marks;
 mod metadata;
+mod naming;
 mod opening;
 mod pool_metadata;
 mod stale;

@@ -1,10 +1,10 @@
 //! The contract of a pool's metadata.
 
-ghost use Rattle.std.specs.Prelude.{◌≡◌, ◌⊎◌, ◌+◌, ◌*◌, ◌<◌, ◌≤◌, ◌^◌, ◌||◌, ◌==◌, ◌++◌, ℕ, List, Bool, [], IfErr, IfOk, IfSome, IsSome, IsTrue, MatchOption, None, OnOk, Ok, Some, is_some, if◌then◌else◌, length, map, not, replicate, slice_index_or, true};
+ghost use Rattle.std.specs.Prelude.{◌≡◌, ◌⊎◌, ◌+◌, ◌*◌, ◌<◌, ◌≤◌, ◌^◌, ◌||◌, ◌==◌, ◌++◌, ℕ, List, Bool, [], IfErr, IfOk, IfSome, IsSome, IsTrue, MatchOption, None, OnErr, OnOk, Ok, Some, false, is_some, if◌then◌else◌, length, map, not, replicate, slice_index_or, true};
 ghost use Rattle.std.specs.Option.{option_map};
 ghost use Rattle.tp_model.specs.Geometry.{Geometry, sectors_of_image};
 ghost use Rattle.tp_model.specs.Told.{IsToldSize, told_blocks};
-ghost use Rattle.tp_model.specs.Disk.{DiskState, seen};
+ghost use Rattle.tp_model.specs.Disk.{DiskState, IsSameDisk, seen};
 ghost use Rattle.tp_model.specs.DiskStops.{Leaves};
 ghost use Rattle.tp_sharing.specs.Volumes.{as_copy, device_of, devices_in, mapped_of, resized, size_of, slot_of, used, with_device, with_slot, without_device, without_slot};
 ghost use Rattle.tp_model.specs.Pool.{PlainPool, copy_id};
@@ -15,7 +15,7 @@ ghost use Rattle.tp_mapping.specs.Mapping.{IsHighest, IsLeastFree, NoneIsFree, f
 ghost use Rattle.tp_mapping.specs.Next.{IsNext};
 ghost use Rattle.tp_mapping.specs.Runs.{without_run};
 ghost use Rattle.tp_mapping.specs.Telling.{AreCopied};
-ghost use Rattle.tp_meta.specs.Metadata.{AreInside, AreTold, AreWithin, IsAltered, IsCommitted, IsTold, KeepsMetadata, LooksUp, StandsWith, marked, marked_all, marked_run};
+ghost use Rattle.tp_meta.specs.Metadata.{AreInside, AreTold, AreWithin, IsAltered, IsBetween, IsCommitted, IsTold, KeepsMetadata, LooksUp, StandsWith, marked, marked_all, marked_run};
 
 use tp_counts::StoreError;
 use tp_disk::{Disk, Fault};
@@ -53,6 +53,13 @@ pub trait Metadata {
 
     /// Whether a node, a count or a field of the superblock has changed since the last commit.
     ghost changed: { Self → Bool };
+
+    /// On this disk, which is honest, look-ups tell these contents now, whatever a stop leaves: where they stand, and in the midst of a commit of
+    /// what stood before it.
+    ghost tells: { Self → DiskState → Contents → Contents → Type 0 };
+
+    /// A commit was begun on the first disk, which is now as the second one: `begin` was done, or `go_on` too, and nothing but reads since.
+    ghost midway: { Self → Bool → DiskState → DiskState → Type 0 };
 
     /// The sizes of the pool.
     fn geometry(&self) -> Geometry
@@ -110,6 +117,8 @@ pub trait Metadata {
         ensures length { length homes.new ≡ length homes.old }
         ensures looked { LooksUp (stands self.now) (D.state disk.old) (D.state disk.new) result (λ is_there now. (is_there ≡ is_some (device_of device now.volumes))
             × AreTold device first now.volumes (marks self.now) (length homes.old) homes.new) }
+        ensures read { LooksUp (tells self.now) (D.state disk.old) (D.state disk.new) result (λ is_there now. (is_there ≡ is_some (device_of device now.volumes))
+            × AreTold device first now.volumes (marks self.now) (length homes.old) homes.new) }
         ensures inside { OnOk result (AreInside (geometry self.now).data_blocks (length homes.old) homes.new) };
 
     /// Looks up the virtual blocks of a device of the held copy from `first` on, one for each place, 17 at most. It tells whether there
@@ -126,6 +135,8 @@ pub trait Metadata {
         requires run { first + length places.old ≤ 2 ^ 24 }
         ensures length { length places.new ≡ length places.old }
         ensures looked { LooksUp (stands self.now) (D.state disk.old) (D.state disk.new) result (λ is_there now. (is_there ≡ is_some (device_of (copy_id device) now.volumes))
+            × AreCopied device first now.volumes (length places.old) places.new) }
+        ensures read { LooksUp (tells self.now) (D.state disk.old) (D.state disk.new) result (λ is_there now. (is_there ≡ is_some (device_of (copy_id device) now.volumes))
             × AreCopied device first now.volumes (length places.old) places.new) }
         ensures inside { OnOk result ((i : ℕ) → i < length places.old → IfSome (slice_index_or places.new i None) (λ place. place < (geometry self.now).data_blocks)) };
 
@@ -311,6 +322,35 @@ pub trait Metadata {
         requires disk { sectors_of_image (geometry self.old) ≤ (D.state disk.old).size }
         ensures { IsCommitted geometry stands marks room changed self.old self.new result (D.state disk.old) (D.state disk.new) };
 
+    /// The first of three parts of a commit, where something has changed: writes the nodes and the counts, and has a cache below write what it keeps. So what
+    /// `go_on` flushes can be brought to the device before it. False where nothing has changed, and `commit` is one flush; then nothing was done.
+    ///
+    /// Nothing changes in memory before the last part. So look-ups in between tell what they told before. After an `Err` of a part, what was begun is what a
+    /// commit that failed leaves.
+    fn begin<D: Disk>(&mut self, disk: &mut D) -> Result<bool, Fault>
+        requires disk { sectors_of_image (geometry self.old) ≤ (D.state disk.old).size }
+        ensures begun { IfOk result (λ is_midway. is_midway ≡ true → (changed self.old ≡ true) × midway self.old false (D.state disk.old) (D.state disk.new) × IsBetween geometry stands tells self.old (D.state disk.old) (D.state disk.new)) }
+        ensures none { IfOk result (λ is_midway. is_midway ≡ false → (changed self.old ≡ false) × (D.state disk.new ≡ D.state disk.old)) }
+        ensures failed { OnErr result (IsCommitted geometry stands marks room changed self.old self.new result (D.state disk.old) (D.state disk.new)) }
+        ensures unchanged { self.new ≡ self.old };
+
+    /// The second part: flushes what `begin` wrote, and writes the superblock.
+    fn go_on<D: Disk>(&mut self, disk: &mut D) -> Result<(), Fault>
+        requires disk { sectors_of_image (geometry self.old) ≤ (D.state disk.old).size }
+        ensures named { OnOk result ((before : DiskState) → midway self.old false before (D.state disk.old)
+            → midway self.old true before (D.state disk.new) × IsBetween geometry stands tells self.old before (D.state disk.new)) }
+        ensures failed { OnErr result ((before : DiskState) → midway self.old false before (D.state disk.old)
+            → IsCommitted geometry stands marks room changed self.old self.new result before (D.state disk.new)) }
+        ensures same_disk { IsSameDisk (D.state disk.old) (D.state disk.new) }
+        ensures unchanged { self.new ≡ self.old };
+
+    /// The last part: flushes the superblock. With it the commit was made that was begun.
+    fn end<D: Disk>(&mut self, disk: &mut D) -> Result<(), Fault>
+        ensures committed { (before : DiskState) → midway self.old true before (D.state disk.old)
+            → IsCommitted geometry stands marks room changed self.old self.new result before (D.state disk.new) }
+        ensures same_disk { IsSameDisk (D.state disk.old) (D.state disk.new) }
+        ensures sizes { geometry self.new ≡ geometry self.old };
+
     /// What stands is within the pool's sizes, and room is what it leaves with the last commit.
     ghost within: { (metadata : Self) (disk : DiskState) (now kept : Contents) → stands metadata disk now kept
         → AreWithin (geometry metadata) (room metadata) (marks metadata) now kept };
@@ -325,6 +365,12 @@ pub trait Metadata {
     /// However what stands is told, it is the same volumes now.
     ghost one: { (metadata : Self) (disk : DiskState) (now kept next last : Contents) → stands metadata disk now kept → stands metadata disk next last
         → next.volumes ≡ now.volumes };
+
+    /// Where they stand, look-ups tell what stands.
+    ghost told: { (metadata : Self) (disk : DiskState) (now kept : Contents) → stands metadata disk now kept → tells metadata disk now kept };
+
+    /// Look-ups tell so of an honest disk alone.
+    ghost told_honest: { (metadata : Self) (disk : DiskState) (now kept : Contents) → tells metadata disk now kept → IsTrue disk.is_honest };
 
     /// The disk is honest, and a stop leaves what the last commit kept.
     ghost honest: { (metadata : Self) (disk : DiskState) (now kept : Contents) → stands metadata disk now kept → IsTrue disk.is_honest };

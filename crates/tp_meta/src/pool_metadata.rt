@@ -1,5 +1,6 @@
 //! The trees of a pool, with what is in memory beside them, keep the contract of a pool's metadata.
 ghost use Rattle.tp_meta.specs.Framing.{frame_stands, stands_bounded, stands_counted, stands_left, stands_one, stands_trees, stands_within};
+ghost use Rattle.tp_meta.specs.Midway.{IsMidway, TellsFor, tells_so};
 ghost use Rattle.tp_meta.specs.Standing.{StandsFor, changed_of, marks_of, room_of};
 
 use crate::devices::{one_fewer, one_more};
@@ -23,6 +24,10 @@ impl Metadata for Meta {
     ghost room = { λ m. room_of m };
 
     ghost changed = { λ m. changed_of m };
+
+    ghost tells = { λ m disk now kept. TellsFor m disk now kept };
+
+    ghost midway = { λ m is_named before disk. IsMidway m is_named before disk };
 
     fn geometry(&self) -> Geometry {
         self.mapping.store().geometry()
@@ -243,6 +248,18 @@ impl Metadata for Meta {
         self.commit_all(disk)
     }
 
+    fn begin<D: Disk>(&mut self, disk: &mut D) -> Result<bool, Fault> {
+        self.begin_all(disk)
+    }
+
+    fn go_on<D: Disk>(&mut self, disk: &mut D) -> Result<(), Fault> {
+        self.go_on_all(disk)
+    }
+
+    fn end<D: Disk>(&mut self, disk: &mut D) -> Result<(), Fault> {
+        self.end_all(disk)
+    }
+
     ghost within = { λ m disk now kept st. stands_within m disk now kept st };
 
     ghost bounded = { λ m disk now kept st. stands_bounded m disk now kept st };
@@ -250,6 +267,10 @@ impl Metadata for Meta {
     ghost counted = { λ m disk now kept next last st then. stands_counted m disk now kept next last st then };
 
     ghost one = { λ m disk now kept next last st then. stands_one m disk now kept next last st then };
+
+    ghost told = { λ m disk now kept st. tells_so m disk now kept st };
+
+    ghost told_honest = { λ m disk now kept t. t.honest };
 
     ghost honest = { λ m disk now kept st. st.honest };
 

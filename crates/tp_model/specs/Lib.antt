@@ -11,4 +11,5 @@ pub mod Calls
 pub mod Requests
 pub mod PoolStops
 pub mod Clauses
+pub mod Flushing
 pub mod Digits

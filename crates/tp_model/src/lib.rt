@@ -21,4 +21,4 @@ pub use laws::{
 pub use mode::Mode;
 pub use numbers::{DevId, Mb, Pb, Vb};
 pub use refusal::{NbdError, Refusal};
-pub use volumes::{SharedVolumes, Volumes};
+pub use volumes::{Flushing, SharedReads, SharedVolumes, Staged, Volumes};

@@ -5,6 +5,7 @@ ghost use Rattle.tp_model.specs.Pool.{Outline, PlainPool, hold_count, hold_total
 ghost use Rattle.tp_model.specs.Calls.{Done, Flush, Found, Gave, Hold, LetGo, NextId, Read, Refused, Sized, Trim, VolumeBlocks, Write, WriteZeroes, is_failed};
 ghost use Rattle.tp_model.specs.PoolStops.{reopened};
 ghost use Rattle.tp_model.specs.Clauses.{EndsInVolume, Meets, View, ViewLaws};
+ghost use Rattle.tp_model.specs.Flushing.{IsFlushed, IsFlushing};
 
 use crate::geometry::Geometry;
 use crate::mode::Mode;
@@ -118,4 +119,61 @@ pub trait SharedVolumes: Volumes {
     /// Brings to the device what calls so far wrote to the disk, while others read, so that a flush behind it has less to wait for. It is no flush: nothing
     /// is promised of it, and what fails of it the next flush tells.
     fn sync_ahead(&self);
+}
+
+/// What READs are made of while nothing else is done: volumes, or such in the middle of a flush.
+pub trait SharedReads<V: Volumes> {
+    /// The volumes whose reads these are.
+    ghost of: { Self → V };
+
+    /// Reads at most 2048 sectors of a volume, as `SharedVolumes::read_shared` of those volumes: true where `out` has what `read` would give. False says
+    /// nothing of the pool, and no call of it was made. `out` may hold anything behind it. The range lies in the volume.
+    fn read_beside(&self, id: DevId, sector: u64, out: &mut [u8]) -> bool
+        requires whole { length out.old % 512 ≡ 0 }
+        requires range { EndsInVolume V.view (of self.now) id (sector + length out.old / 512) }
+        requires most { length out.old / 512 ≤ 2048 }
+        ensures { IsTrue result → Meets V.view (of self.now) (of self.now) (Read id sector (length out.old / 512)) (Gave (sectors_of out.new)) };
+
+    /// Brings to the device what was written to the disk so far, while others read. It is no flush, and what fails of it the next flush tells.
+    fn sync_beside(&self);
+}
+
+impl<V: SharedVolumes> SharedReads<V> for V {
+    ghost of = { λ v. v };
+
+    fn read_beside(&self, id: DevId, sector: u64, out: &mut [u8]) -> bool {
+        self.read_shared(id, sector, out)
+    }
+
+    fn sync_beside(&self) {
+        self.sync_ahead();
+    }
+}
+
+/// How far a flush is.
+#[derive(Drop)]
+pub enum Flushing<V, M> {
+    /// It is done: the volumes behind it, and its answer.
+    Done(V, Result<(), Refusal>),
+    /// A part of it is done, and others are left.
+    Midway(M),
+}
+
+/// Volumes of which a flush can be made in parts, between which READs go on.
+pub trait Staged: SharedVolumes + Sized {
+    /// Such volumes in the middle of a flush.
+    type Midway: SharedReads<Self>;
+
+    /// The first part of a flush, or the whole of it, which is one of `flush`: Ok, or 21, 5, 2. Where others are left, what this one wrote is brought to the
+    /// device by `sync_beside` before the next, which finds less to wait for.
+    fn begin_flush(self) -> Flushing<Self, Self::Midway>
+        ensures { IsFlushing Self.view Self.Midway.of self result };
+
+    /// The next part, or the rest.
+    fn go_on(midway: Self::Midway) -> Flushing<Self, Self::Midway>
+        ensures { IsFlushing Self.view Self.Midway.of (Self.Midway.of midway) result };
+
+    /// All parts that are left, one behind the other.
+    fn end_flush(midway: Self::Midway) -> (Self, Result<(), Refusal>)
+        ensures { IsFlushed Self.view (Self.Midway.of midway) result.0 result.1 };
 }

@@ -57,3 +57,4 @@ pub mod Looking
 mod Snapping
 mod Reserving
 mod Copied
+mod Parts

@@ -13,3 +13,4 @@ pub mod Zeroing
 pub mod Checked
 pub mod Bounds
 pub mod Shared
+pub mod Midway

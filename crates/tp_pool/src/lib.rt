@@ -7,6 +7,7 @@
 mod laws;
 mod managed;
 mod messages;
+mod midway;
 mod modes;
 mod opening;
 mod pool;

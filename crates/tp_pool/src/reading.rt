@@ -100,7 +100,7 @@ fn look_up_copy<D: Disk, M: Metadata>(
     requires few { length homes.old ≤ 17 }
     requires run { first + length homes.old ≤ 2 ^ 24 }
     ensures length { length homes.new ≡ length homes.old }
-    ensures looked { LooksUp (M.stands metadata.now) (D.state disk.old) (D.state disk.new) result (λ is_there now. (is_there ≡ is_some (device_of (copy_id id) now.volumes))
+    ensures looked { LooksUp (M.tells metadata.now) (D.state disk.old) (D.state disk.new) result (λ is_there now. (is_there ≡ is_some (device_of (copy_id id) now.volumes))
         × ArePlaced (copy_id id) first now.volumes (length homes.old) homes.new) }
     ensures inside { OnOk result (AreInside (M.geometry metadata.now).data_blocks (length homes.old) homes.new) }
 {
@@ -124,7 +124,7 @@ fn look_up_places<D: Disk, M: Metadata>(
     requires few { length homes.old ≤ 17 }
     requires run { first + length homes.old ≤ 2 ^ 24 }
     ensures length { length homes.new ≡ length homes.old }
-    ensures looked { LooksUp (M.stands metadata.now) (D.state disk.old) (D.state disk.new) result (λ is_there now. (is_there ≡ is_some (device_of (id_read is_copy id) now.volumes))
+    ensures looked { LooksUp (M.tells metadata.now) (D.state disk.old) (D.state disk.new) result (λ is_there now. (is_there ≡ is_some (device_of (id_read is_copy id) now.volumes))
         × ArePlaced (id_read is_copy id) first now.volumes (length homes.old) homes.new) }
     ensures inside { OnOk result (AreInside (M.geometry metadata.now).data_blocks (length homes.old) homes.new) }
 {
@@ -151,8 +151,8 @@ fn read_piece<D: Disk, M: Metadata>(
     requires most { length out.old / 512 ≤ 2048 }
     requires within { Fits (M.geometry metadata.now) (sector + length out.old / 512) }
     ensures length { length out.new ≡ length out.old }
-    ensures looked { LooksUp (M.stands metadata.now) (D.state disk.old) (D.state disk.new) result (λ is_there now. is_there ≡ is_some (device_of (id_read is_copy id) now.volumes)) }
-    ensures bytes { result ≡ Ok true → (now kept : Contents) → M.stands metadata.now (D.state disk.old) now kept
+    ensures looked { LooksUp (M.tells metadata.now) (D.state disk.old) (D.state disk.new) result (λ is_there now. is_there ≡ is_some (device_of (id_read is_copy id) now.volumes)) }
+    ensures bytes { result ≡ Ok true → (now kept : Contents) → M.tells metadata.now (D.state disk.old) now kept
         → out.new ≡ concat (values_at (M.geometry metadata.now) now.volumes (seen (D.state disk.old).cells) (id_read is_copy id) sector (length out.old / 512)) }
     ensures limits { IsWithinLimits (M.geometry metadata.now) }
 {
@@ -188,9 +188,9 @@ fn read_piece<D: Disk, M: Metadata>(
     Ok(true)
 }
 
-/// Reads sectors of a volume from this one on, or of its held copy, until `out` is full. It tells whether there is such a volume; where there is
-/// none, `out` may hold anything.
-pub(crate) fn read_range<D: Disk, M: Metadata>(
+/// Reads sectors of a volume from this one on, or of its held copy, until `out` is full, as look-ups tell on this disk. It tells whether there is such a
+/// volume; where there is none, `out` may hold anything.
+pub(crate) fn read_told<D: Disk, M: Metadata>(
     disk: &mut D,
     metadata: &M,
     blocks: &Blocks,
@@ -204,8 +204,8 @@ pub(crate) fn read_range<D: Disk, M: Metadata>(
     requires whole { length out.old % 512 ≡ 0 }
     requires within { Fits (M.geometry metadata.now) (sector + length out.old / 512) }
     ensures length { length out.new ≡ length out.old }
-    ensures looked { LooksUp (M.stands metadata.now) (D.state disk.old) (D.state disk.new) result (λ is_there now. is_there ≡ is_some (device_of (id_read is_copy id) now.volumes)) }
-    ensures bytes { result ≡ Ok true → (now kept : Contents) → M.stands metadata.now (D.state disk.old) now kept
+    ensures looked { LooksUp (M.tells metadata.now) (D.state disk.old) (D.state disk.new) result (λ is_there now. is_there ≡ is_some (device_of (id_read is_copy id) now.volumes)) }
+    ensures bytes { result ≡ Ok true → (now kept : Contents) → M.tells metadata.now (D.state disk.old) now kept
         → out.new ≡ concat (values_at (M.geometry metadata.now) now.volumes (seen (D.state disk.old).cells) (id_read is_copy id) sector (length out.old / 512)) }
 {
     let count = out.len() as u64 / SECTOR;
@@ -235,6 +235,29 @@ pub(crate) fn read_range<D: Disk, M: Metadata>(
         done += part;
     }
     Ok(is_there)
+}
+
+/// Reads sectors of a volume from this one on, or of its held copy, until `out` is full. It tells whether there is such a volume; where there is
+/// none, `out` may hold anything.
+pub(crate) fn read_range<D: Disk, M: Metadata>(
+    disk: &mut D,
+    metadata: &M,
+    blocks: &Blocks,
+    is_copy: bool,
+    id: DevId,
+    sector: u64,
+    out: &mut [u8],
+) -> Result<bool, StoreError>
+    requires blocks { blocks.now ≡ M.geometry metadata.now }
+    requires disk { sectors_of_image (M.geometry metadata.now) ≤ (D.state disk.old).size }
+    requires whole { length out.old % 512 ≡ 0 }
+    requires within { Fits (M.geometry metadata.now) (sector + length out.old / 512) }
+    ensures length { length out.new ≡ length out.old }
+    ensures looked { LooksUp (M.stands metadata.now) (D.state disk.old) (D.state disk.new) result (λ is_there now. is_there ≡ is_some (device_of (id_read is_copy id) now.volumes)) }
+    ensures bytes { result ≡ Ok true → (now kept : Contents) → M.stands metadata.now (D.state disk.old) now kept
+        → out.new ≡ concat (values_at (M.geometry metadata.now) now.volumes (seen (D.state disk.old).cells) (id_read is_copy id) sector (length out.old / 512)) }
+{
+    read_told(disk, metadata, blocks, is_copy, id, sector, out)
 }
 
 impl<D: Disk, M: Metadata> Pool<D, M> {

@@ -1,5 +1,10 @@
 //! Shared reads of a pool: by those who look at it at once, while nobody changes it.
-ghost use Rattle.std.specs.Prelude.{◌≡◌, ◌+◌, ◌/◌, ◌%◌, ◌≤◌, List, length, IsTrue};
+ghost use Rattle.std.specs.Prelude.{◌≡◌, ◌+◌, ◌/◌, ◌%◌, ◌≤◌, List, length, IsSome, IsTrue};
+ghost use Rattle.std.specs.List.{concat};
+ghost use Rattle.tp_model.specs.Disk.{seen};
+ghost use Rattle.tp_sharing.specs.Volumes.{device_of};
+ghost use Rattle.tp_stored.specs.Contents.{Contents};
+ghost use Rattle.tp_shown.specs.Shown.{values_at};
 ghost use Rattle.tp_model.specs.Geometry.{sectors_of_image};
 ghost use Rattle.tp_model.specs.Clauses.{EndsInVolume};
 ghost use Rattle.tp_holders.specs.Holders.{Holding};
@@ -9,7 +14,7 @@ ghost use Rattle.tp_pool.specs.Besides.{pool_on};
 ghost use Rattle.tp_pool.specs.Shared.{IsSharedRead};
 
 use crate::pool::{Besides, Pool, is_failed};
-use crate::reading::read_range;
+use crate::reading::read_told;
 use tp_blocks::Blocks;
 use tp_disk::{SharedDisk, SharedReader};
 use tp_meta::Metadata;
@@ -17,7 +22,7 @@ use tp_model::{DevId, Mode};
 
 /// Reads sectors of a volume from this one on, until `out` is full: true where the pool works, there is such a volume, and the disk could be
 /// looked at. False says nothing. `out` may hold anything behind it.
-fn read_parts<D: SharedDisk, M: Metadata>(
+pub(crate) fn read_parts<D: SharedDisk, M: Metadata>(
     disk: &D,
     metadata: &M,
     blocks: &Blocks,
@@ -34,12 +39,15 @@ fn read_parts<D: SharedDisk, M: Metadata>(
     ensures read { IsTrue result → (holders : List Holding) → LiesIn M.geometry M.stands (record { disk = D.state disk.now; metadata = metadata.now; holders = holders; mode = mode }) id (sector + length out.old / 512)
         → IsSharedRead M.geometry M.stands M.marks M.room M.changed
         (record { disk = D.state disk.now; metadata = metadata.now; holders = holders; mode = mode }) id sector (length out.old / 512) (sectors_of out.new) }
+    // By what look-ups tell on the disk, also in the midst of a commit.
+    ensures told { IsTrue result → (now kept : Contents) → M.tells metadata.now (D.state disk.now) now kept → IsSome (device_of id now.volumes)
+        × (out.new ≡ concat (values_at (M.geometry metadata.now) now.volumes (seen (D.state disk.now).cells) id sector (length out.old / 512))) }
 {
     if is_failed(mode) {
         return false;
     }
     let mut reader = SharedReader::new(disk);
-    read_range(&mut reader, metadata, blocks, false, id, sector, out).unwrap_or(false)
+    read_told(&mut reader, metadata, blocks, false, id, sector, out).unwrap_or(false)
 }
 
 impl<M: Metadata> Besides<M> {

@@ -1,3 +1,4 @@
 mod Answered
 mod Inner
 mod Looking
+mod Parts

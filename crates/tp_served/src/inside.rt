@@ -1,14 +1,17 @@
 //! A pool and the cache that it stands on.
-ghost use Rattle.std.specs.Prelude.{◌≡◌, ◌+◌, ◌/◌, ◌%◌, ◌≤◌, IsTrue, length};
+ghost use Rattle.std.specs.Prelude.{◌≡◌, ◌+◌, ◌/◌, ◌%◌, ◌≤◌, Bool, IsTrue, length};
 ghost use Rattle.tp_model.specs.Calls.{Gave, Read};
 ghost use Rattle.tp_model.specs.Clauses.{EndsInVolume, Meets};
 ghost use Rattle.tp_model.specs.Geometry.{sectors_of_image};
 ghost use Rattle.tp_model.specs.Sectors.{sectors_of};
 ghost use Rattle.tp_cache.specs.Table.{Since};
-ghost use Rattle.tp_served.specs.Served.{IsKnown, cached, disk_of, on_cache};
+ghost use Rattle.tp_pool.specs.Held.{Fits, view};
+ghost use Rattle.tp_pool.specs.Shared.{IsSharedRead};
+ghost use Rattle.tp_served.specs.Served.{Cached, IsKnown, cached, disk_of, on_cache};
+ghost use Rattle.tp_served.specs.Midway.{IsMidway};
 
 use std::marker::Model;
-use tp_cache::{Life, NodeCache, Start};
+use tp_cache::{Life, NodeCache, Past, Start};
 use tp_disk::{Disk, SharedDisk};
 use tp_meta::Metadata;
 use tp_model::{DevId, Geometry, Mode};
@@ -79,6 +82,24 @@ impl<D: Disk, M: Metadata> Inside<D, M> {
     }
 }
 
+impl<D: Disk, M: Metadata> Inside<D, M> {
+    /// The pool, on a cache that goes on since some moment.
+    pub(crate) fn resume<K: Start>(self) -> Pool<Life<D, K>, M>
+        requires { Since K.start self.cache }
+        ensures { result ≡ on_cache self }
+    {
+        let Inside { cache, besides } = self;
+        Pool::put_together(Life::resume(cache), besides)
+    }
+
+    /// What its cache is now.
+    pub(crate) fn past(&self) -> Past
+        ensures { result.held ≡ self.now.cache }
+    {
+        Past::now(&self.cache)
+    }
+}
+
 impl<D: Disk, M: Metadata + Drop> Inside<D, M> {
     /// The disk as it is now, without what the cache keeps.
     pub(crate) fn into_disk(self) -> D
@@ -99,6 +120,18 @@ impl<D: SharedDisk, M: Metadata> Inside<D, M> {
     {
         self.facts();
         self.besides.read_shared(&self.cache, id, sector, out)
+    }
+
+    /// A shared read in the midst of a flush.
+    pub(crate) fn read_midway(&self, id: DevId, sector: u64, out: &mut [u8]) -> bool
+        requires whole { length out.old % 512 ≡ 0 }
+        requires within { Fits (M.geometry self.now.besides.metadata) (sector + length out.old / 512) }
+        ensures length { length out.new ≡ length out.old }
+        ensures read { IsTrue result → (old : Cached M) (is_named : Bool) → IsMidway M.geometry M.stands M.tells M.midway old is_named self.now
+            → EndsInVolume (view M.geometry M.stands) (on_cache old) id (sector + length out.old / 512)
+            → IsSharedRead M.geometry M.stands M.marks M.room M.changed (on_cache old) id sector (length out.old / 512) (sectors_of out.new) }
+    {
+        self.besides.read_midway(&self.cache, id, sector, out)
     }
 
     /// A sync ahead, of the cache as it stands.

@@ -302,6 +302,13 @@ impl<D: Disk + Drop, M: Metadata + Drop> Lent<D, M> {
         close_on::<D, M, Brand>(inside.unwrap())
     }
 
+    pub(crate) fn into_inside(self) -> Inside<D, M>
+        ensures { result ≡ got self.inside self.there }
+    {
+        let Lent { inside } = self;
+        inside.unwrap()
+    }
+
     pub(crate) fn into_disk(self) -> D
         ensures { D.state result ≡ disk_of (got self.inside self.there) }
     {

@@ -5,6 +5,7 @@
 #![tactic(auto)]
 
 mod calls;
+mod flushing;
 mod inside;
 mod laws;
 mod lent;
@@ -14,6 +15,7 @@ mod opening;
 mod served;
 mod volumes;
 
+pub use flushing::MidServed;
 pub use laws::room_on_caches_lasts;
 pub use opening::Room;
 pub use served::Served;

@@ -8,14 +8,16 @@ ghost use Rattle.tp_holders.specs.Holders.{holds_of};
 ghost use Rattle.tp_model.specs.declared.mode.Mode.TheVariants as mode;
 ghost use Rattle.tp_model.specs.Calls.{CreateSnap, CreateThin, Delete, Done, Flush, Found, Gave, Grow, HeldRead, Hold, LetGo, Line, NextId, Read, Refused, ReleaseMetadataSnap, ReserveMetadataSnap, SetTransactionId, Sized, Status, ThinStatus, Trim, VolumeBlocks, Write, WriteZeroes};
 ghost use Rattle.tp_model.specs.Clauses.{EndsInVolume, Meets};
+ghost use Rattle.tp_served.specs.Midway.{IsFlushing};
 ghost use Rattle.tp_served.specs.Served.{IsClosed, IsKnown, IsUnwritten, StaysInPlace, cached, disk_of, on_cache};
 
+use crate::flushing::{MidServed, begin_parts};
 use crate::inside::Inside;
 use crate::lent::Lent;
 use std::marker::Model;
 use tp_disk::{Disk, SharedDisk};
 use tp_meta::Metadata;
-use tp_model::{DevId, Geometry, Mode, Refusal};
+use tp_model::{DevId, Flushing, Geometry, Mode, Refusal};
 use tp_msg::LineBuffer;
 
 /// A pool over a disk, which keeps changed metadata blocks in memory until it commits, and holds blocks that were read. No call takes
@@ -49,6 +51,15 @@ impl<D: Disk + Drop, M: Metadata + Drop> Served<D, M> {
             (λ reason. Meets (cached M.geometry M.stands M.marks M.room M.changed) self.old self.new Flush (Refused reason)) }
     {
         self.lent.flush()
+    }
+
+    /// The first part of a flush: done, where that is all of it, or in its midst. Behind it `MidServed::sync_ahead` brings to the device what it wrote, while READs go on.
+    /// The whole is one flush, with its answers, and a stop at any moment of it leaves what one of a flush leaves.
+    pub fn begin_flush(self) -> Flushing<Served<D, M>, MidServed<D, M>>
+        ensures { IsFlushing M.geometry M.stands M.marks M.room M.changed self result }
+    {
+        let Served { lent } = self;
+        begin_parts(lent.into_inside())
     }
 
     /// Reads at most 2048 sectors of a volume: Ok, or 21, 15, 5. The range lies in the volume; where nobody

@@ -1,8 +1,11 @@
 //! The calls of a pool by which its volumes are served.
+use crate::flushing::MidServed;
 use crate::served::Served;
 use tp_disk::{Disk, SharedDisk};
 use tp_meta::Metadata;
-use tp_model::{DevId, Geometry, Mode, Refusal, SharedVolumes, Volumes};
+use tp_model::{
+    DevId, Flushing, Geometry, Mode, Refusal, SharedReads, SharedVolumes, Staged, Volumes,
+};
 
 impl<D: Disk + Drop, M: Metadata + Drop> Volumes for Served<D, M> {
     ghost use Rattle.tp_served.specs.Served as served;
@@ -70,5 +73,33 @@ impl<D: SharedDisk + Drop, M: Metadata + Drop> SharedVolumes for Served<D, M> {
 
     fn sync_ahead(&self) {
         self.sync_ahead();
+    }
+}
+
+impl<D: SharedDisk + Drop, M: Metadata + Drop> SharedReads<Served<D, M>> for MidServed<D, M> {
+    ghost of = { λ m. m };
+
+    fn read_beside(&self, id: DevId, sector: u64, out: &mut [u8]) -> bool {
+        self.read_shared(id, sector, out)
+    }
+
+    fn sync_beside(&self) {
+        self.sync_ahead();
+    }
+}
+
+impl<D: SharedDisk + Drop, M: Metadata + Drop> Staged for Served<D, M> {
+    type Midway = MidServed<D, M>;
+
+    fn begin_flush(self) -> Flushing<Served<D, M>, MidServed<D, M>> {
+        self.begin_flush()
+    }
+
+    fn go_on(midway: MidServed<D, M>) -> Flushing<Served<D, M>, MidServed<D, M>> {
+        midway.go_on()
+    }
+
+    fn end_flush(midway: MidServed<D, M>) -> (Served<D, M>, Result<(), Refusal>) {
+        midway.end_flush()
     }
 }

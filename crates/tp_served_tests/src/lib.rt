@@ -10,6 +10,8 @@ mod kept;
 #[cfg(test)]
 mod memory;
 #[cfg(test)]
+mod parts;
+#[cfg(test)]
 mod pools;
 #[cfg(test)]
 mod random;

@@ -10,27 +10,27 @@ use tp_model::{DevId, Geometry, Refusal};
 use tp_served::Room;
 
 /// The sectors that are written: of each of two volumes some in blocks of their own, and about the end of a block.
-const PLACES: usize = 8;
+pub(crate) const PLACES: usize = 8;
 
 const STEPS: usize = 60;
 
 /// The disk calls of opening.
 const OPENING: u64 = 6;
 
-fn volume_of(place: usize) -> DevId {
+pub(crate) fn volume_of(place: usize) -> DevId {
     DevId::new((place % 2) as u32)
 }
 
-fn sector_of(place: usize) -> u64 {
+pub(crate) fn sector_of(place: usize) -> u64 {
     [5, 127, 128, 300][place / 2 % 4]
 }
 
 /// What the places have.
 #[derive(Clone, Copy)]
-struct Expected {
-    now: [u8; PLACES],
+pub(crate) struct Expected {
+    pub(crate) now: [u8; PLACES],
     /// The values that a stop may leave, a bit each: the one of the last flush that was answered, and those written since.
-    allowed: [u64; PLACES],
+    pub(crate) allowed: [u64; PLACES],
 }
 
 fn bit(value: u8) -> u64 {
@@ -38,7 +38,7 @@ fn bit(value: u8) -> u64 {
 }
 
 impl Expected {
-    fn keep(&mut self) {
+    pub(crate) fn keep(&mut self) {
         for place in 0..PLACES {
             self.allowed[place] = bit(self.now[place]);
         }
@@ -46,7 +46,7 @@ impl Expected {
 }
 
 /// Does the step of this number from random bits, and tells the arrays: a flush, or four times of five a write of a sector.
-fn perform(
+pub(crate) fn perform(
     pool: &mut MemServed,
     number: usize,
     bits: u64,
@@ -84,13 +84,13 @@ fn with_both(alloc: Global, geometry: Geometry, room: Room) -> Result<MemServed,
 
 /// A pool with two volumes, closed.
 #[derive(Drop)]
-struct Begin {
+pub(crate) struct Begin {
     geometry: Geometry,
     room: Room,
     disk: MemDisk,
 }
 
-fn begun(alloc: Global, room: Room) -> Result<Begin, Refusal> {
+pub(crate) fn begun(alloc: Global, room: Room) -> Result<Begin, Refusal> {
     let geometry = Geometry::new(128, 4, 1032, 8)?;
     let disk = closed(with_both(alloc, geometry, room)?)?;
     Ok(Begin {
@@ -102,15 +102,15 @@ fn begun(alloc: Global, room: Room) -> Result<Begin, Refusal> {
 
 /// A disk on which a pool was closed, or failed.
 #[derive(Drop)]
-struct Run {
-    disk: MemDisk,
-    expected: Expected,
+pub(crate) struct Run {
+    pub(crate) disk: MemDisk,
+    pub(crate) expected: Expected,
     /// Whether a step or the closing was refused.
-    refused: bool,
+    pub(crate) refused: bool,
 }
 
 /// Opens a copy of the pool on which this disk call fails.
-fn opened_failing(alloc: Global, begin: &Begin, call: u64) -> Result<MemServed, Fail> {
+pub(crate) fn opened_failing(alloc: Global, begin: &Begin, call: u64) -> Result<MemServed, Fail> {
     let mut disk = begin.disk.stop(alloc, &[])?;
     disk.fail(call, call);
     Ok(opened(alloc, disk, begin.geometry, begin.room)?)
@@ -181,7 +181,7 @@ fn is_stop_right(alloc: Global, begin: &Begin, run: &Run, seed: u64) -> Result<b
 }
 
 /// Whether the stop by each of three seeds does.
-fn are_stops_right(alloc: Global, begin: &Begin, run: &Run) -> Result<bool, Fail> {
+pub(crate) fn are_stops_right(alloc: Global, begin: &Begin, run: &Run) -> Result<bool, Fail> {
     for seed in 0..3 {
         if !is_stop_right(alloc, begin, run, seed)? {
             return Ok(false);

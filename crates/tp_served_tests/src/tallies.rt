@@ -1,5 +1,6 @@
 //! A disk that tells its calls on metadata from those on data.
 
+use std::sync::atomic::{AtomicU64, Ordering};
 use tp_disk::{Disk, Fault, SharedDisk};
 
 /// How many calls a disk had. A call is one on metadata where its first sector is.
@@ -40,6 +41,7 @@ pub(crate) struct TalliedDisk<D: Disk> {
     /// The first sector behind the metadata.
     border: u64,
     tally: Tally,
+    syncs: AtomicU64,
 }
 
 impl<D: Disk> TalliedDisk<D> {
@@ -48,6 +50,7 @@ impl<D: Disk> TalliedDisk<D> {
             disk,
             border,
             tally: Tally::NONE,
+            syncs: AtomicU64::new(0),
         }
     }
 
@@ -60,12 +63,18 @@ impl<D: Disk> TalliedDisk<D> {
             disk,
             border: _,
             tally: _,
+            syncs: _,
         } = self;
         disk
     }
 
     pub(crate) fn tally(&self) -> Tally {
         self.tally
+    }
+
+    /// How many syncs ahead it had that are to bring whatever was written.
+    pub(crate) fn syncs(&self) -> u64 {
+        self.syncs.load(Ordering::SeqCst)
     }
 }
 
@@ -103,12 +112,15 @@ impl<D: Disk> Disk for TalliedDisk<D> {
 }
 
 impl<D: SharedDisk> SharedDisk for TalliedDisk<D> {
-    /// Those who look at the disk at once share it, so none of them counts.
+    /// Those who look at the disk at once share it, so none of their reads counts.
     fn read_shared(&self, at: u64, out: &mut [u8]) -> bool {
         self.disk.read_shared(at, out)
     }
 
     fn sync_ahead(&self, least: u64) {
+        if least == 0 {
+            self.syncs.fetch_add(1, Ordering::SeqCst);
+        }
         self.disk.sync_ahead(least);
     }
 }

@@ -11,14 +11,14 @@ pub returns-in_err-is_there-clause-looked : goal.returns-in_err-is_there-clause-
 returns-in_err-is_there-clause-looked g c = record {
   told = search rules;
   damaged = λ e now kept st.
-      let f : c.held_run.result ≡ Err Damaged = search (rules, e) in c.held_run.ensures.looked.damaged f now kept st;
+      let f : c.held_run.result ≡ Err Damaged = search (rules, e) in c.held_run.ensures.read.damaged f now kept st;
   state = search rules;
 }
 
 pub returns-clause-looked : goal.returns-clause-looked
 returns-clause-looked g c = record {
   told = λ now kept st.
-      let told = c.in_ok-is_there.ensures.looked.told now kept st in (
+      let told = c.in_ok-is_there.ensures.read.told now kept st in (
         told.0,
         λ i lt.
             let place = slice_index_or c.held_run.new.places i None in

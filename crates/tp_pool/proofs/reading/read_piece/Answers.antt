@@ -156,7 +156,7 @@ loop-done-preserved g c =
           subst (λ (o : Option Home). IsRun c.geometry-geometry.result id sector (length (take (512 * (done + n) - 512 * done) (drop (512 * done) c.loop-done.out)) / 512) now.volumes (old_place o)) (sym is)
           (subst (λ (k : ℕ). IsRun c.geometry-geometry.result id sector k now.volumes (old_place (slice_index_or homes place None))) (sym part_long)
           (subst (λ (x : Geometry). IsRun x id sector n now.volumes (old_place (slice_index_or homes place None))) (sym inv.sizes) are)) in
-          let honest : IsTrue (g.D.Disk.state c.loop-done.disk).is_honest = subst (λ (d : DiskState). IsTrue d.is_honest) (sym inv.state) (g.met.M.Metadata.honest c.args.metadata.now disk now kept stands) in
+          let honest : IsTrue (g.D.Disk.state c.loop-done.disk).is_honest = subst (λ (d : DiskState). IsTrue d.is_honest) (sym inv.state) (g.met.M.Metadata.told_honest c.args.metadata.now disk now kept stands) in
           let whole = 512 * (done + n) - 512 * done in
           read_more c.loop-done.out c.read_part.new.out done n fits c.read_part.ensures.length gm now.volumes (seen disk.cells) id c.args.sector (inv.bytes now kept stands)
           (c.in_ok-read_part.ensures.bytes honest id now.volumes run_is

@@ -20,11 +20,11 @@ invariant-loop-done g l = record {
   few : length l.homes ≤ 17;
   touched : length l.homes ≡ blocks_touched (g.M.Metadata.geometry l.metadata) l.sector l.count;
   state : g.D.Disk.state l.disk ≡ g.D.Disk.state l.fn.disk;
-  there : (now kept : Contents) → g.M.Metadata.stands l.metadata (g.D.Disk.state l.fn.disk) now kept → true ≡ is_some (device_of (id_read l.fn.is_copy l.fn.id) now.volumes);
-  told : 0 < l.count → (now kept : Contents) → g.M.Metadata.stands l.metadata (g.D.Disk.state l.fn.disk) now kept
+  there : (now kept : Contents) → g.M.Metadata.tells l.metadata (g.D.Disk.state l.fn.disk) now kept → true ≡ is_some (device_of (id_read l.fn.is_copy l.fn.id) now.volumes);
+  told : 0 < l.count → (now kept : Contents) → g.M.Metadata.tells l.metadata (g.D.Disk.state l.fn.disk) now kept
       → ArePlaced (id_read l.fn.is_copy l.fn.id) (l.sector / (g.M.Metadata.geometry l.metadata).block_sectors) now.volumes (length l.homes) l.homes;
   inside : AreInside (g.M.Metadata.geometry l.metadata).data_blocks (length l.homes) l.homes;
-  bytes : (now kept : Contents) → g.M.Metadata.stands l.metadata (g.D.Disk.state l.fn.disk) now kept
+  bytes : (now kept : Contents) → g.M.Metadata.tells l.metadata (g.D.Disk.state l.fn.disk) now kept
       → take (512 * l.done) l.out ≡ concat (values_at (g.M.Metadata.geometry l.metadata) now.volumes (seen (g.D.Disk.state l.fn.disk).cells) (id_read l.fn.is_copy l.fn.id) l.sector l.done);
 }
 

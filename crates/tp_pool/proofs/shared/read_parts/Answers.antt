@@ -12,6 +12,23 @@ use Rattle.tp_pool.proofs.Looking.{shared_read, was_yes}
 use Rattle.tp_pool.proofs.Serving.{is_some_to}
 use Rattle.tp_pool.proofs.shared.read_parts.Goals as goal
 
+pub returns-clause-told : goal.returns-clause-told
+returns-clause-told g c =
+    λ yes now kept tells.
+    let M = g.M.Metadata in
+    let metadata = c.args.metadata.now in
+    let disk = g.D.Disk.state c.args.disk.now in
+    let n = length c.args.out.now / 512 in
+    let out = c.read_told.new.out in
+    let reader = for_reader (g.D.Disk.state c.new-reader.result.disk.now) c.new-reader.result.shadow.state in
+    let same : reader ≡ disk = c.new-reader.ensures in
+    let is : c.read_told.result ≡ Ok _ = was_yes c.read_told.result (sym c.unwrap_or.ensures ∙ yes) in
+    let there = subst (λ (r : Result Bool StoreError). IfOk r (λ is_there. (now kept : Contents) → M.tells metadata reader now kept → is_there ≡ is_some (device_of c.args.id now.volumes))) is c.read_told.ensures.looked.told in
+    let here = subst (λ (d : DiskState). M.tells metadata d now kept) (sym same) tells in (
+      is_some_to (device_of c.args.id now.volumes) (there now kept here),
+      subst (λ (d : DiskState). out ≡ concat (values_at (M.geometry metadata) now.volumes (seen d.cells) c.args.id c.args.sector n)) same (c.read_told.ensures.bytes is now kept here),
+    )
+
 pub returns-clause-read : goal.returns-clause-read
 returns-clause-read g c =
     λ yes holders lies.
@@ -21,16 +38,9 @@ returns-clause-read g c =
     let metadata = c.args.metadata.now in
     let disk = g.D.Disk.state c.args.disk.now in
     let n = length c.args.out.now / 512 in
-    let out = c.read_range.new.out in
-    let reader = for_reader (g.D.Disk.state c.new-reader.result.disk.now) c.new-reader.result.shadow.state in
-    let same : reader ≡ disk = c.new-reader.ensures in
-    let is : c.read_range.result ≡ Ok _ = was_yes c.read_range.result (sym c.unwrap_or.ensures ∙ yes) in
-    let stands_so : (now kept : Contents) → M.stands metadata disk now kept → M.stands metadata reader now kept
-    = λ now kept st. subst (λ (d : DiskState). M.stands metadata d now kept) (sym same) st in
-    let there = subst (λ (r : Result Bool StoreError). IfOk r (λ is_there. (now kept : Contents) → M.stands metadata reader now kept → is_there ≡ is_some (device_of c.args.id now.volumes))) is c.read_range.ensures.looked.told in
-    shared_read laws M.changed (record { disk = disk; metadata = metadata; holders = holders; mode = c.args.mode }) c.args.id c.args.sector n out
+    let told = returns-clause-told g c yes in
+    shared_read laws M.changed (record { disk = disk; metadata = metadata; holders = holders; mode = c.args.mode }) c.args.id c.args.sector n c.read_told.new.out
     (sym c.is_failed.ensures ∙ c.if-is_failed.false)
-    (λ now kept st. is_some_to (device_of c.args.id now.volumes) (there now kept (stands_so now kept st)))
+    (λ now kept st. (told now kept (met.told metadata disk now kept st)).0)
     lies (g.met.D.Disk.well_formed c.args.disk.now) c.requires.disk
-    (λ now kept st. subst (λ (d : DiskState). out ≡ concat (values_at (M.geometry metadata) now.volumes (seen d.cells) c.args.id c.args.sector n)) same
-    (c.read_range.ensures.bytes is now kept (stands_so now kept st)))
+    (λ now kept st. (told now kept (met.told metadata disk now kept st)).1)

@@ -1,0 +1,55 @@
+//! What a cache was at some moment, for contracts alone.
+ghost use Rattle.std.specs.Prelude.{◌≡◌};
+ghost use Rattle.std.specs.Borrow.{ftrue};
+ghost use Rattle.tp_cache.specs.Table.{Held};
+
+use crate::cache::NodeCache;
+use std::marker::{Model, PhantomData};
+use tp_disk::Disk;
+
+/// How what contracts see of a cache is read off a value.
+pub trait Remembers<X> {
+    ghost held: { X → Held };
+}
+
+/// What contracts saw of a cache at some moment. It has no bytes.
+#[derive(Drop)]
+pub struct Past {
+    marker: PhantomData<()>,
+    pub ghost held: { Held },
+}
+
+impl Model for Past {
+    ghost also_owns = { λ _. ftrue };
+}
+
+// It owns nothing.
+unsafe impl Send for Past {}
+
+unsafe impl Sync for Past {}
+
+struct Caches<D> {
+    marker: PhantomData<D>,
+}
+
+impl<D: Disk> Remembers<NodeCache<D>> for Caches<D> {
+    ghost held = { λ cache. cache.core };
+}
+
+impl Past {
+    pub fn of<X, M: Remembers<X>>(x: &X) -> Past
+        ensures { result.held ≡ M.held x.now }
+    {
+        let _ = x;
+        Past {
+            marker: PhantomData,
+        }
+    }
+
+    /// What the cache is now.
+    pub fn now<D: Disk>(cache: &NodeCache<D>) -> Past
+        ensures { result.held ≡ cache.now.core }
+    {
+        Past::of::<NodeCache<D>, Caches<D>>(cache)
+    }
+}
