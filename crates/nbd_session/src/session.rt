@@ -9,7 +9,7 @@ use crate::shared::take_read;
 use nbd_wire::{MAX_FRAME, put_greeting};
 use std::alloc::{AllocError, Global};
 use std::marker::Model;
-use tp_model::{Refusal, SharedVolumes, Volumes};
+use tp_model::{Refusal, SharedReads, Volumes};
 
 /// One client. It takes its buffers when it is opened, and no memory after that.
 #[derive(Drop)]
@@ -172,15 +172,15 @@ impl Session {
     /// pool as they are. None where that cannot be, and then nothing was done, but that the buffer may hold anything: a step is to be taken. So it is where
     /// no READ stands whole at the front of the piece, bytes of an unfinished frame are held, a test of the READ fails or it is of no bytes, or the pool has no
     /// shared read of it.
-    pub fn read_shared<V: SharedVolumes>(
+    pub fn read_shared<V: Volumes, S: SharedReads<V>>(
         &self,
-        pool: &V,
+        pool: &S,
         piece: &[u8],
         out: &mut [u8],
     ) -> Option<Answered>
-        requires ready { IsReady self.now.phase (V.view.outline pool.now) (V.view.more pool.now) }
+        requires ready { IsReady self.now.phase (V.view.outline (S.of pool.now)) (V.view.more (S.of pool.now)) }
         requires room { MAX_ANSWER ≤ length out.old }
-        ensures steps { IfSome result (λ a. Advances V.view self.now pool.now piece.now a.taken (take a.sent out.new) a.ended self.now pool.now) }
+        ensures steps { IfSome result (λ a. Advances V.view self.now (S.of pool.now) piece.now a.taken (take a.sent out.new) a.ended self.now (S.of pool.now)) }
         ensures begins { IfSome result (λ a. BeginsWithRead piece.now) }
         ensures goes_on { IfSome result (λ a. (a.ended ≡ false) × (0 < a.taken) × (a.taken ≤ length piece.now)) }
         ensures fits { IfSome result (λ a. a.sent ≤ length out.new) }

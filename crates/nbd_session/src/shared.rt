@@ -13,42 +13,42 @@ use crate::phase::{Course, Phase};
 use crate::request::{Verdict, judge_in};
 use crate::session::Answered;
 use nbd_wire::{COMMAND_READ, Frame, Kind, Request, read_frame, wanted};
-use tp_model::{DevId, SharedVolumes};
+use tp_model::{DevId, SharedReads, Volumes};
 
 /// A READ of some sectors, whose data goes to its place behind the reply's head. None where the pool has no shared read of them.
-fn read<V: SharedVolumes>(
-    pool: &V,
+fn read<V: Volumes, S: SharedReads<V>>(
+    pool: &S,
     volume: DevId,
     request: &Request,
     out: &mut [u8],
 ) -> Option<usize>
-    requires form { IsWhole (known_bytes (V.view.outline pool.now).geometry (V.view.more pool.now) volume) request.now }
+    requires form { IsWhole (known_bytes (V.view.outline (S.of pool.now)).geometry (V.view.more (S.of pool.now)) volume) request.now }
     requires room { 1048592 ≤ length out.old }
     ensures answer { IfSome result (λ sent. Performs V.view.outline (PoolCall V.view) (Read volume (request.now.offset / 512) (request.now.len / 512)) request.now.cookie
-        pool.now (take sent out.new) pool.now) }
+        (S.of pool.now) (take sent out.new) (S.of pool.now)) }
     ensures fits { IfSome result (λ sent. sent ≤ length out.new) }
     ensures len { length out.new ≡ length out.old }
 {
     let len = request.len as usize;
-    if !pool.read_shared(volume, request.offset / 512, &mut out[16..16 + len]) {
+    if !pool.read_beside(volume, request.offset / 512, &mut out[16..16 + len]) {
         return None;
     }
     Some(put_read_head(out, request.cookie, len))
 }
 
 /// The answer to one request of a volume of so many bytes, where its tests let it read.
-fn serve<V: SharedVolumes>(
-    pool: &V,
+fn serve<V: Volumes, S: SharedReads<V>>(
+    pool: &S,
     volume: DevId,
     size: u64,
     is_extended: bool,
     request: Request,
     out: &mut [u8],
 ) -> Option<usize>
-    requires size { size ≡ known_bytes (V.view.outline pool.now).geometry (V.view.more pool.now) volume }
+    requires size { size ≡ known_bytes (V.view.outline (S.of pool.now)).geometry (V.view.more (S.of pool.now)) volume }
     requires room { 1048592 ≤ length out.old }
     ensures answer { (payload : List ℕ) → IfSome result (λ sent. Serves V.view.outline (PoolCall V.view) (verdict_in is_extended size request) volume size is_extended request payload
-        pool.now (take sent out.new) (Phase.Transmission volume size (Course.Listens is_extended)) pool.now) }
+        (S.of pool.now) (take sent out.new) (Phase.Transmission volume size (Course.Listens is_extended)) (S.of pool.now)) }
     ensures kind { IfSome result (λ sent. request.kind ≡ COMMAND_READ) }
     ensures fits { IfSome result (λ sent. sent ≤ length out.new) }
     ensures len { length out.new ≡ length out.old }
@@ -60,20 +60,20 @@ fn serve<V: SharedVolumes>(
 }
 
 /// The answer to a text that is one whole frame of transmission, where that is such a request.
-fn answer_text<V: SharedVolumes>(
-    pool: &V,
+fn answer_text<V: Volumes, S: SharedReads<V>>(
+    pool: &S,
     volume: DevId,
     size: u64,
     is_extended: bool,
     text: &[u8],
     out: &mut [u8],
 ) -> Option<usize>
-    requires size { size ≡ known_bytes (V.view.outline pool.now).geometry (V.view.more pool.now) volume }
+    requires size { size ≡ known_bytes (V.view.outline (S.of pool.now)).geometry (V.view.more (S.of pool.now)) volume }
     requires fixed { 28 ≤ length text.now }
     requires whole { whole_len Kind.Requests text.now ≡ length text.now }
     requires room { 1048592 ≤ length out.old }
     ensures answer { IfSome result (λ sent. AnswersText V.view.outline (PoolCall V.view) Kind.Requests (Phase.Transmission volume size (Course.Listens is_extended)) text.now
-        pool.now (take sent out.new) (Phase.Transmission volume size (Course.Listens is_extended)) pool.now) }
+        (S.of pool.now) (take sent out.new) (Phase.Transmission volume size (Course.Listens is_extended)) (S.of pool.now)) }
     ensures begins { IfSome result (λ sent. BeginsWithRead text.now) }
     ensures fits { IfSome result (λ sent. sent ≤ length out.new) }
     ensures len { length out.new ≡ length out.old }
@@ -85,18 +85,18 @@ fn answer_text<V: SharedVolumes>(
 }
 
 /// Takes the READ with which a piece begins, of a session that holds nothing of a frame, and whose volume has so many bytes.
-fn take_from<V: SharedVolumes>(
-    pool: &V,
+fn take_from<V: Volumes, S: SharedReads<V>>(
+    pool: &S,
     volume: DevId,
     size: u64,
     is_extended: bool,
     piece: &[u8],
     out: &mut [u8],
 ) -> Option<Answered>
-    requires size { size ≡ known_bytes (V.view.outline pool.now).geometry (V.view.more pool.now) volume }
+    requires size { size ≡ known_bytes (V.view.outline (S.of pool.now)).geometry (V.view.more (S.of pool.now)) volume }
     requires room { MAX_ANSWER ≤ length out.old }
-    ensures steps { IfSome result (λ a. Steps V.view.outline (PoolCall V.view) (state (Phase.Transmission volume size (Course.Listens is_extended)) []) pool.now piece.now
-        a.taken (take a.sent out.new) a.ended (state (Phase.Transmission volume size (Course.Listens is_extended)) []) pool.now) }
+    ensures steps { IfSome result (λ a. Steps V.view.outline (PoolCall V.view) (state (Phase.Transmission volume size (Course.Listens is_extended)) []) (S.of pool.now) piece.now
+        a.taken (take a.sent out.new) a.ended (state (Phase.Transmission volume size (Course.Listens is_extended)) []) (S.of pool.now)) }
     ensures begins { IfSome result (λ a. BeginsWithRead piece.now) }
     ensures goes_on { IfSome result (λ a. (a.ended ≡ false) × (0 < a.taken) × (a.taken ≤ length piece.now)) }
     ensures fits { IfSome result (λ a. a.sent ≤ length out.new) }
@@ -117,15 +117,15 @@ fn take_from<V: SharedVolumes>(
 }
 
 /// Takes the READ with which a piece begins, of a session that holds nothing of a frame.
-pub fn take_read<V: SharedVolumes>(
+pub fn take_read<V: Volumes, S: SharedReads<V>>(
     phase: Phase,
-    pool: &V,
+    pool: &S,
     piece: &[u8],
     out: &mut [u8],
 ) -> Option<Answered>
-    requires ready { IsReady phase (V.view.outline pool.now) (V.view.more pool.now) }
+    requires ready { IsReady phase (V.view.outline (S.of pool.now)) (V.view.more (S.of pool.now)) }
     requires room { MAX_ANSWER ≤ length out.old }
-    ensures steps { IfSome result (λ a. Steps V.view.outline (PoolCall V.view) (state phase []) pool.now piece.now a.taken (take a.sent out.new) a.ended (state phase []) pool.now) }
+    ensures steps { IfSome result (λ a. Steps V.view.outline (PoolCall V.view) (state phase []) (S.of pool.now) piece.now a.taken (take a.sent out.new) a.ended (state phase []) (S.of pool.now)) }
     ensures idle { IfSome result (λ a. is_at_work phase ≡ false) }
     ensures begins { IfSome result (λ a. BeginsWithRead piece.now) }
     ensures goes_on { IfSome result (λ a. (a.ended ≡ false) × (0 < a.taken) × (a.taken ≤ length piece.now)) }

@@ -13,6 +13,7 @@ pub mod Desking
 mod Carrying
 mod Least
 mod Asking
+mod Flushing
 pub mod Living
 mod Covering
 mod Wrote

@@ -12,3 +12,4 @@ pub mod Serve
 pub mod Lives
 pub mod Covered
 pub mod Seats
+pub mod Flushes

@@ -11,7 +11,7 @@ ghost use Rattle.tp_hub.specs.Told.{Grows, HasRoom, IsFull, Lines, Says, all_sen
 use nbd_session::{Answered, MAX_ANSWER, Session};
 use std::alloc::{AllocError, Global};
 use std::marker::Model;
-use tp_model::{Refusal, SharedVolumes, Volumes};
+use tp_model::{Refusal, SharedReads, Volumes};
 
 /// The most bytes that a list of answers has: it takes no answer more once it has those of one longest.
 pub const MOST_BYTES: usize = 2 * MAX_ANSWER;
@@ -132,16 +132,16 @@ impl Answers {
 
     /// Takes the READ with which a piece begins, by a shared read, whose answer goes to its place, and adds what it says: how many bytes it has. None where
     /// the session does not answer it so, and then nothing changes.
-    pub(crate) fn read_shared<V: SharedVolumes>(
+    pub(crate) fn read_shared<V: Volumes, S: SharedReads<V>>(
         &mut self,
         session: &Session,
-        pool: &V,
+        pool: &S,
         number: u8,
         piece: &[u8],
     ) -> Option<usize>
-        requires ready { IsReady session.now.phase (V.view.outline pool.now) (V.view.more pool.now) }
+        requires ready { IsReady session.now.phase (V.view.outline (S.of pool.now)) (V.view.more (S.of pool.now)) }
         requires room { HasRoom self.old }
-        ensures read { IfSome result (λ taken. (sent : List ℕ) × IsRead V.view session.now pool.now piece.now taken sent
+        ensures read { IfSome result (λ taken. (sent : List ℕ) × IsRead V.view session.now (S.of pool.now) piece.now taken sent
             × Grows self.old self.new (said number sent ++ closed_if number false)) }
         ensures none { result ≡ None → self.new ≡ self.old }
     {
@@ -262,17 +262,17 @@ fn step_in<V: Volumes>(
 }
 
 /// Answers a READ by a shared read, whose answer is put at a place.
-fn read_at<V: SharedVolumes>(
+fn read_at<V: Volumes, S: SharedReads<V>>(
     session: &Session,
-    pool: &V,
+    pool: &S,
     piece: &[u8],
     bytes: &mut [u8],
     at: usize,
 ) -> Option<Answered>
-    requires ready { IsReady session.now.phase (V.view.outline pool.now) (V.view.more pool.now) }
+    requires ready { IsReady session.now.phase (V.view.outline (S.of pool.now)) (V.view.more (S.of pool.now)) }
     requires room { at + MAX_ANSWER ≤ length bytes.old }
     ensures reads { IfSome result (λ a. (sent : List ℕ) × (length sent ≡ a.sent) × (take (at + a.sent) bytes.new ≡ take at bytes.old ++ sent)
-        × IsRead V.view session.now pool.now piece.now a.taken sent) }
+        × IsRead V.view session.now (S.of pool.now) piece.now a.taken sent) }
     ensures fits { IfSome result (λ a. at + a.sent ≤ length bytes.new) }
     ensures kept { take at bytes.new ≡ take at bytes.old }
     ensures len { length bytes.new ≡ length bytes.old }
@@ -281,17 +281,17 @@ fn read_at<V: SharedVolumes>(
 }
 
 /// The same over a buffer.
-fn read_in<V: SharedVolumes>(
+fn read_in<V: Volumes, S: SharedReads<V>>(
     session: &Session,
-    pool: &V,
+    pool: &S,
     piece: &[u8],
     bytes: &mut Vec<u8>,
     at: usize,
 ) -> Option<Answered>
-    requires ready { IsReady session.now.phase (V.view.outline pool.now) (V.view.more pool.now) }
+    requires ready { IsReady session.now.phase (V.view.outline (S.of pool.now)) (V.view.more (S.of pool.now)) }
     requires room { at + MAX_ANSWER ≤ length bytes.old.items }
     ensures reads { IfSome result (λ a. (sent : List ℕ) × (length sent ≡ a.sent) × (take (at + a.sent) bytes.new.items ≡ take at bytes.old.items ++ sent)
-        × IsRead V.view session.now pool.now piece.now a.taken sent) }
+        × IsRead V.view session.now (S.of pool.now) piece.now a.taken sent) }
     ensures fits { IfSome result (λ a. at + a.sent ≤ length bytes.new.items) }
     ensures kept { take at bytes.new.items ≡ take at bytes.old.items }
     ensures len { length bytes.new.items ≡ length bytes.old.items }

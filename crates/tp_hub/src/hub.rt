@@ -58,7 +58,7 @@ impl<V: Volumes> Hub<V> {
     ghost use Rattle.nbd_session.specs.Clauses.{GoesWithTrace};
     ghost use Rattle.nbd_session.specs.Turns.{closed};
     ghost use Rattle.tp_hub.specs.Seats.{seat_at};
-    ghost use Rattle.tp_hub.specs.Serving.{AllLeave, AllLeaveSo, sessions_of};
+    ghost use Rattle.tp_hub.specs.Serving.{AllLeave, AllLeaveSo, Serves, sessions_of};
 
     /// A hub with no session. It takes no memory.
     pub fn new(pool: V) -> Hub<V>
@@ -108,6 +108,27 @@ impl<V: Volumes> Hub<V> {
         ensures { result.now ≡ self.now.pool }
     {
         &self.pool
+    }
+
+    /// Its pool and its sessions, which go on. Inlined, its moves of all sessions cost LLVM minutes.
+    #[inline(never)]
+    pub(crate) fn into_parts(self) -> (V, [Option<Session>; SESSIONS])
+        ensures pool { result.0 ≡ self.pool }
+        ensures slots { result.1 ≡ self.slots }
+        ensures serves { Serves (V.view.outline result.0) (V.view.more result.0) result.1 }
+    {
+        let Hub { pool, sessions } = self;
+        (pool, sessions)
+    }
+
+    /// The hub of these.
+    #[inline(never)]
+    pub(crate) fn of_parts(pool: V, sessions: [Option<Session>; SESSIONS]) -> Hub<V>
+        requires { Serves (V.view.outline pool) (V.view.more pool) sessions }
+        ensures pool { result.pool ≡ pool }
+        ensures slots { result.slots ≡ sessions }
+    {
+        Hub { pool, sessions }
     }
 
     /// The pool, after all sessions ended. It takes no memory.

@@ -5,7 +5,8 @@
 //!
 //! A [`Desk`] takes one event at a time, as a hub does; a [`Stream`] is read and written, and tells its calls. [`carry`] carries one client over both.
 //!
-//! Messages to the pool, and its status lines, are events too: each is one call of the pool between the turns of its sessions.
+//! Messages to the pool, and its status lines, are events too: each is one call of the pool between the turns of its sessions. A hub may also make a flush that
+//! no event asked for, in parts, between which READs go on ([`MidHub`]).
 #![tactic(auto)]
 
 mod alone;
@@ -16,6 +17,7 @@ mod event;
 mod hub;
 mod laws;
 mod log;
+mod midway;
 mod orders;
 mod pairs;
 mod seat;
@@ -35,6 +37,7 @@ pub use laws::{
     runs_join, two_are_heard_in_turn,
 };
 pub use log::{Log, Made};
+pub use midway::MidHub;
 pub use orders::apply;
 pub use pairs::serve_two;
 pub use seat::Seat;

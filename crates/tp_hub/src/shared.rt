@@ -10,20 +10,20 @@ ghost use Rattle.tp_hub.specs.Serving.{Serves, sessions_of, shown};
 use crate::answers::Answers;
 use crate::hub::{Ran, SESSIONS};
 use nbd_session::Session;
-use tp_model::SharedVolumes;
+use tp_model::{SharedReads, Volumes};
 
 /// A session hears the READs with which a piece begins, as long as a shared read answers each: how many bytes they have. Room is made before each.
-fn hear<V: SharedVolumes>(
+fn hear<V: Volumes, S: SharedReads<V>>(
     session: &Session,
-    pool: &V,
+    pool: &S,
     number: u8,
     piece: &[u8],
     out: &mut Answers,
 ) -> usize
-    requires ready { IsReady session.now.phase (V.view.outline pool.now) (V.view.more pool.now) }
+    requires ready { IsReady session.now.phase (V.view.outline (S.of pool.now)) (V.view.more (S.of pool.now)) }
     requires open { has_ended session.now.phase ≡ false }
     requires idle { is_at_work session.now.phase ≡ false }
-    ensures hears { HearsAnywhere V.view number session.now pool.now (take result piece.now) out.old out.new session.now pool.now }
+    ensures hears { HearsAnywhere V.view number session.now (S.of pool.now) (take result piece.now) out.old out.new session.now (S.of pool.now) }
     ensures within { result ≤ length piece.now }
 {
     let mut at = 0;
@@ -58,16 +58,16 @@ fn ran(bytes: usize, len: usize) -> Option<Ran>
 }
 
 /// The session at a place takes the READs with which a piece begins.
-fn ask_slot<V: SharedVolumes>(
+fn ask_slot<V: Volumes, S: SharedReads<V>>(
     slot: &Option<Session>,
-    pool: &V,
+    pool: &S,
     number: u8,
     piece: &[u8],
     out: &mut Answers,
 ) -> Option<Ran>
-    requires { IsReadySlot slot.now (V.view.outline pool.now) (V.view.more pool.now) }
+    requires { IsReadySlot slot.now (V.view.outline (S.of pool.now)) (V.view.more (S.of pool.now)) }
     ensures asked { (at : Sessions) → at number ≡ shown slot.now
-        → IfSome result (λ r. IsAskedStill V.view number piece.now at pool.now r.events r.bytes out.old out.new) }
+        → IfSome result (λ r. IsAskedStill V.view number piece.now at (S.of pool.now) r.events r.bytes out.old out.new) }
     ensures none { result ≡ None → IsWider out.old out.new }
 {
     match slot {
@@ -83,16 +83,16 @@ fn ask_slot<V: SharedVolumes>(
 }
 
 /// The session of a number does.
-pub fn ask_place<V: SharedVolumes>(
+pub fn ask_place<V: Volumes, S: SharedReads<V>>(
     sessions: &[Option<Session>; SESSIONS],
-    pool: &V,
+    pool: &S,
     number: u8,
     piece: &[u8],
     out: &mut Answers,
 ) -> Option<Ran>
-    requires serves { Serves (V.view.outline pool.now) (V.view.more pool.now) sessions.now }
+    requires serves { Serves (V.view.outline (S.of pool.now)) (V.view.more (S.of pool.now)) sessions.now }
     requires number { number < 64 }
-    ensures asked { IfSome result (λ r. IsAskedStill V.view number piece.now (sessions_of sessions.now) pool.now r.events r.bytes out.old out.new) }
+    ensures asked { IfSome result (λ r. IsAskedStill V.view number piece.now (sessions_of sessions.now) (S.of pool.now) r.events r.bytes out.old out.new) }
     ensures none { result ≡ None → IsWider out.old out.new }
 {
     ask_slot(&sessions[usize::from(number)], pool, number, piece, out)

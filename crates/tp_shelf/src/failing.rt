@@ -2,11 +2,14 @@
 
 ghost use Rattle.std.specs.Prelude.{◌≡◌, false, if◌then◌else◌, IfOk};
 ghost use Rattle.std.specs.FinMap.{empty};
+ghost use Rattle.tp_model.specs.Flushing.{IsFlushing};
 ghost use Rattle.tp_holders.specs.Holders.{holds_of};
 
 use arrayvec::ArrayVec;
 use tp_holders::{Holder, Holders, release};
-use tp_model::{DevId, Geometry, Mode, Refusal, SharedVolumes, Volumes};
+use tp_model::{
+    DevId, Flushing, Geometry, Mode, Refusal, SharedReads, SharedVolumes, Staged, Volumes,
+};
 use tp_msg::{LineBuffer, Managed};
 
 /// Volumes of every id, of a pool whose first flush is refused as damaged, by which it fails. Until then they may be held; nothing else of them is done, and
@@ -16,6 +19,8 @@ pub struct FailingShelf {
     geometry: Geometry,
     holders: Holders,
     has_failed: bool,
+    /// Behind how many parts a flush that is made in parts fails.
+    parts: u8,
 }
 
 impl FailingShelf {
@@ -124,6 +129,58 @@ impl SharedVolumes for FailingShelf {
     fn sync_ahead(&self) {}
 }
 
+/// Such volumes in the middle of a flush, which fails behind so many parts more.
+#[derive(Drop)]
+pub struct MidFailing {
+    shelf: FailingShelf,
+    left: u8,
+}
+
+impl SharedReads<FailingShelf> for MidFailing {
+    ghost of = { λ m. m.shelf };
+
+    fn read_beside(&self, _id: DevId, _sector: u64, _out: &mut [u8]) -> bool {
+        false
+    }
+
+    fn sync_beside(&self) {}
+}
+
+/// A flush with so many parts left before its last one.
+fn fail_on(shelf: FailingShelf, left: u8) -> Flushing<FailingShelf, MidFailing>
+    ensures { IsFlushing ⟦<FailingShelf as Volumes>⟧.view ⟦<MidFailing as SharedReads<FailingShelf>>⟧.of shelf result }
+{
+    if left > 0 {
+        return Flushing::Midway(MidFailing {
+            shelf,
+            left: left - 1,
+        });
+    }
+    let mut done = shelf;
+    let answer = done.flush();
+    Flushing::Done(done, answer)
+}
+
+impl Staged for FailingShelf {
+    type Midway = MidFailing;
+
+    fn begin_flush(self) -> Flushing<FailingShelf, MidFailing> {
+        let left = self.parts;
+        fail_on(self, left)
+    }
+
+    fn go_on(midway: MidFailing) -> Flushing<FailingShelf, MidFailing> {
+        let MidFailing { shelf, left } = midway;
+        fail_on(shelf, left)
+    }
+
+    fn end_flush(midway: MidFailing) -> (FailingShelf, Result<(), Refusal>) {
+        let MidFailing { mut shelf, left: _ } = midway;
+        let answer = shelf.flush();
+        (shelf, answer)
+    }
+}
+
 impl Managed for FailingShelf {
     fn create_thin(&mut self, _id: DevId) -> Result<(), Refusal> {
         Err(self.reason(Refusal::TooManyDevices))
@@ -162,6 +219,16 @@ impl Managed for FailingShelf {
     }
 }
 
+/// A pool that nobody uses yet, whose flush fails behind so many parts where it is made in parts.
+pub fn failing_in_part(parts: u8) -> Result<FailingShelf, Refusal>
+    ensures holds { IfOk result (λ s. holds_of s.holders.items ≡ empty) }
+    ensures works { IfOk result (λ s. s.has_failed ≡ false) }
+{
+    let mut shelf = failing_shelf()?;
+    shelf.parts = parts;
+    Ok(shelf)
+}
+
 /// A pool that nobody uses yet.
 pub fn failing_shelf() -> Result<FailingShelf, Refusal>
     ensures holds { IfOk result (λ s. holds_of s.holders.items ≡ empty) }
@@ -172,5 +239,6 @@ pub fn failing_shelf() -> Result<FailingShelf, Refusal>
         geometry,
         holders: ArrayVec::new(),
         has_failed: false,
+        parts: 0,
     })
 }

@@ -3,6 +3,7 @@
 
 mod failing;
 mod shelf;
+mod stages;
 
-pub use failing::{FailingShelf, failing_shelf};
-pub use shelf::{Shelf, blank_shelf, shelf_of_readers, wide_shelf};
+pub use failing::{FailingShelf, MidFailing, failing_in_part, failing_shelf};
+pub use shelf::{MidShelf, Shelf, blank_shelf, shelf_of_readers, staged_shelf, wide_shelf};

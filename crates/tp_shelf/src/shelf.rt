@@ -2,15 +2,19 @@
 
 ghost use Rattle.std.specs.Prelude.{◌≡◌, IfOk, length};
 ghost use Rattle.std.specs.FinMap.{empty};
+ghost use Rattle.tp_model.specs.Flushing.{IsFlushing};
 ghost use Rattle.tp_holders.specs.Holders.{holds_of};
 
+use crate::stages::Stages;
 use arrayvec::ArrayVec;
 use std::alloc::{AllocError, Global};
 use std::sync::atomic::{AtomicBool, AtomicU64, Ordering};
 use std::thread;
 use tp_holders::{Holder, Holders, release};
 use tp_hub::{Log, Made};
-use tp_model::{DevId, Geometry, Mode, Refusal, SharedVolumes, Volumes};
+use tp_model::{
+    DevId, Flushing, Geometry, Mode, Refusal, SharedReads, SharedVolumes, Staged, Volumes,
+};
 use tp_msg::{LineBuffer, Managed, PoolStatus, VolumeStatus, print_status, print_thin};
 
 /// The bytes of a block of 128 sectors.
@@ -71,6 +75,7 @@ pub struct Shelf {
     bytes: Vec<u8>,
     /// How many trims and zeroings were made.
     cleared: u64,
+    stages: Stages,
 }
 
 /// So many zero bytes.
@@ -96,6 +101,7 @@ impl Shelf {
             holders: ArrayVec::new(),
             bytes,
             cleared: 0,
+            stages: Stages::of(0, false),
         }
     }
 
@@ -119,6 +125,11 @@ impl Shelf {
     /// How many trims and zeroings were made.
     pub fn cleared(&self) -> u64 {
         self.cleared
+    }
+
+    /// How many syncs there were between parts of flushes, how many shared reads came to one, and whether one waited in vain.
+    pub fn synced(&self) -> (u64, u64, bool) {
+        self.stages.told()
     }
 
     /// Where a sector of a volume stands.
@@ -262,6 +273,62 @@ impl SharedVolumes for Shelf {
     }
 }
 
+/// A shelf in the middle of a flush, of which so many parts are left before the last one.
+#[derive(Drop)]
+pub struct MidShelf {
+    shelf: Shelf,
+    left: u8,
+}
+
+impl SharedReads<Shelf> for MidShelf {
+    ghost of = { λ m. m.shelf };
+
+    fn read_beside(&self, id: DevId, sector: u64, out: &mut [u8]) -> bool {
+        self.shelf.stages.read();
+        copy_out(&self.shelf.bytes, self.shelf.place(id, sector), out);
+        true
+    }
+
+    fn sync_beside(&self) {
+        self.shelf.stages.sync();
+    }
+}
+
+/// A flush with so many parts left before its last one.
+fn flush_on(shelf: Shelf, left: u8) -> Flushing<Shelf, MidShelf>
+    ensures { IsFlushing ⟦<Shelf as Volumes>⟧.view ⟦<MidShelf as SharedReads<Shelf>>⟧.of shelf result }
+{
+    if left > 0 {
+        return Flushing::Midway(MidShelf {
+            shelf,
+            left: left - 1,
+        });
+    }
+    let mut done = shelf;
+    let answer = done.flush();
+    Flushing::Done(done, answer)
+}
+
+impl Staged for Shelf {
+    type Midway = MidShelf;
+
+    fn begin_flush(self) -> Flushing<Shelf, MidShelf> {
+        let left = self.stages.parts;
+        flush_on(self, left)
+    }
+
+    fn go_on(midway: MidShelf) -> Flushing<Shelf, MidShelf> {
+        let MidShelf { shelf, left } = midway;
+        flush_on(shelf, left)
+    }
+
+    fn end_flush(midway: MidShelf) -> (Shelf, Result<(), Refusal>) {
+        let MidShelf { mut shelf, left: _ } = midway;
+        let answer = shelf.flush();
+        (shelf, answer)
+    }
+}
+
 impl Managed for Shelf {
     fn create_thin(&mut self, id: DevId) -> Result<(), Refusal> {
         if id.number() < 2 {
@@ -368,6 +435,16 @@ pub fn shelf_of_readers(alloc: Global, readers: u64) -> Result<Shelf, Refusal>
     ensures { IfOk result (λ s. holds_of s.holders.items ≡ empty) }
 {
     shelf_of(alloc, BLOCKS, readers)
+}
+
+/// Two volumes of zeros, of 1 MiB each, whose flushes have so many parts before the last one. With `waits` each sync between two stays until a shared read has come
+/// to it.
+pub fn staged_shelf(alloc: Global, parts: u8, waits: bool) -> Result<Shelf, Refusal>
+    ensures { IfOk result (λ s. holds_of s.holders.items ≡ empty) }
+{
+    let mut shelf = shelf_of(alloc, BLOCKS, 0)?;
+    shelf.stages = Stages::of(parts, waits);
+    Ok(shelf)
 }
 
 /// Two volumes of so many blocks, whose shared reads each wait until so many have come.

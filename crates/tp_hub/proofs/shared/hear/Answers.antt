@@ -6,19 +6,19 @@ use Rattle.tp_hub.proofs.Hearing.{hears_more, hears_none, hears_wide, left_some}
 use Rattle.tp_hub.proofs.shared.hear.Goals as goal
 
 pub loop-at-init : goal.loop-at-init
-loop-at-init g c = record { in_range = omega arith; hears = hears_none g.V.Volumes.view c.args.number c.args.session.now c.args.pool.now c.args.piece.now c.args.out.now }
+loop-at-init g c = record { in_range = omega arith; hears = hears_none g.V.Volumes.view c.args.number c.args.session.now (g.S.SharedReads.of c.args.pool.now) c.args.piece.now c.args.out.now }
 
 pub returns-then-is_err-clause-hears : goal.returns-then-is_err-clause-hears
 returns-then-is_err-clause-hears g c =
     let s = c.args.session.now in
-    let p = c.args.pool.now in
+    let p = g.S.SharedReads.of c.args.pool.now in
     hears_wide g.V.Volumes.view c.args.number s s p p (take c.loop-at.at c.args.piece.now) c.args.out.now c.loop-at.out c.make_room.new.self c.loop-at.invariant.hears c.make_room.ensures.list c.make_room.ensures.room c.make_room.ensures.marks
 
 pub returns-in-None-clause-hears : goal.returns-in-None-clause-hears
 returns-in-None-clause-hears g c =
     let view = g.V.Volumes.view in
     let s = c.args.session.now in
-    let p = c.args.pool.now in
+    let p = g.S.SharedReads.of c.args.pool.now in
     let text = take c.loop-at.at c.args.piece.now in
     subst (λ (t : Told). HearsAnywhere view c.args.number s p text c.args.out.now t s p) (sym (c.read_shared.ensures.none c.in-None.is))
     (hears_wide view c.args.number s s p p text c.args.out.now c.loop-at.out c.make_room.new.self c.loop-at.invariant.hears c.make_room.ensures.list c.make_room.ensures.room c.make_room.ensures.marks)
@@ -26,7 +26,7 @@ returns-in-None-clause-hears g c =
 pub loop-at-preserved : goal.loop-at-preserved
 loop-at-preserved g c =
     let s = c.args.session.now in
-    let p = c.args.pool.now in
+    let p = g.S.SharedReads.of c.args.pool.now in
     let piece = c.args.piece.now in
     let e = c.in-Some.ensures.read in
     let rest_is = take_rest piece c.loop-at.at in

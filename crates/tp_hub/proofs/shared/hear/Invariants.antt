@@ -7,7 +7,7 @@ invariant-loop-at g l =
     let view = g.V.Volumes.view in
     record {
       in_range : l.at ≤ length l.piece;
-      hears : HearsAnywhere view l.fn.number l.fn.session l.fn.pool (take l.at l.piece) l.fn.out l.out l.fn.session l.fn.pool;
+      hears : HearsAnywhere view l.fn.number l.fn.session (g.S.SharedReads.of l.fn.pool) (take l.at l.piece) l.fn.out l.out l.fn.session (g.S.SharedReads.of l.fn.pool);
     }
 
 abbrev pub decreases-loop-at : goal.decreases-loop-at

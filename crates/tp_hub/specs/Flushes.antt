@@ -1,0 +1,25 @@
+-- Trusted reading: a flush that a hub makes unasked, in parts (own).
+use Rattle.std.specs.Prelude.{◌≡◌, [], ◌∷◌, Err, Ok, Result}
+use Rattle.tp_model.specs.declared.refusal.Refusal.{Refusal}
+use Rattle.tp_model.specs.declared.volumes.Flushing.{Flushing}
+use Rattle.tp_model.specs.declared.volumes.Flushing.TheVariants as flushing
+use Rattle.tp_model.specs.Clauses.{View}
+use Rattle.tp_hub.specs.Told.{Accepts, Answer, Refuses}
+use Rattle.tp_hub.specs.Runs.{AsksFlush}
+use Rattle.tp_hub.specs.Serve.{HubRuns}
+use Rattle.tp_hub.specs.Serving.{HubState}
+
+-- what would be told of it
+abbrev pub flush_told : Result (Unit {0}) Refusal → Answer
+flush_told (Ok done) = Accepts
+flush_told (Err reason) = Refuses reason
+
+module _ {D : Type 0} (view : View D) where
+  -- One run of the hub by a flush, of which nobody is told.
+  abbrev pub IsHubFlushed : HubState D → HubState D → Result (Unit {0}) Refusal → Type 0
+  IsHubFlushed old new result = HubRuns view old (AsksFlush ∷ []) (flush_told result ∷ []) new
+
+  -- It is done; or parts of it are left, and then the hub is, for its READs, still the one before it.
+  abbrev pub IsHubFlushing : HubState D → Flushing (HubState D) (HubState D) → Type 0
+  IsHubFlushing old (flushing.Done new result) = IsHubFlushed old new result
+  IsHubFlushing old (flushing.Midway mid) = mid ≡ old
