@@ -1,8 +1,10 @@
 -- Lines that are answered by those who serve.
-use Rattle.std.proofs.Common.{◌≡◌, ℕ, zero, suc, ◌≤◌, List, [], ◌∷◌, inl, inr, refl, ap, arith}
+use Rattle.std.proofs.Common.{◌≡◌, ◌∙◌, ℕ, zero, suc, ◌≤◌, true, List, [], ◌∷◌, inl, inr, refl, ap, append-nil, sym, arith}
+use Rattle.std.specs.Prelude.{Err, IsOk, Ok, Result, is_err}
+use Rattle.std.proofs.lemmas.Bool.{true≢false}
 use Rattle.tp_model.specs.Clauses.{View}
 use Rattle.tp_hub.specs.declared.seat.Seat.{Seat}
-use Rattle.tp_hub.specs.Told.{Answer, Told}
+use Rattle.tp_hub.specs.Told.{Answer, HasRoom, Told}
 use Rattle.tp_hub.specs.Runs.{AsksFlush, Orders}
 use Rattle.tp_hub.specs.Desks.{IsAsked}
 use Rattle.tp_hub.specs.Serving.{Slots}
@@ -22,6 +24,19 @@ clients_told line slots seats before mid after are same room marks (answer, grow
   cut = (refl, refl);
   silent = λ none nothing. absurd (omega (arith, none));
   begun = λ fits. omega arith;
+}
+
+-- there was no memory for an answer
+pub nothing_told : {A E : Type 0} (line : List ℕ) (Are : List Answer → Type 0) (before mid : Told) (made : Result A E) → is_err made ≡ true → mid.list ≡ before.list → before.room ≤ mid.room → before.marks ≤ mid.marks → (HasRoom before → IsOk made)
+    → IsAsked (λ took answers. TellsSo line Are took answers) (Orders line) 0 0 before mid
+nothing_told line Are before mid (Ok done) err same room marks there = absurd (true≢false (sym err))
+nothing_told line Are before mid (Err e) err same room marks there = record {
+  answers = [];
+  did = inl (refl, refl);
+  adds = record { list = same ∙ sym (append-nil before.list); room = room; marks = marks };
+  cut = refl;
+  silent = λ none nothing. refl;
+  begun = λ fits. absurd (true≢false (sym (there fits)));
 }
 
 module _ {D : Type 0} (view : View D) (line : List ℕ) where

@@ -1,5 +1,6 @@
 mod Locking
 mod Going
+mod Keeping
 mod Framing
 mod Controlling
 mod Counting

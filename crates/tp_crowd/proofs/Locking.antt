@@ -30,10 +30,6 @@ at_once view event events bytes before after asked = record {
   begun = asked.begun;
 }
 
-pub some_runs : {D : Type 0} (view : View D) (at at' : Sessions) (p p' : D) (event : Incoming) (events bytes : ℕ) (before after : Told) → IsAsked (λ took answers. RunsSo view at p took answers at' p') event events bytes before after
-    → IsAsked (λ took answers. SomeRuns view took answers) event events bytes before after
-some_runs view at at' p p' event events bytes before after asked = at_once view event events bytes before after (some_run view at at' p p' event events bytes before after asked)
-
 -- ---- parts of a long request
 
 all_behind : (xs : List (List Answer)) (a : List Answer) → all_of (xs ++ a ∷ []) ≡ all_of xs ++ a

@@ -21,7 +21,7 @@ use std::time::{Clock, Duration};
 use std::{io, thread};
 use tp_hub::{Hub, Log, Made, Put, Received, Stream};
 use tp_lines::{LinesEnd, attend_lines};
-use tp_model::SharedVolumes;
+use tp_model::Staged;
 use tp_msg::Managed;
 
 /// A control client that takes no byte of an answer for so many milliseconds is dropped.
@@ -46,7 +46,8 @@ pub fn serve_listener_with_control<R, V, A>(
 ) -> Served<V>
 where
     R: Threads + Wait + Clock + Sync,
-    V: Managed + SharedVolumes + Send + Sync,
+    V: Managed + Staged + Send + Sync,
+    V::Midway: Send + Sync,
     A: Alarm<V> + Sync,
     ensures asked { CameOf V.view hub result.hub }
     ensures came { result.came ≤ 64 }
@@ -68,7 +69,8 @@ fn serve_since<R, V, A, K>(
 ) -> Served<V>
 where
     R: Threads + Wait + Clock + Sync,
-    V: Managed + SharedVolumes + Send + Sync,
+    V: Managed + Staged + Send + Sync,
+    V::Midway: Send + Sync,
     A: Alarm<V> + Sync,
     K: Start<V> + Send + Sync,
     requires { K.is_start hub }
@@ -95,7 +97,8 @@ fn attend_both<R, V, A, K, I>(
 ) -> u8
 where
     R: Threads + Wait + Clock + Sync,
-    V: Managed + SharedVolumes + Send + Sync,
+    V: Managed + Staged + Send + Sync,
+    V::Midway: Send + Sync,
     A: Alarm<V> + Sync,
     K: Start<V> + Send + Sync,
     I: Iterator<Item = TcpStream> + Drop,
@@ -132,7 +135,7 @@ fn attend_control<R, V, A, K>(
 )
 where
     R: Wait + Clock,
-    V: Managed + SharedVolumes,
+    V: Managed + Staged,
     A: Alarm<V>,
     K: Start<V>,
 {
@@ -183,7 +186,7 @@ fn attend_stream<R, V, A, K>(
 )
 where
     R: Wait,
-    V: Managed + SharedVolumes,
+    V: Managed + Staged,
     A: Alarm<V>,
     K: Start<V>,
 {
@@ -204,7 +207,7 @@ fn answer_lines<R, V, A, K, S>(
 ) -> LinesEnd
 where
     R: Wait,
-    V: Managed + SharedVolumes,
+    V: Managed + Staged,
     A: Alarm<V>,
     K: Start<V>,
     S: Stream,

@@ -16,7 +16,7 @@ use std::sync::atomic::{AtomicBool, Ordering};
 use std::thread;
 use std::thread::Threads;
 use tp_hub::{Answers, Carried, Desk, Hub, Stream, carry};
-use tp_model::{SharedVolumes, Volumes};
+use tp_model::{Staged, Volumes};
 use tp_msg::Managed;
 
 /// At most so many clients are taken.
@@ -42,9 +42,9 @@ pub struct Served<V: Volumes> {
 /// whose session is open when it comes, which does not count as refused. When the pool has failed, the alarm sounds once.
 ///
 /// Each ask is one [`Hub::run`], made while the lock is held, or READs of [`Hub::ask_shared`], which change nothing, made while it is shared; and nothing else is
-/// done to the hub. So the hub that is given back came of the one that was given by runs one behind the other (`asked`), in the order in which the lock was had;
-/// READs that shared it may stand anywhere. Which of these runs were a client's, and so that it is told what they answered and no more is done than it asked
-/// for, no clause says, nor that every client that came is served.
+/// done to the hub but flushes that nobody asked for ([`Hub::begin_flush`]), each of which is one run too. So the hub that is given back came of the one that was
+/// given by runs one behind the other (`asked`), in the order in which the lock was had; READs that shared it may stand anywhere. Which of these runs were a
+/// client's, and so that it is told what they answered and no more is done than it asked for, no clause says, nor that every client that came is served.
 pub fn serve_all<R, V, S, I, A>(
     rt: &R,
     alloc: Global,
@@ -54,7 +54,8 @@ pub fn serve_all<R, V, S, I, A>(
 ) -> Served<V>
 where
     R: Threads + Wait + Sync,
-    V: Managed + SharedVolumes + Send + Sync,
+    V: Managed + Staged + Send + Sync,
+    V::Midway: Send + Sync,
     S: Stream + Send + Drop,
     I: Iterator<Item = S> + Drop,
     A: Alarm<V> + Sync,
@@ -78,7 +79,8 @@ fn serve_since<R, V, S, I, A, K>(
 ) -> Served<V>
 where
     R: Threads + Wait + Sync,
-    V: Managed + SharedVolumes + Send + Sync,
+    V: Managed + Staged + Send + Sync,
+    V::Midway: Send + Sync,
     S: Stream + Send + Drop,
     I: Iterator<Item = S> + Drop,
     A: Alarm<V> + Sync,
@@ -111,7 +113,7 @@ pub(crate) trait Attend<C> {
 
 /// Carries streams over a hub behind a lock.
 #[derive(Drop)]
-struct Streams<'m, R: Wait, V: Volumes, A: Alarm<V>, K: Start<V>> {
+struct Streams<'m, R: Wait, V: Staged, A: Alarm<V>, K: Start<V>> {
     rt: &'m R,
     alloc: Global,
     hub: &'m HubLock<'m, V, A, K>,
@@ -120,7 +122,7 @@ struct Streams<'m, R: Wait, V: Volumes, A: Alarm<V>, K: Start<V>> {
 impl<'m, R, V, A, K, S> Attend<S> for Streams<'m, R, V, A, K>
 where
     R: Wait,
-    V: Managed + SharedVolumes,
+    V: Managed + Staged,
     A: Alarm<V>,
     K: Start<V>,
     S: Stream + Drop,
@@ -189,7 +191,7 @@ pub(crate) fn carry_stream<R, V, A, K, S>(
 ) -> bool
 where
     R: Wait,
-    V: Managed + SharedVolumes,
+    V: Managed + Staged,
     A: Alarm<V>,
     K: Start<V>,
     S: Stream,
@@ -222,7 +224,7 @@ pub(crate) fn carry_over<D: Desk, S: Stream>(
 }
 
 /// What is left behind so many clients, all of which are gone.
-pub(crate) fn behind_all<V: Volumes, A: Alarm<V>, K: Start<V>>(
+pub(crate) fn behind_all<V: Staged, A: Alarm<V>, K: Start<V>>(
     hub: HubLock<'_, V, A, K>,
     refused: &[bool; 64],
     came: u8,

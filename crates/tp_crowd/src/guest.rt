@@ -12,7 +12,7 @@ use std::sync::Wait;
 use std::sync::atomic::{AtomicBool, Ordering};
 use std::thread::Threads;
 use tp_hub::{Answers, Desk, Event, Log, Made, Put, Ran, Received, Seat, Stream};
-use tp_model::{DevId, SharedVolumes, Volumes};
+use tp_model::{DevId, Staged};
 use tp_msg::Managed;
 
 /// A [`Socket`] that is at its end once a flag is set: all that was read of it is told, and so answered, and no more is read.
@@ -122,7 +122,7 @@ impl<'c, R: Threads> Stream for Guest<'c, R> {
 
 /// A desk for one client that sees which volume it has.
 #[derive(Drop)]
-pub(crate) struct GuestDesk<'m, R: Wait, V: Volumes, A: Alarm<V>, K: Start<V>> {
+pub(crate) struct GuestDesk<'m, R: Wait, V: Staged, A: Alarm<V>, K: Start<V>> {
     pub(crate) desk: LockedDesk<'m, R, V, A, K>,
     /// The number of its session.
     pub(crate) number: u8,
@@ -131,7 +131,7 @@ pub(crate) struct GuestDesk<'m, R: Wait, V: Volumes, A: Alarm<V>, K: Start<V>> {
 }
 
 /// The volume that the session of this number has, if it has one.
-fn volume_of<R: Wait, V: Volumes, A: Alarm<V>, K: Start<V>>(
+fn volume_of<R: Wait, V: Staged, A: Alarm<V>, K: Start<V>>(
     desk: &LockedDesk<'_, R, V, A, K>,
     number: u8,
 ) -> Option<DevId>
@@ -146,7 +146,7 @@ fn volume_of<R: Wait, V: Volumes, A: Alarm<V>, K: Start<V>>(
 impl<'m, R, V, A, K> Desk for GuestDesk<'m, R, V, A, K>
 where
     R: Wait,
-    V: Managed + SharedVolumes,
+    V: Managed + Staged,
     A: Alarm<V>,
     K: Start<V>,
 {

@@ -21,6 +21,7 @@ mod gate;
 mod guest;
 mod listening;
 mod locked;
+mod midway;
 mod order;
 mod pause;
 mod polled;

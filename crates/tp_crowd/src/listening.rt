@@ -19,7 +19,7 @@ use std::sync::Wait;
 use std::thread;
 use std::thread::Threads;
 use tp_hub::Hub;
-use tp_model::{SharedVolumes, Volumes};
+use tp_model::Staged;
 use tp_msg::Managed;
 
 /// Clients as a listener accepts them, up to a number of them. An accept that fails ends them. The listener is closed with it.
@@ -68,14 +68,14 @@ impl Iterator for Accepted {
 
 /// Carries TCP streams over a hub behind a lock.
 #[derive(Drop)]
-struct Sockets<'m, R: Threads + Wait, V: Volumes, A: Alarm<V>, K: Start<V>> {
+struct Sockets<'m, R: Threads + Wait, V: Staged, A: Alarm<V>, K: Start<V>> {
     rt: &'m R,
     alloc: Global,
     hub: &'m HubLock<'m, V, A, K>,
     crew: Crew,
 }
 
-impl<'m, R: Threads + Wait, V: Volumes, A: Alarm<V>, K: Start<V>> Sockets<'m, R, V, A, K> {
+impl<'m, R: Threads + Wait, V: Staged, A: Alarm<V>, K: Start<V>> Sockets<'m, R, V, A, K> {
     /// Where it is not known how many processors there are, there is one.
     fn new(rt: &'m R, alloc: Global, hub: &'m HubLock<'m, V, A, K>) -> Sockets<'m, R, V, A, K> {
         let processors = thread::available_parallelism(rt).map_or(1, |count| count.get());
@@ -91,7 +91,7 @@ impl<'m, R: Threads + Wait, V: Volumes, A: Alarm<V>, K: Start<V>> Sockets<'m, R,
 impl<'m, R, V, A, K> Attend<TcpStream> for Sockets<'m, R, V, A, K>
 where
     R: Threads + Wait,
-    V: Managed + SharedVolumes,
+    V: Managed + Staged,
     A: Alarm<V>,
     K: Start<V>,
 {
@@ -120,7 +120,8 @@ pub(crate) fn attend_streams<'m, R, V, A, K, I>(
 ) -> u8
 where
     R: Threads + Wait + Sync,
-    V: Managed + SharedVolumes + Send + Sync,
+    V: Managed + Staged + Send + Sync,
+    V::Midway: Send + Sync,
     A: Alarm<V> + Sync,
     K: Start<V> + Send + Sync,
     I: Iterator<Item = TcpStream> + Drop,
@@ -146,7 +147,8 @@ pub fn serve_listener<R, V, A>(
 ) -> Served<V>
 where
     R: Threads + Wait + Sync,
-    V: Managed + SharedVolumes + Send + Sync,
+    V: Managed + Staged + Send + Sync,
+    V::Midway: Send + Sync,
     A: Alarm<V> + Sync,
     ensures asked { CameOf V.view hub result.hub }
     ensures came { result.came ≤ 64 }
@@ -167,7 +169,8 @@ fn serve_since<R, V, A, K>(
 ) -> Served<V>
 where
     R: Threads + Wait + Sync,
-    V: Managed + SharedVolumes + Send + Sync,
+    V: Managed + Staged + Send + Sync,
+    V::Midway: Send + Sync,
     A: Alarm<V> + Sync,
     K: Start<V> + Send + Sync,
     requires { K.is_start hub }

@@ -6,11 +6,14 @@ ghost use Rattle.tp_hub.specs.Runs.{Brings, incoming, session_of};
 ghost use Rattle.tp_hub.specs.Desks.{IsAsked};
 ghost use Rattle.tp_hub.specs.Places.{IsWider};
 ghost use Rattle.tp_hub.specs.Serve.{HubRuns};
-ghost use Rattle.tp_hub.specs.Serving.{Slots};
+ghost use Rattle.tp_hub.specs.Serving.{HubState, Slots};
 ghost use Rattle.tp_crowd.specs.Census.{AreSeats};
 ghost use Rattle.tp_crowd.specs.Framing.{IsRead};
 ghost use Rattle.tp_crowd.specs.Locked.{IsFrom, MakesParts, SomeRun, SomeRuns};
+ghost use Rattle.tp_crowd.specs.declared.midway.Stage.TheVariants.{Whole};
+ghost use Rattle.tp_crowd.specs.Stages.{IsEnded, slots_of};
 
+use crate::midway::{Guarded, Stage};
 use crate::order::{Order, Purpose};
 use crate::since::{Since, Start};
 use crate::turns::{is_to_keep, turn_len};
@@ -20,7 +23,7 @@ use std::sync::atomic::{AtomicBool, AtomicU64, Ordering};
 use std::sync::{MutexGuard, RwLock, RwLockReadGuard, RwLockWriteGuard, Wait};
 use std::thread;
 use tp_hub::{Answers, Desk, Event, Hub, Ran, SESSIONS, Seat};
-use tp_model::{Mode, SharedVolumes, Volumes};
+use tp_model::{Mode, Staged, Volumes};
 use tp_msg::Managed;
 
 /// More parts than a request has: each but the first and the last has 513 KiB at least, and a request has less than 4 GiB.
@@ -37,7 +40,7 @@ pub trait Alarm<V> {
     /// Why a pool has failed, as far as it tells.
     type Cause;
 
-    /// Looks it up, while others may look at the pool too, and nobody changes it.
+    /// Looks it up, while nobody changes the pool.
     fn cause(&self, pool: &V) -> Self::Cause;
 
     /// Told once, when the pool has failed: by the thread of which an ask found it so, before what was asked is answered, and while it has no lock.
@@ -49,11 +52,14 @@ pub trait Alarm<V> {
 /// Who wants the hub alone has its turn first, one behind another: READs come between two of them, and go on while the one whose turn it is waits for the
 /// device.
 ///
+/// Who is to keep what was written has the hub make a flush before, in parts, that nobody asked for: READs go on while the device brings what a part wrote, and
+/// behind it what is kept has nothing to wait for.
+///
 /// What is known of the hub each time that somebody has it: it came of the one that was put behind the lock, of which `K` says which it was, by asks one
-/// behind another.
+/// behind another, of which those flushes are some.
 #[derive(Drop)]
-pub struct HubLock<'a, V: Volumes, A: Alarm<V>, K: Start<V>> {
-    hub: RwLock<Since<V, K>>,
+pub struct HubLock<'a, V: Staged, A: Alarm<V>, K: Start<V>> {
+    hub: RwLock<Guarded<V, K>>,
     order: Order,
     /// How many READs wait for the hub.
     waiting: AtomicU64,
@@ -61,8 +67,8 @@ pub struct HubLock<'a, V: Volumes, A: Alarm<V>, K: Start<V>> {
     has_sounded: AtomicBool,
 }
 
-impl<'a, V: Volumes, A: Alarm<V>, K: Start<V>> HubLock<'a, V, A, K> {
-    ghost use Rattle.std.specs.Prelude.{◌≡◌, ◌<◌};
+impl<'a, V: Staged, A: Alarm<V>, K: Start<V>> HubLock<'a, V, A, K> {
+    ghost use Rattle.std.specs.Prelude.{◌≡◌, ◌<◌, IfSome, true};
     ghost use Rattle.tp_hub.specs.Seats.{seat_at};
     ghost use Rattle.tp_hub.specs.Serving.{Slots};
     ghost use Rattle.tp_crowd.specs.Census.{AreSeats};
@@ -73,7 +79,7 @@ impl<'a, V: Volumes, A: Alarm<V>, K: Start<V>> HubLock<'a, V, A, K> {
         requires { K.is_start hub }
     {
         HubLock {
-            hub: RwLock::new(Since::new(hub)),
+            hub: RwLock::new(Guarded::of(Since::new(hub))),
             order: Order::new(),
             waiting: AtomicU64::new(0),
             alarm,
@@ -100,21 +106,26 @@ impl<'a, V: Volumes, A: Alarm<V>, K: Start<V>> HubLock<'a, V, A, K> {
         self.alarm
     }
 
-    /// Why its pool has failed.
-    fn cause<R: Wait>(&self, rt: &R) -> A::Cause {
-        let hub = self.shared(rt);
-        self.alarm.cause(hub.pool())
+    /// Why the pool of a hub that one has alone has failed, where it has, and the alarm has not sounded: it is to be told.
+    fn cause(&self, hub: &Since<V, K>, is_failed: bool) -> Option<A::Cause>
+        ensures { IfSome result (λ cause. is_failed ≡ true) }
+    {
+        if is_failed && !self.has_sounded.swap(true, Ordering::SeqCst) {
+            return Some(self.alarm.cause(hub.pool()));
+        }
+        None
     }
 
-    /// Sounds the alarm, unless it has sounded.
-    fn sound<R: Wait>(&self, rt: &R) {
-        if !self.has_sounded.swap(true, Ordering::SeqCst) {
-            self.alarm.pool_failed(self.cause(rt));
+    /// Sounds the alarm where there is a cause.
+    fn sound(&self, cause: Option<A::Cause>) {
+        match cause {
+            Some(cause) => self.alarm.pool_failed(cause),
+            None => {}
         }
     }
 
     /// The hub, shared.
-    fn shared<R: Wait>(&self, rt: &R) -> RwLockReadGuard<'_, Since<V, K>> {
+    fn shared<R: Wait>(&self, rt: &R) -> RwLockReadGuard<'_, Guarded<V, K>> {
         if let Some(guard) = self.hub.try_read() {
             return guard;
         }
@@ -155,7 +166,7 @@ impl<'a, V: Volumes, A: Alarm<V>, K: Start<V>> HubLock<'a, V, A, K> {
         &self,
         rt: &R,
         _turn: &MutexGuard<'_, ()>,
-    ) -> RwLockWriteGuard<'_, Since<V, K>> {
+    ) -> RwLockWriteGuard<'_, Guarded<V, K>> {
         self.let_reads_go();
         for _ in 0..TRIES_BETWEEN_READS {
             if let Some(guard) = self.hub.try_write() {
@@ -167,10 +178,47 @@ impl<'a, V: Volumes, A: Alarm<V>, K: Start<V>> HubLock<'a, V, A, K> {
     }
 }
 
-impl<'a, V: SharedVolumes, A: Alarm<V>, K: Start<V>> HubLock<'a, V, A, K> {
+impl<'a, V: Staged, A: Alarm<V>, K: Start<V>> HubLock<'a, V, A, K> {
     /// Brings to the device what was written so far, while READs go on. All others wait for their turn meanwhile, so nothing is written.
     fn sync_ahead<R: Wait>(&self, rt: &R, _turn: &MutexGuard<'_, ()>) {
         self.shared(rt).sync_ahead();
+    }
+
+    /// The hub alone, in one's turn, where a flush was made before that nobody asked for, so that what is kept then has nothing to wait for. READs go on while
+    /// the device brings what each part of it wrote.
+    fn alone_behind_flush<R: Wait>(
+        &self,
+        rt: &R,
+        turn: &MutexGuard<'_, ()>,
+    ) -> RwLockWriteGuard<'_, Guarded<V, K>> {
+        self.sync_ahead(rt, turn);
+        let mut begun = self.alone(rt, turn);
+        if !begun.begin_flush() {
+            return begun;
+        }
+        drop(begun);
+        self.sync_ahead(rt, turn);
+        let mut behind = self.alone(rt, turn);
+        if !behind.go_on() {
+            return behind;
+        }
+        drop(behind);
+        self.sync_ahead(rt, turn);
+        self.alone(rt, turn)
+    }
+
+    /// The hub alone, in one's turn, for what is to be kept where anything was written since that was done last, or for anything else.
+    fn alone_for<R: Wait>(
+        &self,
+        rt: &R,
+        is_to_flush: bool,
+        turn: &MutexGuard<'_, ()>,
+    ) -> RwLockWriteGuard<'_, Guarded<V, K>> {
+        if is_to_flush {
+            self.alone_behind_flush(rt, turn)
+        } else {
+            self.alone(rt, turn)
+        }
     }
 }
 
@@ -185,15 +233,15 @@ impl<'a, V: SharedVolumes, A: Alarm<V>, K: Start<V>> HubLock<'a, V, A, K> {
 /// Others ask the same hub in between, so an ask is known here to be a run of some sessions over some pool, and not of which. That it is one of those by
 /// which the hub behind the lock came of the one that was put there the lock knows; which of them, no clause says.
 #[derive(Drop)]
-pub struct LockedDesk<'m, R: Wait, V: Volumes, A: Alarm<V>, K: Start<V>> {
+pub struct LockedDesk<'m, R: Wait, V: Staged, A: Alarm<V>, K: Start<V>> {
     pub rt: &'m R,
     pub alloc: Global,
     pub hub: &'m HubLock<'m, V, A, K>,
 }
 
-/// Who is at each number of a hub.
-fn seats_of<V: Volumes, K: Start<V>>(hub: &Since<V, K>) -> [Seat; SESSIONS]
-    ensures { AreSeats hub.now.slots result }
+/// Who is at each number of a hub, also between two parts of a flush.
+fn seats_of<V: Staged, K: Start<V>>(hub: &Guarded<V, K>) -> [Seat; SESSIONS]
+    ensures { AreSeats (slots_of hub.now.stage) result }
 {
     let mut seats = [Seat::Free; SESSIONS];
     for number in 0..64u8 {
@@ -252,6 +300,29 @@ fn ask_and_look<V: Managed, K: Start<V>>(
     }
 }
 
+/// The same of what stands behind the lock, behind what is left of a flush, and why its pool has failed, where the alarm is to sound.
+fn ask_behind<V: Managed + Staged, A: Alarm<V>, K: Start<V>>(
+    alloc: Global,
+    lock: &HubLock<'_, V, A, K>,
+    hub: &mut Guarded<V, K>,
+    event: Event<'_>,
+    out: &mut Answers,
+) -> (Seen, Option<A::Cause>)
+    requires { session_of event < 64 }
+    ensures asked { IsAsked (λ took answers. SomeRun V.view took answers) (incoming event.entry) result.0.ran.events result.0.ran.bytes out.old out.new }
+    ensures did { (old : HubState V) × (new : HubState V) × IsEnded V.view hub.old.stage (Whole old) × (hub.new.stage ≡ Whole new)
+        × IsAsked (λ took answers. HubRuns V.view old took answers new) (incoming event.entry) result.0.ran.events result.0.ran.bytes out.old out.new }
+{
+    hub.end_flush();
+    match &mut hub.stage {
+        Stage::Whole(since) => {
+            let seen = ask_and_look(alloc, since, event, out);
+            (seen, lock.cause(since, seen.is_failed))
+        }
+        Stage::Midway(_) | Stage::Away => unreachable!(),
+    }
+}
+
 /// What an event wants the hub alone for, by its text alone: a message and a flush keep what was written, and so does a piece that begins with such a request.
 fn purpose_of(event: &Event<'_>) -> Purpose {
     match *event {
@@ -261,8 +332,8 @@ fn purpose_of(event: &Event<'_>) -> Purpose {
     }
 }
 
-/// Asks a hub behind a lock alone. What was written before is on the device already where the event is to keep it. The alarm sounds when the lock is let go.
-fn ask_alone<R: Wait, V: Managed + SharedVolumes, A: Alarm<V>, K: Start<V>>(
+/// Asks a hub behind a lock alone. What was written before is kept already where the event is to keep it. The alarm sounds when the lock is let go.
+fn ask_alone<R: Wait, V: Managed + Staged, A: Alarm<V>, K: Start<V>>(
     rt: &R,
     alloc: Global,
     hub: &HubLock<'_, V, A, K>,
@@ -275,29 +346,24 @@ fn ask_alone<R: Wait, V: Managed + SharedVolumes, A: Alarm<V>, K: Start<V>>(
     let purpose = purpose_of(&event);
     let turn = hub.order.turn(rt, purpose);
     let device = hub.order.begin(rt, purpose, &turn);
-    if purpose == Purpose::Keep {
-        hub.sync_ahead(rt, &turn);
-    }
-    let mut guard = hub.alone(rt, &turn);
-    let seen = ask_and_look(alloc, &mut guard, event, out);
+    let mut guard = hub.alone_for(rt, device.is_some(), &turn);
+    let (seen, cause) = ask_behind(alloc, hub, &mut guard, event, out);
     drop(guard);
     hub.order.end(purpose, &turn);
     drop(turn);
     drop(device);
-    if seen.is_failed {
-        hub.sound(rt);
-    }
+    hub.sound(cause);
     seen
 }
 
 /// Asks a hub for the READs with which an event begins, while others may do the same. None where it has to be asked alone.
-fn ask_beside_others<V: SharedVolumes, K: Start<V>>(
-    hub: &Since<V, K>,
+fn ask_beside_others<V: Staged, K: Start<V>>(
+    hub: &Guarded<V, K>,
     event: &Event<'_>,
     out: &mut Answers,
 ) -> Option<Ran>
     requires { session_of event.now < 64 }
-    ensures asked { IfSome result (λ ran. IsAsked (λ took answers. HubRuns V.view hub.now took answers hub.now) (incoming event.now) ran.events ran.bytes out.old out.new) }
+    ensures asked { IfSome result (λ ran. IsAsked (λ took answers. SomeRun V.view took answers) (incoming event.now) ran.events ran.bytes out.old out.new) }
     ensures none { result ≡ None → IsWider out.old out.new }
 {
     match *event {
@@ -317,7 +383,7 @@ fn is_read(event: &Event<'_>) -> bool
 }
 
 /// The same of a hub behind a lock, which is shared for the time of the ask, and is not taken where the event begins with no READ.
-fn ask_shared<R: Wait, V: SharedVolumes, A: Alarm<V>, K: Start<V>>(
+fn ask_shared<R: Wait, V: Staged, A: Alarm<V>, K: Start<V>>(
     rt: &R,
     hub: &HubLock<'_, V, A, K>,
     event: &Event<'_>,
@@ -335,7 +401,7 @@ fn ask_shared<R: Wait, V: SharedVolumes, A: Alarm<V>, K: Start<V>>(
 }
 
 /// Makes the parts of a long request of a session, where any are left, each in an ask of its own, so that others have the hub between two.
-fn make_parts<R: Wait, V: Managed + SharedVolumes, A: Alarm<V>, K: Start<V>>(
+fn make_parts<R: Wait, V: Managed + Staged, A: Alarm<V>, K: Start<V>>(
     rt: &R,
     alloc: Global,
     hub: &HubLock<'_, V, A, K>,
@@ -357,7 +423,7 @@ fn make_parts<R: Wait, V: Managed + SharedVolumes, A: Alarm<V>, K: Start<V>>(
 }
 
 /// Asks the requests of a piece up to a long one, and then for its parts.
-fn ask_parts<R: Wait, V: Managed + SharedVolumes, A: Alarm<V>, K: Start<V>>(
+fn ask_parts<R: Wait, V: Managed + Staged, A: Alarm<V>, K: Start<V>>(
     rt: &R,
     alloc: Global,
     hub: &HubLock<'_, V, A, K>,
@@ -378,7 +444,7 @@ fn ask_parts<R: Wait, V: Managed + SharedVolumes, A: Alarm<V>, K: Start<V>>(
 }
 
 /// Asks a hub behind a lock alone, and part by part where a long request comes.
-fn ask_in_parts<R: Wait, V: Managed + SharedVolumes, A: Alarm<V>, K: Start<V>>(
+fn ask_in_parts<R: Wait, V: Managed + Staged, A: Alarm<V>, K: Start<V>>(
     rt: &R,
     alloc: Global,
     hub: &HubLock<'_, V, A, K>,
@@ -395,7 +461,7 @@ fn ask_in_parts<R: Wait, V: Managed + SharedVolumes, A: Alarm<V>, K: Start<V>>(
 }
 
 /// Asks a hub behind a lock once: beside others, or where that cannot be, alone.
-fn ask_once<R: Wait, V: Managed + SharedVolumes, A: Alarm<V>, K: Start<V>>(
+fn ask_once<R: Wait, V: Managed + Staged, A: Alarm<V>, K: Start<V>>(
     rt: &R,
     alloc: Global,
     hub: &HubLock<'_, V, A, K>,
@@ -412,7 +478,7 @@ fn ask_once<R: Wait, V: Managed + SharedVolumes, A: Alarm<V>, K: Start<V>>(
 }
 
 /// Asks the first requests of a piece, and tells how many bytes these were where it has more.
-fn ask_turn<R: Wait, V: Managed + SharedVolumes, A: Alarm<V>, K: Start<V>>(
+fn ask_turn<R: Wait, V: Managed + Staged, A: Alarm<V>, K: Start<V>>(
     rt: &R,
     alloc: Global,
     hub: &HubLock<'_, V, A, K>,
@@ -440,7 +506,7 @@ fn ask_turn<R: Wait, V: Managed + SharedVolumes, A: Alarm<V>, K: Start<V>>(
 impl<'m, R, V, A, K> Desk for LockedDesk<'m, R, V, A, K>
 where
     R: Wait,
-    V: Managed + SharedVolumes,
+    V: Managed + Staged,
     A: Alarm<V>,
     K: Start<V>,
 {

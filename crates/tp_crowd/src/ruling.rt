@@ -1,6 +1,6 @@
 //! Control clients of those who serve without end: lines to the pool, and commands to those who serve.
 
-ghost use Rattle.std.specs.Prelude.{◌≡◌, ◌<◌, ◌∷◌, [], Some};
+ghost use Rattle.std.specs.Prelude.{◌≡◌, ◌<◌, ◌∷◌, [], None, Some};
 ghost use Rattle.tp_hub.specs.Runs.{AsksFlush, Orders, incoming, session_of};
 ghost use Rattle.tp_hub.specs.Told.{Accepts, HasRoom};
 ghost use Rattle.tp_hub.specs.Desks.{IsAsked};
@@ -22,7 +22,7 @@ use std::sync::{Mutex, Wait};
 use std::time::Clock;
 use tp_hub::{Answers, Desk, Event, Mark, Ran, SESSIONS, Seat, Stream};
 use tp_lines::{LinesEnd, attend_lines};
-use tp_model::{Refusal, SharedVolumes, Volumes};
+use tp_model::{Refusal, Staged};
 use tp_msg::Managed;
 
 /// The streams of those who said that it is to end.
@@ -43,7 +43,8 @@ enum Command {
 
 /// The command that a line is, if it is one.
 fn command_of(line: &[u8]) -> Option<Command>
-    ensures { (command : Command) → result ≡ Some command → IsCommand line.now command }
+    ensures some { (command : Command) → result ≡ Some command → IsCommand line.now command }
+    ensures none { result ≡ None → (command : Command) → IsCommand line.now command → ⊥ }
 {
     if line == b"stop".as_slice() {
         return Some(Command::Stop);
@@ -62,7 +63,7 @@ fn command_of(line: &[u8]) -> Option<Command>
 
 /// A desk for control lines: commands are obeyed here, and any other line is asked of the hub.
 #[derive(Drop)]
-struct RuledDesk<'m, R: Wait, V: Volumes, A: Chronicle<V>, K: Start<V>> {
+struct RuledDesk<'m, R: Wait, V: Staged, A: Chronicle<V>, K: Start<V>> {
     desk: LockedDesk<'m, R, V, A, K>,
     gate: &'m Gate,
     doors: &'m [Door],
@@ -108,7 +109,7 @@ fn tell_seats(alloc: Global, seats: &[Seat; SESSIONS], out: &mut Answers)
 }
 
 /// Tells who is served by a hub.
-fn tell_clients<R: Wait, V: Volumes, A: Chronicle<V>, K: Start<V>>(
+fn tell_clients<R: Wait, V: Staged, A: Chronicle<V>, K: Start<V>>(
     desk: &LockedDesk<'_, R, V, A, K>,
     line: &[u8],
     out: &mut Answers,
@@ -124,7 +125,7 @@ fn tell_clients<R: Wait, V: Volumes, A: Chronicle<V>, K: Start<V>>(
 }
 
 /// Asks a desk once for what is no command.
-fn ask_hub<R: Wait, V: Managed + SharedVolumes, A: Chronicle<V>, K: Start<V>>(
+fn ask_hub<R: Wait, V: Managed + Staged, A: Chronicle<V>, K: Start<V>>(
     desk: &mut LockedDesk<'_, R, V, A, K>,
     event: Event<'_>,
     out: &mut Answers,
@@ -136,7 +137,7 @@ fn ask_hub<R: Wait, V: Managed + SharedVolumes, A: Chronicle<V>, K: Start<V>>(
 }
 
 /// Asks a desk once for a flush, in the place of a line.
-fn flush<R: Wait, V: Managed + SharedVolumes, A: Chronicle<V>, K: Start<V>>(
+fn flush<R: Wait, V: Managed + Staged, A: Chronicle<V>, K: Start<V>>(
     desk: &mut LockedDesk<'_, R, V, A, K>,
     line: &[u8],
     out: &mut Answers,
@@ -147,7 +148,7 @@ fn flush<R: Wait, V: Managed + SharedVolumes, A: Chronicle<V>, K: Start<V>>(
 }
 
 /// Obeys a command.
-fn obey<R: Wait, V: Managed + SharedVolumes, A: Chronicle<V>, K: Start<V>>(
+fn obey<R: Wait, V: Managed + Staged, A: Chronicle<V>, K: Start<V>>(
     desk: &mut LockedDesk<'_, R, V, A, K>,
     gate: &Gate,
     doors: &[Door],
@@ -172,7 +173,7 @@ fn obey<R: Wait, V: Managed + SharedVolumes, A: Chronicle<V>, K: Start<V>>(
 }
 
 /// Obeys a line that is a command, and notes whether it ends all, or asks a desk once for any other.
-fn ask_line<R: Wait, V: Managed + SharedVolumes, A: Chronicle<V>, K: Start<V>>(
+fn ask_line<R: Wait, V: Managed + Staged, A: Chronicle<V>, K: Start<V>>(
     desk: &mut LockedDesk<'_, R, V, A, K>,
     gate: &Gate,
     doors: &[Door],
@@ -202,7 +203,7 @@ fn tell_change<V, A: Chronicle<V>>(chronicle: &A, line: &[u8], ran: Ran, out: &A
 impl<'m, R, V, A, K> Desk for RuledDesk<'m, R, V, A, K>
 where
     R: Wait,
-    V: Managed + SharedVolumes,
+    V: Managed + Staged,
     A: Chronicle<V>,
     K: Start<V>,
 {
@@ -240,7 +241,7 @@ fn answer_orders<R, V, A, K, S>(
 ) -> (LinesEnd, bool)
 where
     R: Wait,
-    V: Managed + SharedVolumes,
+    V: Managed + Staged,
     A: Chronicle<V>,
     K: Start<V>,
     S: Stream,
@@ -269,7 +270,7 @@ fn attend_ruler<R, V, A, K>(
 )
 where
     R: Wait,
-    V: Managed + SharedVolumes,
+    V: Managed + Staged,
     A: Chronicle<V>,
     K: Start<V>,
 {
@@ -296,7 +297,7 @@ pub(crate) fn rule<R, V, A, K>(
 )
 where
     R: Wait + Clock,
-    V: Managed + SharedVolumes,
+    V: Managed + Staged,
     A: Chronicle<V>,
     K: Start<V>,
 {

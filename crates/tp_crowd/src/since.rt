@@ -58,9 +58,21 @@ impl<V: Volumes, K: Start<V>> Since<V, K> {
         }
     }
 
+    /// A hub that came of such a start.
+    pub(crate) fn of(hub: Hub<V>) -> Since<V, K>
+        requires { IsFrom V.view K.is_start hub }
+        ensures { result ≡ hub }
+    {
+        Since {
+            hub,
+            of: PhantomData,
+        }
+    }
+
     /// The hub as the asks left it.
     pub(crate) fn into_hub(self) -> Hub<V>
-        ensures { IsFrom V.view K.is_start result }
+        ensures same { result ≡ self }
+        ensures from { IsFrom V.view K.is_start result }
     {
         let Since { hub, of: _ } = self;
         hub

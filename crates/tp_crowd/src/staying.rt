@@ -24,7 +24,7 @@ use std::thread;
 use std::thread::Threads;
 use std::time::Clock;
 use tp_hub::{Answers, Desk, Event, Hub};
-use tp_model::{SharedVolumes, Volumes};
+use tp_model::{Staged, Volumes};
 use tp_msg::Managed;
 
 /// So many clients are served at a time.
@@ -60,7 +60,7 @@ trait Staff {
 
 /// Serves clients over a hub behind a lock.
 #[derive(Drop)]
-struct House<'m, R: Threads + Wait, V: Volumes, A: Chronicle<V>, K: Start<V>> {
+struct House<'m, R: Threads + Wait, V: Staged, A: Chronicle<V>, K: Start<V>> {
     rt: &'m R,
     alloc: Global,
     hub: &'m HubLock<'m, V, A, K>,
@@ -71,7 +71,7 @@ struct House<'m, R: Threads + Wait, V: Volumes, A: Chronicle<V>, K: Start<V>> {
 impl<'m, R, V, A, K> House<'m, R, V, A, K>
 where
     R: Threads + Wait,
-    V: Managed + SharedVolumes,
+    V: Managed + Staged,
     A: Chronicle<V>,
     K: Start<V>,
 {
@@ -116,7 +116,7 @@ where
 impl<'m, R, V, A, K> Staff for House<'m, R, V, A, K>
 where
     R: Threads + Wait + Clock,
-    V: Managed + SharedVolumes,
+    V: Managed + Staged,
     A: Chronicle<V>,
     K: Start<V>,
 {
@@ -194,7 +194,8 @@ fn attend_house<'m, R, V, A, K>(
 ) -> bool
 where
     R: Threads + Wait + Clock + Sync,
-    V: Managed + SharedVolumes + Send + Sync,
+    V: Managed + Staged + Send + Sync,
+    V::Midway: Send + Sync,
     A: Chronicle<V> + Sync,
     K: Start<V> + Send + Sync,
 {
@@ -213,7 +214,7 @@ where
 fn watch<'m, R, V, A, K>(rt: &'m R, alloc: Global, hub: &'m HubLock<'m, V, A, K>, gate: &Gate)
 where
     R: Wait + Clock,
-    V: Managed + SharedVolumes,
+    V: Managed + Staged,
     A: Chronicle<V>,
     K: Start<V>,
 {
@@ -241,7 +242,8 @@ fn attend_watched<R, V, A, K>(
 ) -> bool
 where
     R: Threads + Wait + Clock + Sync,
-    V: Managed + SharedVolumes + Send + Sync,
+    V: Managed + Staged + Send + Sync,
+    V::Midway: Send + Sync,
     A: Chronicle<V> + Sync,
     K: Start<V> + Send + Sync,
 {
@@ -257,28 +259,75 @@ where
     })
 }
 
-/// The same, and beside them answers control clients until the others are gone.
-fn attend_both<R, V, A, K>(
+/// What threads do for control clients beside all others.
+trait Rule {
+    /// Answers control clients, one after another, until the others are gone.
+    fn rule(&self);
+
+    /// They are gone.
+    fn end(&self);
+}
+
+/// Answers control clients over a hub behind a lock, beside all others.
+#[derive(Drop)]
+struct Court<'m, R: Threads + Wait, V: Staged, A: Chronicle<V>, K: Start<V>> {
+    rt: &'m R,
+    alloc: Global,
+    hub: &'m HubLock<'m, V, A, K>,
+    gate: &'m Gate,
+    doors: &'m [Door],
+    control: &'m Door,
+    askers: &'m Askers,
+    are_gone: AtomicBool,
+}
+
+impl<'m, R, V, A, K> Rule for Court<'m, R, V, A, K>
+where
+    R: Threads + Wait + Clock,
+    V: Managed + Staged,
+    A: Chronicle<V>,
+    K: Start<V>,
+{
+    fn rule(&self) {
+        rule(
+            self.rt,
+            self.alloc,
+            self.hub,
+            self.gate,
+            self.doors,
+            self.control,
+            &self.are_gone,
+            self.askers,
+        );
+    }
+
+    fn end(&self) {
+        self.are_gone.store(true, Ordering::SeqCst);
+        self.control.shut();
+    }
+}
+
+/// Starts the threads that answer control clients, and serves the others until they are gone. False where a thread could not be made.
+fn attend_ruled<R, V, A, K, S>(
     rt: &R,
     alloc: Global,
     hub: &HubLock<'_, V, A, K>,
     gate: &Gate,
     doors: &[Door],
-    control: &Door,
-    askers: &Askers,
+    court: &S,
 ) -> bool
 where
     R: Threads + Wait + Clock + Sync,
-    V: Managed + SharedVolumes + Send + Sync,
+    V: Managed + Staged + Send + Sync,
+    V::Midway: Send + Sync,
     A: Chronicle<V> + Sync,
     K: Start<V> + Send + Sync,
+    S: Rule + Sync,
 {
-    let are_gone = AtomicBool::new(false);
-    let are_gone = &are_gone;
     thread::scope(thread::scope_env(), rt, move |scope| -> bool {
         let mut is_ruled = true;
         for _ in 0..RULERS {
-            let side = move || rule(rt, alloc, hub, gate, doors, control, are_gone, askers);
+            let side = move || court.rule();
             if scope.spawn(side).is_err() {
                 is_ruled = false;
             }
@@ -287,10 +336,39 @@ where
             gate.shut(rt, doors);
         }
         let is_manned = attend_watched(rt, alloc, hub, gate, doors);
-        are_gone.store(true, Ordering::SeqCst);
-        control.shut();
+        court.end();
         is_ruled && is_manned
     })
+}
+
+/// The same, and beside them answers control clients until the others are gone.
+fn attend_both<'m, R, V, A, K>(
+    rt: &'m R,
+    alloc: Global,
+    hub: &'m HubLock<'m, V, A, K>,
+    gate: &'m Gate,
+    doors: &'m [Door],
+    control: &'m Door,
+    askers: &'m Askers,
+) -> bool
+where
+    R: Threads + Wait + Clock + Sync,
+    V: Managed + Staged + Send + Sync,
+    V::Midway: Send + Sync,
+    A: Chronicle<V> + Sync,
+    K: Start<V> + Send + Sync,
+{
+    let court = Court {
+        rt,
+        alloc,
+        hub,
+        gate,
+        doors,
+        control,
+        askers,
+        are_gone: AtomicBool::new(false),
+    };
+    attend_ruled(rt, alloc, hub, gate, doors, &court)
 }
 
 /// Serves clients without end, 64 at a time, from when they come to one of the doors, and offers this to each. Who comes when all places are taken waits. Each thread serves one client after
@@ -320,7 +398,8 @@ pub fn serve_until_stopped<R, V, A>(
 ) -> Stayed<V>
 where
     R: Threads + Wait + Clock + Sync,
-    V: Managed + SharedVolumes + Send + Sync,
+    V: Managed + Staged + Send + Sync,
+    V::Midway: Send + Sync,
     A: Chronicle<V> + Sync,
     ensures asked { CameOf V.view hub result.hub }
 {
@@ -339,7 +418,8 @@ fn stay_since<R, V, A, K>(
 ) -> Stayed<V>
 where
     R: Threads + Wait + Clock + Sync,
-    V: Managed + SharedVolumes + Send + Sync,
+    V: Managed + Staged + Send + Sync,
+    V::Midway: Send + Sync,
     A: Chronicle<V> + Sync,
     K: Start<V> + Send + Sync,
     requires { K.is_start hub }

@@ -10,6 +10,10 @@ mod control;
 #[cfg(test)]
 mod crowd;
 #[cfg(test)]
+mod flushes;
+#[cfg(test)]
+mod long;
+#[cfg(test)]
 mod loopback;
 #[cfg(test)]
 mod parts;

@@ -9,7 +9,7 @@ use std::thread::Threads;
 use tp_crowd::{Served, serve_all, serve_listener};
 use tp_hub::Hub;
 use tp_model::Refusal;
-use tp_shelf::{Shelf, blank_shelf, shelf_of_readers};
+use tp_shelf::{Shelf, blank_shelf, shelf_of_readers, staged_shelf};
 
 /// A listener, and its address.
 pub(crate) fn listening<H>(rt: &H) -> io::Result<(TcpListener, SocketAddr)>
@@ -61,4 +61,22 @@ where
     let hub = Hub::new(shelf_of_readers(rt.alloc(), readers)?);
     let alarm = Seen::nothing();
     Ok(kept_of(serve_all(rt, rt.alloc(), hub, clients.into_iter(), &alarm)))
+}
+
+/// How many syncs there were between parts of flushes, how many shared reads came to one, and whether one waited in vain.
+pub(crate) type Synced = (u64, u64, bool);
+
+/// Serves these clients over a shelf whose flushes have two parts and a last one, between which each sync waits for a read.
+pub(crate) fn served_in_parts<H>(rt: &H, clients: Vec<Waiting<'_>>) -> Result<Synced, Refusal>
+where
+    H: Threads + Wait + Sync + Alloc<A = Global>,
+{
+    let hub = Hub::new(staged_shelf(rt.alloc(), 2, true)?);
+    let alarm = Seen::nothing();
+    let Served {
+        hub,
+        came: _,
+        refused: _,
+    } = serve_all(rt, rt.alloc(), hub, clients.into_iter(), &alarm);
+    Ok(hub.into_pool().synced())
 }

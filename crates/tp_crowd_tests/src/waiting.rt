@@ -102,6 +102,8 @@ pub(crate) struct Waiting<'a> {
     waits_before: usize,
     /// Nothing is taken from it before.
     holds_writes: bool,
+    /// It gives its second part again and again until then, and waits for nothing.
+    repeats: bool,
     mine: &'a Seen,
     other: &'a Seen,
     /// How many bytes the other one is to be written.
@@ -122,6 +124,7 @@ impl<'a> Waiting<'a> {
             reads: 0,
             waits_before,
             holds_writes: false,
+            repeats: false,
             mine,
             other,
             wanted,
@@ -141,10 +144,39 @@ impl<'a> Waiting<'a> {
             reads: 0,
             waits_before: usize::MAX,
             holds_writes: true,
+            repeats: false,
             mine,
             other,
             wanted,
         }
+    }
+
+    /// A client that gives its second part again and again until the other one was written enough, and then ends.
+    pub(crate) fn again(
+        parts: [&'a [u8]; 2],
+        mine: &'a Seen,
+        other: &'a Seen,
+        wanted: u64,
+    ) -> Waiting<'a> {
+        Waiting {
+            log: Log::new(),
+            parts,
+            reads: 0,
+            waits_before: usize::MAX,
+            holds_writes: false,
+            repeats: true,
+            mine,
+            other,
+            wanted,
+        }
+    }
+
+    /// Which part its next read gives.
+    fn turn(&self) -> usize {
+        if self.repeats && self.reads > 1 && self.other.bytes() < self.wanted {
+            return 1;
+        }
+        self.reads
     }
 
     /// Waits until the other one was written enough, and notes where it gives up.
@@ -176,8 +208,8 @@ impl<'a> Waiting<'a> {
         ensures len { length buffer.new ≡ length buffer.old }
         ensures log { self.new.log.calls ≡ self.old.log.calls }
     {
-        let turn = self.reads;
-        self.reads = turn.saturating_add(1);
+        let turn = self.turn();
+        self.reads = self.reads.saturating_add(1);
         if turn == self.waits_before && !self.waits() {
             return Received::Broken;
         }

@@ -1,4 +1,5 @@
 use Rattle.std.proofs.Common.{◌≡◌, length}
+use Rattle.tp_crowd.specs.Stages.{slots_of}
 use Rattle.tp_crowd.proofs.Counting.{AreSeen}
 use Rattle.tp_crowd.proofs.locked.seats_of.Given as goal
 
@@ -6,5 +7,5 @@ use Rattle.tp_crowd.proofs.locked.seats_of.Given as goal
 abbrev pub invariant-loop-number : goal.invariant-loop-number
 invariant-loop-number g l = record {
   count : length l.seats ≡ 64;
-  each : AreSeen l.hub.slots l.seats l.number;
+  each : AreSeen (slots_of l.hub.stage) l.seats l.number;
 }

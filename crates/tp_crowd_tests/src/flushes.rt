@@ -1,0 +1,128 @@
+//! Flushes that nobody asked for, which are made in parts before one that a client asks for.
+
+use crate::served::{Synced, served_in_parts};
+use crate::talk::{ANSWERED_FLUSH, ANSWERED_GO, FLUSH, GO, READ, write};
+use crate::waiting::{Seen, Waiting};
+use nbd_session::Profile;
+use std::alloc::Global;
+use std::marker::Brand;
+use std::sync::Wait;
+use std::test::Fail;
+use std::thread::Threads;
+use tp_crowd::{HubLock, LockedDesk};
+use tp_hub::{Answers, Desk, Event, Hub};
+use tp_model::Refusal;
+use tp_shelf::{FailingShelf, Shelf, failing_in_part, staged_shelf};
+
+/// A client that flushes when another one was greeted, which reads until the first one was answered.
+fn told_of_reader<H>(rt: &H) -> Result<(Synced, u64), Fail>
+where
+    H: Threads + Wait + Sync + Alloc<A = Global>,
+{
+    let (first, second) = (Seen::nothing(), Seen::nothing());
+    let clients = vec![in rt.alloc();
+        Waiting::new([GO, FLUSH], 1, &first, &second, ANSWERED_GO),
+        Waiting::again([GO, READ], &second, &first, ANSWERED_FLUSH),
+    ]?;
+    let synced = served_in_parts(rt, clients)?;
+    Ok((synced, first.bytes()))
+}
+
+/// While the device is brought what one part of a flush wrote, a READ is answered: the sync stays until one has come to it. The flush is answered behind both.
+#[test]
+fn reads_between_the_parts_of_a_flush(rt: HostRuntime) -> Result<(), Fail> {
+    let ((syncs, reads, is_in_vain), answered) = told_of_reader(&rt)?;
+    assert_eq!(rt;
+        (syncs, reads >= 2, is_in_vain, answered),
+        (2, true, false, ANSWERED_FLUSH)
+    );
+    Ok(())
+}
+
+/// Two clients go to a volume, and the first one writes.
+fn begin<D: Desk>(desk: &mut D, write: &[u8], out: &mut Answers) {
+    desk.ask(Event::Open(0, Profile::Strict), out);
+    desk.ask(Event::Bytes(0, GO), out);
+    desk.ask(Event::Open(1, Profile::Strict), out);
+    desk.ask(Event::Bytes(1, GO), out);
+    desk.ask(Event::Bytes(0, write), out);
+    out.clear();
+}
+
+/// Each of two clients flushes, and how many bytes answer them.
+fn flush_both<D: Desk>(desk: &mut D, out: &mut Answers) -> usize {
+    desk.ask(Event::Bytes(0, FLUSH), out);
+    desk.ask(Event::Bytes(1, FLUSH), out);
+    out.bytes().len()
+}
+
+/// How many bytes answer two clients of a hub that flush behind a write.
+fn answered_by<H>(rt: &H, hub: &HubLock<'_, Shelf, Seen, Brand>, write: &[u8]) -> usize
+where
+    H: Wait + Sync + Alloc<A = Global>,
+{
+    let mut out = Answers::new(rt.alloc());
+    let mut desk = LockedDesk {
+        rt,
+        alloc: rt.alloc(),
+        hub,
+    };
+    begin(&mut desk, write, &mut out);
+    flush_both(&mut desk, &mut out)
+}
+
+/// The same, and how many syncs were made between parts of flushes.
+fn told_of_two<H>(rt: &H, write: &[u8]) -> Result<(usize, u64), Refusal>
+where
+    H: Wait + Sync + Alloc<A = Global>,
+{
+    let alarm = Seen::nothing();
+    let shelf = staged_shelf(rt.alloc(), 2, false)?;
+    let hub = HubLock::<Shelf, Seen, Brand>::new(Hub::new(shelf), &alarm);
+    let answered = answered_by(rt, &hub, write);
+    Ok((answered, hub.into_inner().into_pool().synced().0))
+}
+
+/// The second of two FLUSHes finds all kept: nothing was written since the first one.
+#[test]
+fn two_flushes_share_a_commit(rt: HostRuntime) -> Result<(), Fail> {
+    let told = told_of_two(&rt, &write(rt.alloc())?)?;
+    assert_eq!(rt; told, (32, 2));
+    Ok(())
+}
+
+/// What a FLUSH and a READ are answered by a pool that has failed.
+const FAILED: &[u8] =
+    b"\x67\x44\x66\x98\0\0\0\x05\0\0\0\0\0\0\0\x03\x67\x44\x66\x98\0\0\0\x05\0\0\0\0\0\0\0\x02";
+
+/// A client flushes and then reads, over a pool whose flush fails in this part: whether both have error 5, and how often the alarm sounded.
+fn told_of_fault<H>(rt: &H, part: u8) -> Result<(bool, u64), Refusal>
+where
+    H: Wait + Sync + Alloc<A = Global>,
+{
+    let alarm = Seen::nothing();
+    let shelf = failing_in_part(part)?;
+    let hub = HubLock::<FailingShelf, Seen, Brand>::new(Hub::new(shelf), &alarm);
+    let mut out = Answers::new(rt.alloc());
+    let mut desk = LockedDesk {
+        rt,
+        alloc: rt.alloc(),
+        hub: &hub,
+    };
+    begin(&mut desk, &[], &mut out);
+    desk.ask(Event::Bytes(0, FLUSH), &mut out);
+    desk.ask(Event::Bytes(0, READ), &mut out);
+    Ok((out.bytes() == FAILED, alarm.bytes()))
+}
+
+/// In whichever part the flush fails, the client is answered error 5 and so are READs behind it, and the alarm sounds once.
+#[test]
+fn a_fault_in_each_part_is_told_once(rt: HostRuntime) -> Result<(), Fail> {
+    let told = [
+        told_of_fault(&rt, 0)?,
+        told_of_fault(&rt, 1)?,
+        told_of_fault(&rt, 2)?,
+    ];
+    assert_eq!(rt; told, [(true, 1), (true, 1), (true, 1)]);
+    Ok(())
+}
