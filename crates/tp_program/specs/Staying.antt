@@ -1,5 +1,5 @@
 -- Trusted reading: what serving clients without end over the pool of a disk is, and how it is told (own).
-use Rattle.std.specs.Prelude.{◌≡◌, ◌⊎◌, ℕ, Bool, true, false, List, ◌∷◌, Some, Result, Ok, Err}
+use Rattle.std.specs.Prelude.{◌≡◌, ◌⊎◌, ℕ, Bool, true, false, List, ◌∷◌, Option, None, Some, Result, Ok, Err, nat_lt, if◌then◌else◌}
 use Rattle.tp_model.specs.declared.refusal.Refusal.{Refusal}
 use Rattle.tp_model.specs.declared.refusal.Refusal.TheVariants.{Fault, Memory}
 use Rattle.tp_model.specs.Disk.{DiskState}
@@ -11,6 +11,11 @@ use Rattle.tp_program.specs.declared.places.NoDoor.TheVariants as doors
 use Rattle.tp_program.specs.Lives.{IsLifeOn, closing_of}
 use Rattle.tp_program.specs.Opening.{IsRefusedOn}
 use Rattle.tp_program.specs.Serving.{told_behind}
+
+-- the volume of clients who name none: that of the number that the words give, if there can be one
+abbrev pub default_for : Option ℕ → Option ℕ
+default_for None = None
+default_for (Some id) = if nat_lt id 16777216 then Some id else None
 
 -- whether each thread could be made
 abbrev pub told_of_threads : Bool → Result (Unit {0}) Refusal

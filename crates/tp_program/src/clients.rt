@@ -24,7 +24,7 @@ use tp_disk::{SharedDisk, TellsTrouble};
 use tp_hub::Hub;
 use tp_images::Images;
 use tp_meta::Meta;
-use tp_model::{Refusal, SharedVolumes};
+use tp_model::{Refusal, Staged};
 use tp_msg::Managed;
 use tp_served::Served;
 
@@ -87,7 +87,8 @@ fn serve_hub<R, V, A>(
 ) -> tp_crowd::Served<V>
 where
     R: Threads + Wait + Clock + Sync,
-    V: Managed + SharedVolumes + Send + Sync,
+    V: Managed + Staged + Send + Sync,
+    V::Midway: Send + Sync,
     A: Alarm<V> + Sync,
     ensures asked { CameOf V.view hub result.hub }
     ensures offered { result.came ≤ count }

@@ -1,12 +1,13 @@
 //! Clients without end over the pool of an image, which is then closed, and beside them control lines.
 
-ghost use Rattle.std.specs.Prelude.{◌≡◌, IfErr};
+ghost use Rattle.std.specs.Prelude.{◌≡◌, IfErr, true};
 ghost use Rattle.std.specs.FinMap.{empty};
+ghost use Rattle.nbd_session.specs.Session.{default_of, is_extended};
 ghost use Rattle.tp_disk.specs.HandedOut.{IsHandedOut};
 ghost use Rattle.tp_holders.specs.Holders.{holds_of};
 ghost use Rattle.tp_program.specs.Failures.{number_of};
 ghost use Rattle.tp_program.specs.Living.{StaysPool};
-ghost use Rattle.tp_program.specs.Staying.{IsNoDoor, StaysImage, StaysOn, told_of_place, told_of_threads};
+ghost use Rattle.tp_program.specs.Staying.{IsNoDoor, StaysImage, StaysOn, default_for, told_of_place, told_of_threads};
 
 use crate::closing::{behind, end_hub};
 use crate::failure::{Cause, Failure};
@@ -171,12 +172,17 @@ fn refused_threads(is_manned: bool) -> Result<(), Failure>
 }
 
 /// What is offered to each client. A default that no volume can have is none.
-fn profile_of(service: &Service<'_>) -> Profile {
-    let default = match service.default {
-        None => None,
-        Some(id) => DevId::checked(id).ok(),
+fn profile_of(service: &Service<'_>) -> Profile
+    ensures extended { is_extended result ≡ true }
+    ensures default { default_of result ≡ default_for service.now.default }
+{
+    let Some(id) = service.default else {
+        return Profile::extended(None);
     };
-    Profile::extended(default)
+    match DevId::checked(id) {
+        Ok(id) => Profile::extended(Some(id)),
+        Err(_) => Profile::extended(None),
+    }
 }
 
 /// Serves clients over a pool until it is told to stop, closes the pool, and hands its disk back. That closing is refused is told first, and then that a thread could

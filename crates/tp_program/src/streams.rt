@@ -49,7 +49,7 @@ pub struct Timed<W: Write + AsRawFd + Drop> {
 }
 
 impl<W: Write + AsRawFd + Drop> Timed<W> {
-    ghost use Rattle.std.specs.Prelude.{◌≡◌};
+    ghost use Rattle.std.specs.Prelude.{◌≡◌, not};
 
     /// Of a stream whose reader reads.
     pub fn new(inner: W, patience: u16) -> Timed<W>
@@ -62,21 +62,11 @@ impl<W: Write + AsRawFd + Drop> Timed<W> {
         }
     }
 
-    /// The stream.
-    pub fn into_inner(self) -> W
-        ensures { result ≡ self.inner }
-    {
-        let Timed {
-            inner,
-            patience: _,
-            is_stuck: _,
-        } = self;
-        inner
-    }
-
     /// Whether the system takes some bytes at once, or within the time that is waited for that.
     fn is_ready(&mut self) -> bool
-        ensures { self.new.inner ≡ self.old.inner }
+        ensures told { result ≡ not self.new.is_stuck }
+        ensures same { self.new.inner ≡ self.old.inner }
+        ensures patience { self.new.patience ≡ self.old.patience }
     {
         let patience = if self.is_stuck { 0 } else { self.patience };
         let mut asked = [pollfd {

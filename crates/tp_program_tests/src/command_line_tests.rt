@@ -44,6 +44,41 @@ const BAD_LINES: &[(&[&str], &str)] = &[
         ],
         "error: a value is required for '--control <ADDRESS>'",
     ),
+    (
+        &["thinpool", "run", "bad.img"],
+        "error: the following required arguments were not provided:",
+    ),
+    (
+        &[
+            "thinpool", "run", "bad.img", "--listen", "a:1", "--listen", "a:2", "--listen", "a:3",
+            "--listen", "a:4", "--listen", "a:5",
+        ],
+        "error: there are more than four places to listen at\n",
+    ),
+    (
+        &[
+            "thinpool",
+            "run",
+            "bad.img",
+            "--listen",
+            "a:1",
+            "--default",
+            "16777216",
+        ],
+        "error: ID is not from 0 to 16777215\n",
+    ),
+    (
+        &[
+            "thinpool",
+            "run",
+            "bad.img",
+            "--listen",
+            "a:1",
+            "--low-water",
+            "101",
+        ],
+        "error: PERCENT is not from 0 to 100\n",
+    ),
     (&["thinpool", "fly"], "error: unrecognized subcommand 'fly'"),
     (
         &["thinpool", "--explain", "feed"],

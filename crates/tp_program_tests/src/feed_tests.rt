@@ -1,7 +1,8 @@
 //! Tests of one client over a pool in memory.
 
 use crate::parts::{
-    CLIENT_GO, FAULT, GO_REPLIES, GREETING, NO_TERMINAL, Part, is_done, joined, run,
+    CLIENT_GO, Call, FAULT, GO_REPLIES, GREETING, MADE, NO_TERMINAL, Part, first_untold,
+    first_untold_of_new, is_done, joined, run,
 };
 use std::alloc::{AllocError, Global};
 use std::fs::File;
@@ -489,6 +490,73 @@ const TRIMMED_ANSWERS: &[Part<'static>] = &[
 fn trim_partly_covered(rt: HostRuntime) -> Result<(), Fail> {
     let is_so = is_answered(&rt, TRIMMED, TRIMMED_ANSWERS)?;
     assert!(rt; is_so);
+    Ok(())
+}
+
+/// A client that goes to volume 0 by EXPORT_NAME, and trims 2 MiB of it at once.
+const TRIMS_LONG: &[Part<'static>] = &[
+    Part::Text(FLAGS),
+    Part::Text(b"IHAVEOPT\x00\x00\x00\x01\x00\x00\x00\x010"),
+    Part::Ask(4, 1, 0, 2_097_152),
+];
+
+/// Its volume has 4 MiB.
+const LONG_SIZE: &[u8] = b"\x00\x00\x00\x00\x00\x40\x00\x00";
+
+/// Whether it is told these flags of the volume, and answered so, by the program that these words run.
+fn is_trimmed<H>(rt: &H, words: &[&str], flags: &[u8], error: u32) -> Result<bool, AllocError>
+where
+    H: Files<File = File>
+        + Net<Listener = TcpListener, Stream = TcpStream>
+        + Threads
+        + Wait
+        + Clock
+        + Sync
+        + Alloc<A = Global>,
+{
+    let text = joined(rt.alloc(), TRIMS_LONG)?;
+    let wanted = [
+        Part::Text(GREETING),
+        Part::Text(LONG_SIZE),
+        Part::Text(flags),
+        Part::Reply(error, 1),
+    ];
+    let wanted = joined(rt.alloc(), &wanted)?;
+    let mut input = text.as_slice();
+    Ok(is_done(&run(rt, words, &mut input), &wanted))
+}
+
+/// Lets volume 0 have 4 MiB.
+const GROWN: &[Call] = &[("message", &["grow 0 64"], 0, "ok\n")];
+
+/// What is left behind both.
+const CLEAN: &[Call] = &[("check", &[], 0, "clean\n")];
+
+/// Whether such a client is refused, and one that is offered what `run` offers is not; and the first calls around them that do not end and print so.
+fn told_of_long<H>(rt: &H, image: &str) -> Result<([bool; 2], [Option<usize>; 3]), Fail>
+where
+    H: Files<File = File>
+        + Net<Listener = TcpListener, Stream = TcpStream>
+        + Threads
+        + Wait
+        + Clock
+        + Sync
+        + Alloc<A = Global>,
+{
+    let made = first_untold(rt, image, MADE)?;
+    let grown = first_untold(rt, image, GROWN)?;
+    let strict = is_trimmed(rt, &["thinpool", "feed", image], b"\x00\x6d", 22)?;
+    let extended = ["thinpool", "feed", image, "--extended"];
+    let extended = is_trimmed(rt, &extended, b"\x01\x6d", 0)?;
+    let left = first_untold_of_new(rt, image, CLEAN)?;
+    Ok(([strict, extended], [made, grown, left]))
+}
+
+/// A TRIM of more than 1 MiB is refused by 22, and done where the client is offered what `run` offers.
+#[test]
+fn long_trims_are_done_where_they_are_offered(rt: HostRuntime) -> Result<(), Fail> {
+    let told = told_of_long(&rt, "long.img")?;
+    assert_eq!(rt; told, ([true; 2], [None; 3]));
     Ok(())
 }
 

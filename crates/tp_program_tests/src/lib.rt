@@ -27,6 +27,10 @@ mod run_tests;
 mod serve_tests;
 #[cfg(test)]
 mod servers;
+#[cfg(test)]
+mod socket_file_tests;
+#[cfg(test)]
+mod timed_tests;
 
 /// A library has a public item at least: this crate has nothing but tests.
 pub fn tests_only() {}

@@ -292,6 +292,71 @@ fn grow_a_volume(rt: HostRuntime) -> Result<(), Fail> {
     Ok(())
 }
 
+/// A client of a volume of 4 MiB, which trims 2 MiB of it at once.
+const LONG: &[u8] = b"message grow 0 64
+open 1
+bytes 1 0000000349484156454f5054000000010000000130
+bytes 1 25609513000000040000000000000001000000000000000000200000
+";
+
+/// What is told of it, up to the flags of the volume.
+const LONG_TOLD: &[u8] = b"ok
+sent 1 4e42444d4147494349484156454f50540003
+sent 1 0000000000400000";
+
+/// The flags, and the answer that it is refused by 22.
+const LONG_REFUSED: &[u8] = b"006d
+sent 1 67446698000000160000000000000001
+";
+
+/// The flags of those who are offered what `run` offers, and the answer that it is done.
+const LONG_DONE: &[u8] = b"016d
+sent 1 67446698000000000000000000000001
+";
+
+/// Whether these words play the script, which stands in a file, to its end, and print this behind what is told of it.
+fn is_long_played<H>(rt: &H, words: &[&str], told: &[u8]) -> Result<bool, Fail>
+where
+    H: Files<File = File>
+        + Net<Listener = TcpListener, Stream = TcpStream>
+        + Threads
+        + Wait
+        + Clock
+        + Sync
+        + Alloc<A = Global>,
+{
+    let text = joined(rt.alloc(), &[Part::Text(LONG_TOLD), Part::Text(told)])?;
+    let mut input: &[u8] = b"";
+    Ok(is_done(&run(rt, words, &mut input), &text))
+}
+
+/// Whether the script is played without and with the words for what `run` offers.
+fn are_long_played<H>(rt: &H, name: &str) -> Result<[bool; 2], Fail>
+where
+    H: Files<File = File>
+        + Net<Listener = TcpListener, Stream = TcpStream>
+        + Threads
+        + Wait
+        + Clock
+        + Sync
+        + Alloc<A = Global>,
+{
+    write_script(rt, name, LONG)?;
+    let strict = is_long_played(rt, &["thinpool", "play", "mem:", name], LONG_REFUSED)?;
+    let extended = ["thinpool", "play", "--extended", "mem:", name];
+    let extended = is_long_played(rt, &extended, LONG_DONE)?;
+    remove_file(rt, name)?;
+    Ok([strict, extended])
+}
+
+/// A TRIM of more than 1 MiB is refused by 22, and done where clients are offered what `run` offers.
+#[test]
+fn long_trims_are_played_where_they_are_offered(rt: HostRuntime) -> Result<(), Fail> {
+    let are_so = are_long_played(&rt, "long.script")?;
+    assert_eq!(rt; are_so, [true; 2]);
+    Ok(())
+}
+
 /// Lines that are none: a space too many, a session or a volume that there cannot be, leading zeros, capital or odd digits, no digits, words that are none, a
 /// carriage return.
 const BAD: &[&[u8]] = &[

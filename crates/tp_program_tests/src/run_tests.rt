@@ -1,19 +1,18 @@
-//! A test of clients without end over the system's sockets, until a control line ends them.
+//! Tests of clients without end over the system's sockets, until a control line ends them.
 
 use crate::parts::{
-    CLIENT_GO, Call, MADE, Part, first_untold, first_untold_of_new, greeted, joined,
+    CLIENT_GO, Call, MADE, Part, Ran, first_untold, first_untold_of_new, greeted, joined,
 };
 use crate::servers::{Places, exchange, run_server};
 use std::alloc::Global;
-use std::fs::File;
-use std::io;
-use std::io::{ErrorKind, Read};
+use std::fs::{self, File};
+use std::io::{self, ErrorKind, Read};
 use std::net::{Net, SocketAddr, TcpListener, TcpStream};
 use std::rt::Files;
 use std::sync::{OnceLock, Wait};
 use std::test::Fail;
-use std::thread::{Threads, join};
-use std::time::Clock;
+use std::thread::{self, Threads, join};
+use std::time::{Clock, Duration};
 use tp_program::Status;
 
 /// Runs the program that serves clients of an image without end, and beside them control lines, and tells how it ends.
@@ -42,7 +41,7 @@ fn go_and_fill(alloc: Global, client: &mut TcpStream) -> io::Result<()> {
 }
 
 /// Whether it is answered that all is to stop now.
-fn is_stopped(alloc: Global, lines: &mut TcpStream) -> io::Result<bool> {
+pub(crate) fn is_stopped(alloc: Global, lines: &mut TcpStream) -> io::Result<bool> {
     Ok(exchange(alloc, lines, b"stop now\n", 3)?.as_slice() == b"ok\n".as_slice())
 }
 
@@ -120,5 +119,79 @@ where
 fn a_line_stops_all(rt: HostRuntime) -> Result<(), Fail> {
     let told = told_of_image(&rt, "stopped.img")?;
     assert_eq!(rt; told, ((Status::Done, (true, 0)), [None; 2]));
+    Ok(())
+}
+
+/// What the program says of a pool of which little is free while it serves it, and how it ends, where a line stops it some time later.
+fn said_of_low<H>(rt: &H, image: &str) -> Result<Ran, Fail>
+where
+    H: Files<File = File>
+        + Net<Listener = TcpListener, Stream = TcpStream>
+        + Threads
+        + Wait
+        + Clock
+        + Sync
+        + Alloc<A = Global>,
+{
+    let any = "127.0.0.1:0";
+    let words = [
+        "thinpool",
+        "run",
+        image,
+        "--listen",
+        any,
+        "--control",
+        any,
+        "--low-water",
+        "100",
+    ];
+    let places = OnceLock::new();
+    let (told, ran) = join(
+        rt,
+        || stop_later(rt, &places),
+        || run_server(rt, &words, &places),
+    );
+    told?;
+    Ok(ran)
+}
+
+/// Stops it when it has looked some times at what is free.
+fn stop_later<H>(rt: &H, places: &Places) -> io::Result<bool>
+where
+    H: Net<Listener = TcpListener, Stream = TcpStream> + Wait + Clock + Alloc<A = Global>,
+{
+    let Some((_, Some(control))) = places.wait(rt) else {
+        return Err(io::Error::from(ErrorKind::NotConnected));
+    };
+    thread::sleep(rt, Duration::from_millis(3500));
+    let mut lines = TcpStream::connect(rt, *control)?;
+    is_stopped(rt.alloc(), &mut lines)
+}
+
+/// How the program ends, and how often it said that little is free, of metadata and of data.
+fn told_of_low<H>(rt: &H, image: &str) -> Result<(Status, usize, usize), Fail>
+where
+    H: Files<File = File>
+        + Net<Listener = TcpListener, Stream = TcpStream>
+        + Threads
+        + Wait
+        + Clock
+        + Sync
+        + Alloc<A = Global>,
+{
+    first_untold(rt, image, MADE)?;
+    let ran = said_of_low(rt, image)?;
+    fs::remove_file(rt, image)?;
+    let said = std::str::from_utf8(&ran.errors).unwrap_or("");
+    let metadata = said.matches(" metadata is low: ");
+    let data = said.matches(" data is low: ");
+    Ok((ran.status, metadata.count(), data.count()))
+}
+
+/// That less of a pool is free than is to be is said once, however often it is looked at.
+#[test]
+fn low_water_is_told_once(rt: HostRuntime) -> Result<(), Fail> {
+    let told = told_of_low(&rt, "low.img")?;
+    assert_eq!(rt; told, (Status::Done, 1, 0));
     Ok(())
 }
