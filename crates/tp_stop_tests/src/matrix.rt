@@ -61,9 +61,11 @@ pub(crate) struct Tally {
     told: Told,
 }
 
+/// The calls of a workload, its images and those of the lives behind them, and how many are wrong; and the first that is.
+pub(crate) type Counted = ([u64; 4], Option<Wrong>);
+
 impl Tally {
-    /// The calls, the images of both kinds, and how many are wrong; and the first that is.
-    pub(crate) fn counted(&self) -> ([u64; 4], Option<Wrong>) {
+    pub(crate) fn counted(&self) -> Counted {
         let counts = [self.calls, self.images, self.later_images, self.wrong];
         (counts, self.first)
     }
@@ -112,12 +114,18 @@ impl Tally {
     }
 }
 
+/// A part of a matrix: the first call of the workload at which it is stopped, the first image of each of these stops that is looked at, and where both end.
+#[derive(Clone, Copy)]
+pub(crate) struct Part {
+    pub calls: (u64, u64),
+    pub images: (u64, u64),
+}
+
 /// What all lives of a matrix share.
 #[derive(Drop)]
 struct Bench {
     picks: Picks,
-    /// The first image of each stop of the workload that is looked at, and where those end.
-    images: (u64, u64),
+    part: Part,
     glass: Glass,
     /// How many disk calls opening makes.
     opening: u64,
@@ -344,18 +352,19 @@ fn stop(
     if end.life.told.strange > 0 {
         bench.tally.note(&[call, 0, 0, 0], Fault::Answer);
     }
-    let (first, end_image) = bench.images;
+    let (first, end_image) = bench.part.images;
     for image in first..end_image {
         follow(alloc, bench, &end, &[call, image, 0, 0])?;
     }
     Ok(())
 }
 
-/// Stops the workload at each call, and behind the last one.
+/// Stops the workload at each call of the part. The call behind the last one is such a stop too.
 fn stop_each(alloc: Global, bench: &mut Bench, from: &Kept, plan: &Plan<'_>) -> Result<(), Fail> {
     let calls = calls_of(alloc, bench, from, plan)?;
     bench.tally = Tally::of(calls);
-    for call in 1..calls.saturating_add(2) {
+    let (first, end) = bench.part.calls;
+    for call in first..end.min(calls.saturating_add(2)) {
         stop(alloc, bench, from, plan, call)?;
     }
     Ok(())
@@ -391,10 +400,10 @@ fn fail_each(alloc: Global, bench: &mut Bench, from: &Kept, plan: &Plan<'_>) -> 
     Ok(())
 }
 
-fn benched(alloc: Global, from: &Kept, glass: Glass, images: (u64, u64)) -> Result<Bench, Fail> {
+fn benched(alloc: Global, from: &Kept, glass: Glass, part: &Part) -> Result<Bench, Fail> {
     Ok(Bench {
         picks: Picks::of(alloc, from.disk.sectors())?,
-        images,
+        part: *part,
         opening: calls_of_opening(alloc, &from.disk, glass.room)?,
         glass,
         tally: Tally::of(0),
@@ -416,7 +425,7 @@ struct Ready {
     bench: Bench,
 }
 
-fn prepared(alloc: Global, case: &Case, images: (u64, u64)) -> Result<Ready, Fail> {
+fn prepared(alloc: Global, case: &Case, part: &Part) -> Result<Ready, Fail> {
     spare_memory(alloc)?;
     let room = Room {
         changed: case.places,
@@ -424,14 +433,19 @@ fn prepared(alloc: Global, case: &Case, images: (u64, u64)) -> Result<Ready, Fai
     };
     let mut glass = Glass::new(alloc, room, case.grows)?;
     let from = begun(alloc, case, room, &mut glass.out)?;
-    let bench = benched(alloc, &from, glass, images)?;
+    let bench = benched(alloc, &from, glass, part)?;
     Ok(Ready { from, bench })
 }
 
-/// What is found where the workload of a case is stopped at each of its calls, and so is a life behind each of its images
-/// from one on to, and not with, another.
-pub(crate) fn stops_of(alloc: Global, case: &Case, images: (u64, u64)) -> Result<Tally, Fail> {
-    let mut begun = prepared(alloc, case, images)?;
+/// All of a matrix.
+pub(crate) const WHOLE: Part = Part {
+    calls: (1, u64::MAX),
+    images: (0, IMAGES),
+};
+
+/// What is found where the workload of a case is stopped at each of its calls of a part of the matrix, and so is a life behind each of its images there.
+pub(crate) fn stops_of(alloc: Global, case: &Case, part: &Part) -> Result<Tally, Fail> {
+    let mut begun = prepared(alloc, case, part)?;
     let plan = Plan {
         room: begun.bench.glass.room,
         steps: case.steps,
@@ -443,7 +457,7 @@ pub(crate) fn stops_of(alloc: Global, case: &Case, images: (u64, u64)) -> Result
 
 /// What is found where each call of the workload of a case fails alone.
 pub(crate) fn faults_of(alloc: Global, case: &Case) -> Result<Tally, Fail> {
-    let mut begun = prepared(alloc, case, (0, IMAGES))?;
+    let mut begun = prepared(alloc, case, &WHOLE)?;
     let plan = Plan {
         room: begun.bench.glass.room,
         steps: case.steps,

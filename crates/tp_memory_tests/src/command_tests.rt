@@ -1,0 +1,275 @@
+//! The commands of the program over an image in memory.
+
+use crate::commands::{Ask, CHECK, CREATE, FORMAT, IMAGE, is_done, outcome_behind, run};
+use crate::outcome::Outcome;
+use crate::talk::{answers, session};
+use std::alloc::Global;
+use std::fs::{File, remove_file};
+use std::io;
+use std::io::Write;
+use std::net::{Net, TcpListener, TcpStream};
+use std::rt::Files;
+use std::sync::Wait;
+use std::thread::Threads;
+use std::time::Clock;
+use tp_images::{Images, MemImages};
+
+/// What formatting a new image comes to that ended so. It has its size from when it was made on, also where formatting is refused; where there is no memory for
+/// the image, it is not there.
+fn outcome_of_new<H>(rt: &H, images: &mut MemImages) -> Outcome
+where
+    H: Files<File = File>
+        + Net<Listener = TcpListener, Stream = TcpStream>
+        + Threads
+        + Wait
+        + Clock
+        + Sync
+        + Alloc<A = Global>,
+{
+    let Some(ran) = run(rt, images, &FORMAT) else {
+        return Outcome::Before;
+    };
+    if ran.is_done(&FORMAT) {
+        return Outcome::Done;
+    }
+    let is_untouched = is_unwritten(images);
+    let is_there = images.length(IMAGE).is_some();
+    let is_done = is_done(rt, images, &FORMAT);
+    if ran.is_memory(&FORMAT) {
+        return Outcome::refused(is_untouched, is_done);
+    }
+    Outcome::failed(ran.is_fault() && is_done && !(is_there && is_untouched))
+}
+
+/// Whether no sector of the image was written.
+fn is_unwritten(images: &mut MemImages) -> bool {
+    let Ok(disk) = images.open(IMAGE) else {
+        return true;
+    };
+    let is_unwritten = (0..8448).all(|at| disk.writes(at) == 0);
+    images.close(IMAGE, disk);
+    is_unwritten
+}
+
+#[test]
+fn command_format(rt: HostRuntime) {
+    let mut images = MemImages::new(rt.alloc());
+    let outcome = outcome_of_new(&rt, &mut images);
+    assert!(rt; outcome.is_right(&mut rt.stdout()));
+}
+
+#[test]
+fn command_message(rt: HostRuntime) {
+    let outcome = outcome_behind(&rt, &[FORMAT], &CREATE);
+    assert!(rt; outcome.is_right(&mut rt.stdout()));
+}
+
+#[test]
+fn command_status(rt: HostRuntime) {
+    let ask = Ask {
+        words: &["thinpool", "status", IMAGE],
+        input: b"",
+        output: b"0 10/1032 0/4 - rw no_discard_passdown error_if_no_space - 512\n",
+    };
+    let outcome = outcome_behind(&rt, &[FORMAT, CREATE], &ask);
+    assert!(rt; outcome.is_right(&mut rt.stdout()));
+}
+
+#[test]
+fn command_status_of_a_volume(rt: HostRuntime) {
+    let ask = Ask {
+        words: &["thinpool", "status", IMAGE, "0"],
+        input: b"",
+        output: b"0 -\n",
+    };
+    let outcome = outcome_behind(&rt, &[FORMAT, CREATE], &ask);
+    assert!(rt; outcome.is_right(&mut rt.stdout()));
+}
+
+#[test]
+fn command_check(rt: HostRuntime) {
+    let outcome = outcome_behind(&rt, &[FORMAT, CREATE], &CHECK);
+    assert!(rt; outcome.is_right(&mut rt.stdout()));
+}
+
+#[test]
+fn command_check_and_clear(rt: HostRuntime) {
+    let ask = Ask {
+        words: &["thinpool", "check", IMAGE, "--clear-needs-check-flag"],
+        input: b"",
+        output: b"clean\n",
+    };
+    let outcome = outcome_behind(&rt, &[FORMAT, CREATE], &ask);
+    assert!(rt; outcome.is_right(&mut rt.stdout()));
+}
+
+/// What a session over the image comes to.
+fn outcome_of_feed<H>(rt: &H) -> Outcome
+where
+    H: Files<File = File>
+        + Net<Listener = TcpListener, Stream = TcpStream>
+        + Threads
+        + Wait
+        + Clock
+        + Sync
+        + Alloc<A = Global>,
+{
+    let (Ok(input), Ok(output)) = (session(rt.alloc()), answers(rt.alloc())) else {
+        return Outcome::Before;
+    };
+    let ask = Ask {
+        words: &["thinpool", "feed", IMAGE],
+        input: &input,
+        output: &output,
+    };
+    outcome_behind(rt, &[FORMAT, CREATE], &ask)
+}
+
+#[test]
+fn command_feed(rt: HostRuntime) {
+    let outcome = outcome_of_feed(&rt);
+    assert!(rt; outcome.is_right(&mut rt.stdout()));
+}
+
+/// A script that changes nothing: of a session without a volume, of the pool, and of a message that is refused.
+const SCRIPT: &[u8] =
+    b"open 3\nstatus\nthin 0\nmessage create_thin 0\nbytes 3 00000003\nhangup 3\nthin 7\n";
+
+/// What that prints.
+const PLAYED: &[u8] = b"sent 3 4e42444d4147494349484156454f50540003
+0 10/1032 0/4 - rw no_discard_passdown error_if_no_space - 512
+0 -
+refused 14
+end 3
+refused 15
+";
+
+/// What a call over a fresh pool in memory comes to, of which nothing is left.
+fn outcome_of_memory<H>(rt: &H, ask: &Ask<'_>) -> Outcome
+where
+    H: Files<File = File>
+        + Net<Listener = TcpListener, Stream = TcpStream>
+        + Threads
+        + Wait
+        + Clock
+        + Sync
+        + Alloc<A = Global>,
+{
+    let mut images = MemImages::new(rt.alloc());
+    let Some(ran) = run(rt, &mut images, ask) else {
+        return Outcome::Before;
+    };
+    if ran.is_done(ask) {
+        return Outcome::Done;
+    }
+    let is_done = is_done(rt, &mut images, ask);
+    if ran.is_memory(ask) {
+        return Outcome::refused(true, is_done);
+    }
+    Outcome::failed(ran.is_fault() && is_done)
+}
+
+/// What a session over such a pool comes to.
+fn outcome_of_feed_in_memory<H>(rt: &H) -> Outcome
+where
+    H: Files<File = File>
+        + Net<Listener = TcpListener, Stream = TcpStream>
+        + Threads
+        + Wait
+        + Clock
+        + Sync
+        + Alloc<A = Global>,
+{
+    let (Ok(input), Ok(output)) = (session(rt.alloc()), answers(rt.alloc())) else {
+        return Outcome::Before;
+    };
+    let ask = Ask {
+        words: &["thinpool", "feed", "mem:"],
+        input: &input,
+        output: &output,
+    };
+    outcome_of_memory(rt, &ask)
+}
+
+#[test]
+fn command_feed_in_memory(rt: HostRuntime) {
+    let outcome = outcome_of_feed_in_memory(&rt);
+    assert!(rt; outcome.is_right(&mut rt.stdout()));
+}
+
+/// What that prints of a fresh pool in memory, which has volume 0 too.
+const PLAYED_IN_MEMORY: &[u8] = b"sent 3 4e42444d4147494349484156454f50540003
+0 10/2048 0/4 - rw no_discard_passdown error_if_no_space - 512
+0 -
+refused 14
+end 3
+refused 15
+";
+
+/// Makes a file of this name with these bytes.
+fn write_script<F: Files<File = File>>(files: &F, name: &str, script: &[u8]) -> io::Result<()> {
+    let mut file = File::create(files, name)?;
+    file.write_all(script)
+}
+
+/// What playing that script over the image comes to.
+fn outcome_of_play<H>(rt: &H) -> Outcome
+where
+    H: Files<File = File>
+        + Net<Listener = TcpListener, Stream = TcpStream>
+        + Threads
+        + Wait
+        + Clock
+        + Sync
+        + Alloc<A = Global>,
+{
+    let name = "refused.script";
+    if write_script(rt, name, SCRIPT).is_err() {
+        return Outcome::Before;
+    }
+    let ask = Ask {
+        words: &["thinpool", "play", IMAGE, name],
+        input: b"",
+        output: PLAYED,
+    };
+    let outcome = outcome_behind(rt, &[FORMAT, CREATE], &ask);
+    let _ = remove_file(rt, name);
+    outcome
+}
+
+#[test]
+fn command_play(rt: HostRuntime) {
+    let outcome = outcome_of_play(&rt);
+    assert!(rt; outcome.is_right(&mut rt.stdout()));
+}
+
+/// What playing it over a fresh pool in memory comes to.
+fn outcome_of_play_in_memory<H>(rt: &H) -> Outcome
+where
+    H: Files<File = File>
+        + Net<Listener = TcpListener, Stream = TcpStream>
+        + Threads
+        + Wait
+        + Clock
+        + Sync
+        + Alloc<A = Global>,
+{
+    let name = "refused.fresh";
+    if write_script(rt, name, SCRIPT).is_err() {
+        return Outcome::Before;
+    }
+    let ask = Ask {
+        words: &["thinpool", "play", "mem:", name],
+        input: b"",
+        output: PLAYED_IN_MEMORY,
+    };
+    let outcome = outcome_of_memory(rt, &ask);
+    let _ = remove_file(rt, name);
+    outcome
+}
+
+#[test]
+fn command_play_in_memory(rt: HostRuntime) {
+    let outcome = outcome_of_play_in_memory(&rt);
+    assert!(rt; outcome.is_right(&mut rt.stdout()));
+}

@@ -1,0 +1,110 @@
+//! Formatting and opening a pool.
+
+use crate::disks::{Before, noted};
+use crate::outcome::Outcome;
+use crate::pools::{
+    MemServed, ROOM, disk_of_volume, is_empty, is_of_volume, is_of_volume_to_read, sizes,
+};
+use std::alloc::Global;
+use tp_disk::MemDisk;
+use tp_model::Refusal;
+
+/// A pool that was asked for, or a refusal with the disk handed back.
+type Asked = Result<MemServed, (Refusal, MemDisk)>;
+
+/// What is asked for.
+#[derive(Clone, Copy)]
+enum Call {
+    Format,
+    Open,
+    OpenReadOnly,
+}
+
+impl Call {
+    fn ask(self, alloc: Global, disk: MemDisk) -> Asked {
+        match self {
+            Call::Format => match sizes() {
+                Ok(geometry) => MemServed::format(alloc, disk, geometry, ROOM),
+                Err(refusal) => Err((refusal, disk)),
+            },
+            Call::Open => MemServed::open(alloc, disk, ROOM),
+            Call::OpenReadOnly => MemServed::open_read_only(alloc, disk, ROOM),
+        }
+    }
+
+    /// Whether a pool is the one that is wanted.
+    fn is_told(self, pool: &mut MemServed) -> bool {
+        match self {
+            Call::Format => is_empty(pool),
+            Call::Open => is_of_volume(pool),
+            Call::OpenReadOnly => is_of_volume_to_read(pool),
+        }
+    }
+
+    /// Whether that call may have written the disk.
+    fn may_write(self) -> bool {
+        matches!(self, Call::Format)
+    }
+}
+
+/// Whether a pool is the one that is wanted, and its disk is as it was, unless it may have been written.
+fn is_asked(call: Call, before: &Before, mut pool: MemServed) -> bool {
+    let is_told = call.is_told(&mut pool);
+    let disk = pool.into_disk();
+    is_told && (call.may_write() || before.is_kept(&disk))
+}
+
+/// What a call came to.
+fn outcome(alloc: Global, call: Call, before: &Before, asked: Asked) -> Outcome {
+    match asked {
+        Ok(pool) => Outcome::done(is_asked(call, before, pool)),
+        Err((Refusal::Memory, disk)) => {
+            let is_kept = before.is_kept(&disk);
+            match call.ask(alloc, disk) {
+                Ok(pool) => Outcome::refused(is_kept, is_asked(call, before, pool)),
+                Err(_) => Outcome::Wrong,
+            }
+        }
+        Err((Refusal::Fault, disk)) => {
+            Outcome::failed(call.may_write() && before.is_written(&disk))
+        }
+        Err(_) => Outcome::Wrong,
+    }
+}
+
+/// What a call over the disk of a pool with a volume comes to.
+fn outcome_of(alloc: Global, call: Call) -> Outcome {
+    let Ok(disk) = disk_of_volume(alloc) else {
+        return Outcome::Before;
+    };
+    match noted(alloc, &disk) {
+        Some(before) => outcome(alloc, call, &before, call.ask(alloc, disk)),
+        None => Outcome::Before,
+    }
+}
+
+/// The same, tried again where memory was refused before the call.
+fn tried(alloc: Global, call: Call) -> Outcome {
+    match outcome_of(alloc, call) {
+        Outcome::Before => Outcome::before(outcome_of(alloc, call)),
+        outcome => outcome,
+    }
+}
+
+#[test]
+fn format(rt: HostRuntime) {
+    let outcome = tried(rt.alloc(), Call::Format);
+    assert!(rt; outcome.is_right(&mut rt.stdout()));
+}
+
+#[test]
+fn open(rt: HostRuntime) {
+    let outcome = tried(rt.alloc(), Call::Open);
+    assert!(rt; outcome.is_right(&mut rt.stdout()));
+}
+
+#[test]
+fn open_read_only(rt: HostRuntime) {
+    let outcome = tried(rt.alloc(), Call::OpenReadOnly);
+    assert!(rt; outcome.is_right(&mut rt.stdout()));
+}

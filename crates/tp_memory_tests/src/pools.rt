@@ -1,0 +1,111 @@
+//! A pool with a volume that is written, and what is told of pools.
+
+ghost use Rattle.std.specs.Prelude.{◌≡◌};
+ghost use Rattle.std.specs.FinMap.{empty};
+ghost use Rattle.tp_holders.specs.Holders.{holds_of};
+
+use std::alloc::Global;
+use tp_cache::ReadCache;
+use tp_disk::MemDisk;
+use tp_hub::Hub;
+use tp_meta::Meta;
+use tp_model::{DevId, Geometry, Refusal};
+use tp_served::{Room, Served};
+
+pub(crate) type MemServed = Served<ReadCache<MemDisk>, Meta>;
+
+/// Room for few blocks.
+pub(crate) const ROOM: Room = Room {
+    changed: 32,
+    read: 4,
+};
+
+/// The sizes of the pool: 16 virtual blocks over 4 data blocks of 128 sectors.
+pub(crate) fn sizes() -> Result<Geometry, Refusal> {
+    Geometry::new(128, 16, 1032, 4)
+}
+
+/// Makes volume 0, and fills its first sector.
+fn fill(pool: &mut MemServed) -> Result<(), Refusal> {
+    let id = DevId::new(0);
+    pool.create_thin(id)?;
+    if pool.geometry().volume_sectors() == 0 {
+        return Err(Refusal::BadGeometry);
+    }
+    pool.write(id, 0, &[0x61; 512], false)
+}
+
+/// The pool of a disk of zeros.
+fn formatted(alloc: Global, geometry: Geometry) -> Result<MemServed, Refusal> {
+    let Ok(disk) = MemDisk::new(alloc, geometry.image_sectors()) else {
+        return Err(Refusal::Memory);
+    };
+    match MemServed::format(alloc, disk, geometry, ROOM) {
+        Ok(pool) => Ok(pool),
+        Err((refusal, _)) => Err(refusal),
+    }
+}
+
+/// The disk of a pool with volume 0, closed.
+pub(crate) fn disk_of_volume(alloc: Global) -> Result<MemDisk, Refusal> {
+    let mut pool = formatted(alloc, sizes()?)?;
+    fill(&mut pool)?;
+    let (closed, disk) = pool.close();
+    closed?;
+    Ok(disk)
+}
+
+/// The hub over a pool of which nobody holds a volume.
+fn hub_of(pool: MemServed) -> Hub<MemServed>
+    requires { holds_of pool.besides.holders ≡ empty }
+{
+    Hub::new(pool)
+}
+
+/// The hub over the pool of a disk. None where it is not opened.
+pub(crate) fn opened_hub(alloc: Global, disk: MemDisk) -> Option<Hub<MemServed>> {
+    match MemServed::open(alloc, disk, ROOM) {
+        Ok(pool) => Some(hub_of(pool)),
+        Err(_) => None,
+    }
+}
+
+/// Whether this is the status line of a pool.
+fn has_line(pool: &mut MemServed, line: &[u8]) -> bool {
+    let mut text = [0; 192];
+    let count = pool.status(&mut text);
+    text.get(..count) == Some(line)
+}
+
+/// Whether the first sector of volume 0 is as it was filled.
+fn has_letters(pool: &mut MemServed) -> bool {
+    let mut sector = [0; 512];
+    if pool.geometry().volume_sectors() == 0 {
+        return false;
+    }
+    pool.read(DevId::new(0), 0, &mut sector).is_ok() && sector == [0x61; 512]
+}
+
+/// Whether a pool is the empty one.
+pub(crate) fn is_empty(pool: &mut MemServed) -> bool {
+    has_line(
+        pool,
+        b"0 9/1032 0/4 - rw no_discard_passdown error_if_no_space - 512",
+    )
+}
+
+/// Whether a pool is that with volume 0.
+pub(crate) fn is_of_volume(pool: &mut MemServed) -> bool {
+    has_line(
+        pool,
+        b"0 10/1032 1/4 - rw no_discard_passdown error_if_no_space - 512",
+    ) && has_letters(pool)
+}
+
+/// Whether a pool is that with volume 0, to be read alone.
+pub(crate) fn is_of_volume_to_read(pool: &mut MemServed) -> bool {
+    has_line(
+        pool,
+        b"0 10/1032 1/4 - ro no_discard_passdown error_if_no_space - 512",
+    ) && has_letters(pool)
+}
