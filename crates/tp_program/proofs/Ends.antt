@@ -1,8 +1,8 @@
 -- How a program ends that did what its words name.
 use Rattle.std.proofs.Common.{inl, inr, List, Result, Ok, Err}
 use Rattle.std.specs.Prelude.{IfErr}
-use Rattle.tp_words.specs.CommandLine.{AskFor, IsScript, Text}
-use Rattle.tp_words.specs.declared.task.Asked.{Asked}
+use Rattle.tp_tasks.specs.CommandLine.{AskFor, IsScript, Text}
+use Rattle.tp_tasks.specs.declared.task.Asked.{Asked}
 use Rattle.tp_program.specs.declared.scripts.Unplayed.{Unplayed}
 use Rattle.tp_program.specs.declared.scripts.Unplayed.TheVariants.{Refused, BadLine}
 use Rattle.tp_program.specs.Scripts.{IsBadLine}

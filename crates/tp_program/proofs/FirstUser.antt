@@ -15,7 +15,7 @@ use Rattle.tp_hub.specs.Runs.{call_of}
 use Rattle.tp_hub.specs.Streams.{StreamCall}
 use Rattle.tp_images.specs.Deeds.{AreHonest, Deed, OnImage}
 use Rattle.tp_images.specs.declared.way.Way.{Way}
-use Rattle.tp_words.specs.declared.task.Sizes.{Sizes}
+use Rattle.tp_tasks.specs.declared.task.Sizes.{Sizes}
 use Rattle.tp_program.specs.declared.failure.Failure.{Failure}
 use Rattle.tp_program.specs.Failures.{number_of}
 use Rattle.tp_program.specs.First.{first_pool}

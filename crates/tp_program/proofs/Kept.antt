@@ -27,7 +27,7 @@ use Rattle.tp_hub.specs.Streams.{Makes, StreamCall}
 use Rattle.tp_hub.specs.declared.client.Carried.{Carried}
 use Rattle.tp_images.specs.Deeds.{Closes, Deed, IsLeftBy, Opens, left_at}
 use Rattle.tp_images.specs.declared.way.Way.TheVariants.{ToMake, ToRead, ToWrite}
-use Rattle.tp_words.specs.declared.task.Sizes.{Sizes}
+use Rattle.tp_tasks.specs.declared.task.Sizes.{Sizes}
 use Rattle.tp_meta.specs.declared.whole.Meta.{Meta}
 use Rattle.tp_meta.specs.Standing.{StandsFor, changed_of, geometry_of, marks_of, room_of}
 use Rattle.tp_pool.specs.Held.{IsSomePool, shows}

@@ -5,10 +5,10 @@ use Rattle.std.specs.Io.KnownBytes.{Keeps}
 use Rattle.tp_hub.specs.Streams.{StreamCall}
 use Rattle.tp_images.specs.Deeds.{Deed}
 use Rattle.tp_lines.specs.Pipes.{IsPiped}
-use Rattle.tp_words.specs.CommandLine.{AskFor, IsScript, Text}
-use Rattle.tp_words.specs.declared.task.Asked.{Asked}
-use Rattle.tp_words.specs.declared.task.Task.{Task}
-use Rattle.tp_words.specs.declared.task.Task.TheVariants.{Format, Message, Status, Check, Feed, Serve, Play, Run, Ask}
+use Rattle.tp_tasks.specs.CommandLine.{AskFor, IsScript, Text}
+use Rattle.tp_tasks.specs.declared.task.Asked.{Asked}
+use Rattle.tp_tasks.specs.declared.task.Task.{Task}
+use Rattle.tp_tasks.specs.declared.task.Task.TheVariants.{Format, Message, Status, Check, Feed, Serve, Play, Run, Ask}
 use Rattle.tp_program.specs.declared.failure.Failure.{Failure}
 use Rattle.tp_program.specs.declared.scripts.Unplayed.{Unplayed}
 use Rattle.tp_program.specs.Scripts.{IsBadLine}

@@ -25,7 +25,7 @@ use Rattle.tp_meta.specs.Standing.{StandsFor, changed_of, geometry_of, marks_of,
 use Rattle.tp_pool.specs.Checked.{IsClearing, cleared}
 use Rattle.tp_pool.specs.Held.{IsPool, shows}
 use Rattle.tp_served.specs.Served.{Cached, cached, disk_of, on_cache}
-use Rattle.tp_words.specs.declared.task.Sizes.{Sizes}
+use Rattle.tp_tasks.specs.declared.task.Sizes.{Sizes}
 use Rattle.tp_program.specs.Opening.{IsOpenedOn, IsRefusedOn}
 use Rattle.tp_program.specs.Printing.{IsLineGiven, Prints, PrintsCall, newline, status_call}
 

@@ -1,7 +1,7 @@
 -- Trusted reading: how a program ends.
 use Rattle.std.specs.Prelude.{◌⊎◌, ℕ, List, Result, Ok, Err, ⊤}
 use Rattle.tp_model.specs.declared.refusal.Refusal.{Refusal}
-use Rattle.tp_words.specs.CommandLine.{AreWrong, AskHelp, NameScript, NameTask, Text}
+use Rattle.tp_tasks.specs.CommandLine.{AreWrong, AskHelp, NameScript, NameTask, Text}
 use Rattle.tp_words.specs.declared.reading.NoWords.{NoWords}
 use Rattle.tp_words.specs.declared.reading.NoWords.TheVariants.{NotUtf8, Memory}
 use Rattle.tp_program.specs.declared.scripts.Unplayed.{Unplayed}

@@ -11,12 +11,12 @@ use Rattle.tp_hub.specs.Streams.{Gave, Makes, StreamCall}
 use Rattle.tp_images.specs.Deeds.{Deed, NotOpened, OnImage}
 use Rattle.tp_images.specs.declared.way.Way.TheVariants.{ToRead, ToMake}
 use Rattle.tp_lines.specs.Pipes.{IsPiped}
-use Rattle.tp_words.specs.CommandLine.{AreWrong, AskHelp, Name, Text, mistakes}
-use Rattle.tp_words.specs.declared.task.Image.{Image}
-use Rattle.tp_words.specs.declared.task.Image.TheVariants as kept
-use Rattle.tp_words.specs.declared.task.Sizes.{Sizes}
-use Rattle.tp_words.specs.declared.task.Task.{Task}
-use Rattle.tp_words.specs.declared.task.Task.TheVariants.{Format, Message, Status, Check, Feed, Serve, Play, Run, Ask}
+use Rattle.tp_tasks.specs.CommandLine.{AreWrong, AskHelp, Name, Text, mistakes}
+use Rattle.tp_tasks.specs.declared.task.Image.{Image}
+use Rattle.tp_tasks.specs.declared.task.Image.TheVariants as kept
+use Rattle.tp_tasks.specs.declared.task.Sizes.{Sizes}
+use Rattle.tp_tasks.specs.declared.task.Task.{Task}
+use Rattle.tp_tasks.specs.declared.task.Task.TheVariants.{Format, Message, Status, Check, Feed, Serve, Play, Run, Ask}
 use Rattle.tp_program.specs.declared.failure.Failure.{Failure}
 use Rattle.tp_program.specs.declared.programs.Status as ends
 use Rattle.tp_program.specs.declared.programs.Status.TheVariants as ending

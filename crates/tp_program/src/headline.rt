@@ -24,7 +24,7 @@ ghost use Rattle.tp_images.specs.Deeds.{Deed, IsLeftBy};
 ghost use Rattle.tp_lines.specs.Plays.{PlaysScript};
 ghost use Rattle.nbd_session.specs.declared.phase.Profile.{Profile};
 ghost use Rattle.tp_lines.specs.declared.play.Stopped.{Stopped};
-ghost use Rattle.tp_words.specs.declared.task.Sizes.{Sizes};
+ghost use Rattle.tp_tasks.specs.declared.task.Sizes.{Sizes};
 ghost use Rattle.tp_program.specs.Images.{IsFormatted, IsMessageGiven, IsStatusTold, sizes_asked};
 ghost use Rattle.tp_program.specs.Lives.{IsFoundAs, IsKept, IsPlainLife};
 ghost use Rattle.tp_program.specs.Printing.{status_call};

@@ -3,8 +3,8 @@
 ghost use Rattle.std.specs.Prelude.{◌≡◌, ◌&&◌, IfNone, IfSome, List, MatchBool, [], map};
 ghost use Rattle.tp_hub.specs.Streams.{StreamCall};
 ghost use Rattle.tp_lines.specs.Pipes.{IsPiped};
-ghost use Rattle.tp_words.specs.CommandLine.{IsScript};
-ghost use Rattle.tp_words.specs.declared.task.Task.TheVariants.{Play};
+ghost use Rattle.tp_tasks.specs.CommandLine.{IsScript};
+ghost use Rattle.tp_tasks.specs.declared.task.Task.TheVariants.{Play};
 ghost use Rattle.tp_program.specs.Failures.{number_of};
 ghost use Rattle.tp_program.specs.Images.{IsChecked, IsCleared, IsFormatted};
 ghost use Rattle.tp_program.specs.Statuses.{EndsBy, status_after, status_code, status_of, status_without};

@@ -2,7 +2,7 @@
 use Rattle.std.proofs.Common.{◌≡◌, true, refl}
 use Rattle.clap.specs.Words.{is_simple, is_simple_and_free}
 use Rattle.clap.proofs.OnLiterals.{clap_on_literals}
-use Rattle.tp_words.specs.CommandLine.{thinpool_app}
+use Rattle.tp_tasks.specs.CommandLine.{thinpool_app}
 
 pub is_plain : is_simple thinpool_app ≡ true
 unfolding clap_on_literals

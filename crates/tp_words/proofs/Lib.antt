@@ -1,3 +1,2 @@
-mod Arguments
 mod CommandLine
 mod Flag

@@ -1,18 +1,18 @@
 //! The reading of a command line.
 
-ghost use Rattle.std.specs.Prelude.{◌≡◌, ◌⊎◌, ◌≤◌, [], ℕ, IfOk, List, MatchOption, MatchResult, codes, drop, false, map};
-ghost use Rattle.clap.specs.Words.{App, HasKind, Text, app_of, found_of, rows_of, rule_of, new_app, subcommand_rows_of, with_rule, with_subcommand};
+ghost use Rattle.std.specs.Prelude.{◌≡◌, [], IfOk, List, MatchResult, drop, false, map};
+ghost use Rattle.clap.specs.Words.{App, HasKind, Rule, Text, app_of, new_app, rule_of, subcommand_rows_of, with_rule, with_subcommand};
 ghost use Rattle.clap.specs.declared.builder.command.Command.TheViews.{out-Command};
-ghost use Rattle.tp_words.specs.declared.task.Texts.{Texts};
-ghost use Rattle.tp_words.specs.CommandLine.{AskFor, HasClients, HasNoNumber, HasNumber, HasSizes, HasText, HasTexts, IsAsk, IsCheck, IsFeed, IsFormat, IsImage, IsMessage, IsNumber, IsPlay, IsRun, IsServe, IsStatus, IsTask, IsTaskOf, IsUnread, LacksClients, LacksNumber, LacksSizes, LacksTask, LacksTaskOf, LacksText, LacksTexts, MayHaveNumber, MayHaveText, NameNone, ask_app, check_app, extended_rule, feed_app, flag_rule, format_app, image_app, is_explained, is_used, message_app, mistakes, number_rule, option_rule, optional_number_rule, optional_rule, play_app, repeated_rule, run_app, serve_app, status_app, text_rule, texts_in, thinpool_app, without_flag, without_subcommands};
+ghost use Rattle.tp_tasks.specs.CommandLine.{AskFor, IsUnread, NameNone, check_app, command_in, extended_rule, feed_app, flag_rule, format_app, image_app, is_explained, message_app, mistakes, number_rule, option_rule, optional_number_rule, optional_rule, play_app, repeated_rule, serve_app, status_app, text_rule, thinpool_app, without_flag, without_subcommands};
+ghost use Rattle.tp_words.specs.Commands.{IsMade, IsRuled};
 
-use crate::running::{ask_command, ask_task, fault_of_run, run_command, run_task};
-use crate::task::{Asked, Image, Sizes, Task, Unread};
+use crate::running::{ask_command, run_command};
 use clap::error::ErrorKind;
 use clap::{Arg, ArgAction, ArgMatches, Command};
 use std::alloc::{AllocError, Global};
 use std::convert::AsStr;
 use std::path::Path;
+use tp_tasks::{Asked, Unread, fault_of_run, task_of};
 
 const VERSION: &str = "0.1.0 (rattle-kit-13f logic dac8208d650f15bf)";
 
@@ -143,15 +143,40 @@ pub fn command<'a, S: AsStr>(alloc: Global, words: &'a [S]) -> Result<Asked<'a>,
     ensures { MatchResult result (λ asked. AskFor (map S.text words.now) asked) (λ why. IsUnread (map S.text words.now) why) }
 {
     let (explains, rest) = without_flag(words);
-    let Ok(mut known) = commands_for(alloc, words, explains) else {
-        return Err(Unread::Memory);
-    };
+    match commands_for(alloc, words, explains) {
+        Ok(mut known) => read(alloc, &mut known, rest, explains),
+        Err(_) => Err(Unread::Memory),
+    }
+}
+
+/// What these commands make of the words for `clap`.
+fn read<'a, S: AsStr>(
+    alloc: Global,
+    known: &mut Command<'a>,
+    rest: &'a [S],
+    explains: bool,
+) -> Result<Asked<'a>, Unread>
+    ensures { (words : List Text) → app_of known.old ≡ thinpool_app → drop 1 (map S.text rest.entry.now) ≡ drop 1 (without_flag words) → explains ≡ is_explained words
+        → MatchResult result (λ asked. AskFor words asked) (λ why. IsUnread words why) }
+{
     match known.try_get_matches_from_mut(rest) {
-        Ok(matches) => match task_of(&matches) {
-            Some(task) => Ok(Asked { task, explains }),
-            None => Err(misused(alloc, &matches)),
-        },
+        Ok(matches) => asked_in(alloc, &matches, explains),
         Err(error) => Err(unread(alloc, rest, &error)),
+    }
+}
+
+/// The task that was found, if there is one.
+fn asked_in<'a>(
+    alloc: Global,
+    matches: &ArgMatches<'a>,
+    explains: bool,
+) -> Result<Asked<'a>, Unread>
+    ensures { (words : List Text) → mistakes words ≡ [] → subcommand_rows_of matches.now ≡ command_in words → explains ≡ is_explained words
+        → MatchResult result (λ asked. AskFor words asked) (λ why. IsUnread words why) }
+{
+    match task_of(matches) {
+        Some(task) => Ok(Asked { task, explains }),
+        None => Err(misused(alloc, matches)),
     }
 }
 
@@ -268,20 +293,23 @@ pub(crate) fn optional<'a>(alloc: Global, id: &'a str, help: &'a str) -> Arg<'a>
 }
 
 /// A command with one argument more.
-pub(crate) fn with<'a>(command: Command<'a>, arg: Arg<'a>) -> Result<Command<'a>, AllocError>
-    requires { arg.global ≡ false }
-    ensures app { IfOk result (λ made. app_of made ≡ with_rule (app_of command.entry) (rule_of arg.entry)) }
-    ensures local { IfOk result (λ made. (out-Command made).has_globals ≡ (out-Command command.entry).has_globals) }
+fn add_argument<'a>(command: Command<'a>, arg: Arg<'a>) -> Result<Command<'a>, AllocError>
+    ensures { (before : App) (rule : Rule) → IsMade before command.entry → IsRuled rule arg.entry → IfOk result (IsMade (with_rule before rule)) }
 {
     command.arg(arg)
 }
 
-/// A command with a longer help.
-pub(crate) fn explained<'a>(command: Command<'a>, help: &'a str) -> Command<'a>
-    ensures app { app_of result ≡ app_of command.entry }
-    ensures local { (out-Command result).has_globals ≡ (out-Command command.entry).has_globals }
+/// The same of one that there may be no memory for. A `?` where a command lives is dear to prove, so it is passed on whole.
+pub(crate) fn with<'a>(
+    made: Result<Command<'a>, AllocError>,
+    arg: Arg<'a>,
+) -> Result<Command<'a>, AllocError>
+    ensures { (before : App) (rule : Rule) → IfOk made.entry (IsMade before) → IsRuled rule arg.entry → IfOk result (IsMade (with_rule before rule)) }
 {
-    command.after_help(help)
+    match made {
+        Ok(command) => add_argument(command, arg),
+        Err(error) => Err(error),
+    }
 }
 
 /// A command of an image.
@@ -290,25 +318,24 @@ pub(crate) fn of_image<'a>(
     name: &'a str,
     about: &'a str,
     image: &'a str,
+    help: &'a str,
 ) -> Result<Command<'a>, AllocError>
-    ensures app { IfOk result (λ made. app_of made ≡ image_app name.entry.now) }
-    ensures local { IfOk result (λ made. (out-Command made).has_globals ≡ false) }
+    ensures { IfOk result (IsMade (image_app name.entry.now)) }
 {
-    let command = named(alloc, name, about);
-    with(command, text(alloc, "IMAGE", image))
+    let command = named(alloc, name, about, help);
+    add_argument(command, text(alloc, "IMAGE", image))
 }
 
 /// A command without arguments.
-pub(crate) fn named<'a>(alloc: Global, name: &'a str, about: &'a str) -> Command<'a>
+pub(crate) fn named<'a>(alloc: Global, name: &'a str, about: &'a str, help: &'a str) -> Command<'a>
     ensures app { app_of result ≡ new_app name.entry.now }
     ensures local { (out-Command result).has_globals ≡ false }
 {
-    Command::new(alloc, name).about(about)
+    Command::new(alloc, name).about(about).after_help(help)
 }
 
 fn format_command<'a>(alloc: Global) -> Result<Command<'a>, AllocError>
-    ensures app { IfOk result (λ made. app_of made ≡ format_app) }
-    ensures local { IfOk result (λ made. (out-Command made).has_globals ≡ false) }
+    ensures { IfOk result (IsMade format_app) }
 {
     let about =
         "Make a file the image of an empty pool, and print its status line. What the file held is lost";
@@ -318,50 +345,46 @@ fn format_command<'a>(alloc: Global) -> Result<Command<'a>, AllocError>
     let metadata =
         "Metadata blocks of 4096 bytes: at least 1024 and the fixed part (2, and two for each 1024 blocks of either part), at most 65536";
     let data = "Data blocks of the pool: 1 to 1048576";
-    let command = of_image(alloc, "format", about, image)?;
-    let command = with(command, number(alloc, "BLOCK_SECTORS", block))?;
-    let command = with(command, number(alloc, "VIRTUAL_BLOCKS", volume))?;
-    let command = with(command, number(alloc, "METADATA_BLOCKS", metadata))?;
-    let command = with(command, number(alloc, "DATA_BLOCKS", data))?;
-    Ok(explained(command, FORMAT_HELP))
+    let made = of_image(alloc, "format", about, image, FORMAT_HELP);
+    let made = with(made, number(alloc, "BLOCK_SECTORS", block));
+    let made = with(made, number(alloc, "VIRTUAL_BLOCKS", volume));
+    let made = with(made, number(alloc, "METADATA_BLOCKS", metadata));
+    with(made, number(alloc, "DATA_BLOCKS", data))
 }
 
 fn message_command<'a>(alloc: Global) -> Result<Command<'a>, AllocError>
-    ensures app { IfOk result (λ made. app_of made ≡ message_app) }
-    ensures local { IfOk result (λ made. (out-Command made).has_globals ≡ false) }
+    ensures { IfOk result (IsMade message_app) }
 {
     let about = "Give a pool one message, and print 'ok'";
     let image = "The file that holds the pool";
     let line = "The message, in quotes: 256 bytes at most";
-    let command = of_image(alloc, "message", about, image)?;
-    let command = with(command, text(alloc, "LINE", line))?;
-    Ok(explained(command, MESSAGE_HELP))
+    let made = of_image(alloc, "message", about, image, MESSAGE_HELP);
+    with(made, text(alloc, "LINE", line))
 }
 
 fn status_command<'a>(alloc: Global) -> Result<Command<'a>, AllocError>
-    ensures app { IfOk result (λ made. app_of made ≡ status_app) }
-    ensures local { IfOk result (λ made. (out-Command made).has_globals ≡ false) }
+    ensures { IfOk result (IsMade status_app) }
 {
     let about = "Print the status line of a pool or of a volume. Nothing is written to the image";
     let image = "The file that holds the pool";
     let id = "The volume, 0 to 16777215; without it, the line is the pool's";
-    let command = of_image(alloc, "status", about, image)?;
-    let command = with(command, optional_number(alloc, "ID", id))?;
-    Ok(explained(command, STATUS_HELP))
+    let made = of_image(alloc, "status", about, image, STATUS_HELP);
+    with(made, optional_number(alloc, "ID", id))
 }
 
 fn check_command<'a>(alloc: Global) -> Result<Command<'a>, AllocError>
-    ensures app { IfOk result (λ made. app_of made ≡ check_app) }
-    ensures local { IfOk result (λ made. (out-Command made).has_globals ≡ false) }
+    ensures { IfOk result (IsMade check_app) }
 {
     let about = "Print 'clean' where an image is so. Without a flag nothing is written to it";
     let clears = "Where the image is clean, clear the flag by which its pool wants a check";
-    let command = of_image(alloc, "check", about, "The file that holds the pool")?;
-    let command = with(
-        command,
-        flag(alloc, "CLEAR", "clear-needs-check-flag", clears),
-    )?;
-    Ok(explained(command, CHECK_HELP))
+    let made = of_image(
+        alloc,
+        "check",
+        about,
+        "The file that holds the pool",
+        CHECK_HELP,
+    );
+    with(made, flag(alloc, "CLEAR", "clear-needs-check-flag", clears))
 }
 
 /// The flag by which clients are offered what `run` offers.
@@ -374,20 +397,17 @@ fn extended<'a>(alloc: Global) -> Arg<'a>
 }
 
 fn feed_command<'a>(alloc: Global) -> Result<Command<'a>, AllocError>
-    ensures app { IfOk result (λ made. app_of made ≡ feed_app) }
-    ensures local { IfOk result (λ made. (out-Command made).has_globals ≡ false) }
+    ensures { IfOk result (IsMade feed_app) }
 {
     let about = "Serve one NBD client on standard input and output, then close the pool";
     let image =
         "The file that holds the pool, or 'mem:' for a fresh pool in memory with one volume, 0";
-    let command = of_image(alloc, "feed", about, image)?;
-    let command = with(command, extended(alloc))?;
-    Ok(explained(command, FEED_HELP))
+    let made = of_image(alloc, "feed", about, image, FEED_HELP);
+    with(made, extended(alloc))
 }
 
 fn serve_command<'a>(alloc: Global) -> Result<Command<'a>, AllocError>
-    ensures app { IfOk result (λ made. app_of made ≡ serve_app) }
-    ensures local { IfOk result (λ made. (out-Command made).has_globals ≡ false) }
+    ensures { IfOk result (IsMade serve_app) }
 {
     let about = "Serve NBD clients of a TCP address, then close the pool";
     let image = "The file that holds the pool";
@@ -395,42 +415,35 @@ fn serve_command<'a>(alloc: Global) -> Result<Command<'a>, AllocError>
     let clients = "How many clients are served: 1 to 64";
     let control =
         "Where to listen for messages and questions for status lines while clients are served";
-    let command = of_image(alloc, "serve", about, image)?;
-    let command = with(command, text(alloc, "ADDR", address))?;
-    let command = with(command, number(alloc, "COUNT", clients))?;
-    let command = with(
-        command,
+    let made = of_image(alloc, "serve", about, image, SERVE_HELP);
+    let made = with(made, text(alloc, "ADDR", address));
+    let made = with(made, number(alloc, "COUNT", clients));
+    with(
+        made,
         option(alloc, "CONTROL", "control", "ADDRESS", control),
-    )?;
-    Ok(explained(command, SERVE_HELP))
+    )
 }
 
 fn play_command<'a>(alloc: Global) -> Result<Command<'a>, AllocError>
-    ensures app { IfOk result (λ made. app_of made ≡ play_app) }
-    ensures local { IfOk result (λ made. (out-Command made).has_globals ≡ false) }
+    ensures { IfOk result (IsMade play_app) }
 {
     let about = "Play the events of a script over a pool, then close the pool";
     let image =
         "The file that holds the pool, or 'mem:' for a fresh pool in memory with one volume, 0";
-    let command = of_image(alloc, "play", about, image)?;
-    let command = with(command, text(alloc, "SCRIPT", "The file of the script"))?;
-    let command = with(command, extended(alloc))?;
-    Ok(explained(command, PLAY_HELP))
+    let made = of_image(alloc, "play", about, image, PLAY_HELP);
+    let made = with(made, text(alloc, "SCRIPT", "The file of the script"));
+    with(made, extended(alloc))
 }
 
 /// The program, as yet without its commands.
 fn program<'a>(alloc: Global) -> Command<'a>
     ensures { app_of result ≡ without_subcommands }
 {
-    named(
-        alloc,
-        "thinpool",
-        "A thin pool with snapshots, served over NBD",
-    )
-    .version(VERSION)
-    .after_help(AFTER_HELP)
-    .subcommand_required(true)
-    .arg_required_else_help(true)
+    let about = "A thin pool with snapshots, served over NBD";
+    named(alloc, "thinpool", about, AFTER_HELP)
+        .version(VERSION)
+        .subcommand_required(true)
+        .arg_required_else_help(true)
 }
 
 /// The commands, with their arguments.
@@ -450,8 +463,7 @@ fn known_commands<'a>(alloc: Global) -> Result<Command<'a>, AllocError>
 
 /// Commands with one more.
 fn add<'a>(known: Command<'a>, command: Command<'a>) -> Result<Command<'a>, AllocError>
-    requires { (out-Command command).has_globals ≡ false }
-    ensures { IfOk result (λ made. app_of made ≡ with_subcommand (app_of known.entry) (app_of command.entry).top) }
+    ensures { (out-Command command.entry).has_globals ≡ false → IfOk result (λ made. app_of made ≡ with_subcommand (app_of known.entry) (app_of command.entry).top) }
 {
     known.subcommand(command)
 }
@@ -461,8 +473,7 @@ fn add_made<'a>(
     known: Command<'a>,
     made: Result<Command<'a>, AllocError>,
 ) -> Result<Command<'a>, AllocError>
-    requires { IfOk made (λ command. (out-Command command).has_globals ≡ false) }
-    ensures { (more : App) → IfOk made.entry (λ command. app_of command ≡ more) → IfOk result (λ all. app_of all ≡ with_subcommand (app_of known.entry) more.top) }
+    ensures { (more : App) → IfOk made.entry (IsMade more) → IfOk result (λ all. app_of all ≡ with_subcommand (app_of known.entry) more.top) }
 {
     match made {
         Ok(command) => add(known, command),
@@ -475,233 +486,12 @@ fn add_to_made<'a>(
     known: Result<Command<'a>, AllocError>,
     made: Result<Command<'a>, AllocError>,
 ) -> Result<Command<'a>, AllocError>
-    requires { IfOk made (λ command. (out-Command command).has_globals ≡ false) }
-    ensures { (before more : App) → IfOk known.entry (λ commands. app_of commands ≡ before) → IfOk made.entry (λ command. app_of command ≡ more)
+    ensures { (before more : App) → IfOk known.entry (λ commands. app_of commands ≡ before) → IfOk made.entry (IsMade more)
         → IfOk result (λ all. app_of all ≡ with_subcommand before more.top) }
 {
     match known {
         Ok(commands) => add_made(commands, made),
         Err(error) => Err(error),
-    }
-}
-
-/// The task of a subcommand with its arguments.
-fn task_of<'a>(matches: &ArgMatches<'a>) -> Option<Task<'a>>
-    ensures { MatchOption result (LacksTaskOf (subcommand_rows_of matches.now)) (λ task. IsTaskOf (subcommand_rows_of matches.now) task) }
-{
-    let (name, arguments) = matches.subcommand()?;
-    task_named(name, arguments)
-}
-
-/// The task of the subcommand of this name.
-fn task_named<'a>(name: &str, arguments: &ArgMatches<'a>) -> Option<Task<'a>>
-    ensures { MatchOption result (LacksTask name.now (rows_of (found_of arguments.now))) (λ task. IsTask name.now (rows_of (found_of arguments.now)) task) }
-{
-    if name == "format" {
-        return format_task(arguments);
-    }
-    if name == "message" {
-        return message_task(arguments);
-    }
-    if name == "status" {
-        return status_task(arguments);
-    }
-    if name == "check" {
-        return check_task(arguments);
-    }
-    if name == "feed" {
-        return feed_task(arguments);
-    }
-    if name == "serve" {
-        return serve_task(arguments);
-    }
-    if name == "play" {
-        return play_task(arguments);
-    }
-    if name == "run" {
-        return run_task(arguments);
-    }
-    if name == "ask" {
-        return ask_task(arguments);
-    }
-    None
-}
-
-fn format_task<'a>(arguments: &ArgMatches<'a>) -> Option<Task<'a>>
-    ensures { MatchOption result (LacksText (codes "IMAGE") (rows_of (found_of arguments.now)) ⊎ LacksSizes (rows_of (found_of arguments.now)))
-        (λ task. IsFormat (rows_of (found_of arguments.now)) task) }
-{
-    let image = text_of(arguments, "IMAGE")?;
-    let sizes = sizes_of(arguments)?;
-    Some(Task::Format { image, sizes })
-}
-
-fn message_task<'a>(arguments: &ArgMatches<'a>) -> Option<Task<'a>>
-    ensures { MatchOption result (LacksText (codes "IMAGE") (rows_of (found_of arguments.now)) ⊎ LacksText (codes "LINE") (rows_of (found_of arguments.now)))
-        (λ task. IsMessage (rows_of (found_of arguments.now)) task) }
-{
-    let image = text_of(arguments, "IMAGE")?;
-    let line = text_of(arguments, "LINE")?;
-    Some(Task::Message { image, line })
-}
-
-fn status_task<'a>(arguments: &ArgMatches<'a>) -> Option<Task<'a>>
-    ensures { MatchOption result (LacksText (codes "IMAGE") (rows_of (found_of arguments.now)) ⊎ HasNoNumber (codes "ID") (rows_of (found_of arguments.now)))
-        (λ task. IsStatus (rows_of (found_of arguments.now)) task) }
-{
-    let image = text_of(arguments, "IMAGE")?;
-    let id = number_if_there(arguments, "ID")?;
-    Some(Task::Status { image, id })
-}
-
-fn check_task<'a>(arguments: &ArgMatches<'a>) -> Option<Task<'a>>
-    ensures { MatchOption result (LacksText (codes "IMAGE") (rows_of (found_of arguments.now))) (λ task. IsCheck (rows_of (found_of arguments.now)) task) }
-{
-    let image = text_of(arguments, "IMAGE")?;
-    let clears = has_flag(arguments, "CLEAR");
-    Some(Task::Check { image, clears })
-}
-
-fn feed_task<'a>(arguments: &ArgMatches<'a>) -> Option<Task<'a>>
-    ensures { MatchOption result (LacksText (codes "IMAGE") (rows_of (found_of arguments.now))) (λ task. IsFeed (rows_of (found_of arguments.now)) task) }
-{
-    let text = text_of(arguments, "IMAGE")?;
-    let image = image_of(text);
-    let is_extended = has_flag(arguments, "EXTENDED");
-    Some(Task::Feed { image, is_extended })
-}
-
-fn serve_task<'a>(arguments: &ArgMatches<'a>) -> Option<Task<'a>>
-    ensures { MatchOption result
-        (LacksText (codes "IMAGE") (rows_of (found_of arguments.now)) ⊎ LacksText (codes "ADDR") (rows_of (found_of arguments.now)) ⊎ LacksClients (rows_of (found_of arguments.now)))
-        (λ task. IsServe (rows_of (found_of arguments.now)) task) }
-{
-    let image = text_of(arguments, "IMAGE")?;
-    let address = text_of(arguments, "ADDR")?;
-    let clients = clients_of(arguments)?;
-    let control = text_if_there(arguments, "CONTROL");
-    Some(Task::Serve {
-        image,
-        address,
-        clients,
-        control,
-    })
-}
-
-fn play_task<'a>(arguments: &ArgMatches<'a>) -> Option<Task<'a>>
-    ensures { MatchOption result (LacksText (codes "IMAGE") (rows_of (found_of arguments.now)) ⊎ LacksText (codes "SCRIPT") (rows_of (found_of arguments.now)))
-        (λ task. IsPlay (rows_of (found_of arguments.now)) task) }
-{
-    let text = text_of(arguments, "IMAGE")?;
-    let script = text_of(arguments, "SCRIPT")?;
-    let image = image_of(text);
-    let is_extended = has_flag(arguments, "EXTENDED");
-    Some(Task::Play {
-        image,
-        script,
-        is_extended,
-    })
-}
-
-/// How many clients are served, among the arguments.
-fn clients_of(arguments: &ArgMatches<'_>) -> Option<u8>
-    ensures { MatchOption result (LacksClients (rows_of (found_of arguments.now))) (λ n. HasClients (rows_of (found_of arguments.now)) n) }
-{
-    let count = number_of(arguments, "COUNT")?;
-    few_enough(count)
-}
-
-/// A number of clients that can be served: 1 to 64.
-fn few_enough(count: u64) -> Option<u8>
-    ensures { MatchOption result (1 ≤ count → count ≤ 64 → ⊥) (λ n. (n ≡ count) × (1 ≤ n) × (n ≤ 64)) }
-{
-    if count < 1 {
-        return None;
-    }
-    if count > 64 {
-        return None;
-    }
-    Some(count as u8)
-}
-
-/// The sizes of a pool among the arguments.
-fn sizes_of(arguments: &ArgMatches<'_>) -> Option<Sizes>
-    ensures { MatchOption result (LacksSizes (rows_of (found_of arguments.now))) (λ sizes. HasSizes (rows_of (found_of arguments.now)) sizes) }
-{
-    let block_sectors = number_of(arguments, "BLOCK_SECTORS")?;
-    let virtual_blocks = number_of(arguments, "VIRTUAL_BLOCKS")?;
-    let metadata_blocks = number_of(arguments, "METADATA_BLOCKS")?;
-    let data_blocks = number_of(arguments, "DATA_BLOCKS")?;
-    Some(Sizes {
-        block_sectors,
-        virtual_blocks,
-        metadata_blocks,
-        data_blocks,
-    })
-}
-
-/// A text among the arguments.
-pub(crate) fn text_of<'a>(arguments: &ArgMatches<'a>, id: &str) -> Option<&'a str>
-    ensures { MatchOption result (LacksText id.now (rows_of (found_of arguments.now))) (λ text. HasText id.now (rows_of (found_of arguments.now)) text) }
-{
-    arguments.get_str(id)
-}
-
-/// The same of one that may be left out.
-pub(crate) fn text_if_there<'a>(arguments: &ArgMatches<'a>, id: &str) -> Option<&'a str>
-    ensures { MayHaveText id.now (rows_of (found_of arguments.now)) result }
-{
-    text_of(arguments, id)
-}
-
-/// Whether a flag is among the arguments.
-pub(crate) fn has_flag(arguments: &ArgMatches<'_>, id: &str) -> bool
-    ensures { result ≡ is_used id.now (rows_of (found_of arguments.now)) }
-{
-    match text_of(arguments, id) {
-        Some(text) => text == "true",
-        None => false,
-    }
-}
-
-/// A number among the arguments.
-fn number_of(arguments: &ArgMatches<'_>, id: &str) -> Option<u64>
-    ensures { MatchOption result (LacksNumber id.now (rows_of (found_of arguments.now))) (λ n. HasNumber id.now (rows_of (found_of arguments.now)) n) }
-{
-    let text = text_of(arguments, id)?;
-    let number = number_in(text)?;
-    Some(number)
-}
-
-/// The number that a text is, of 64 bits.
-fn number_in(text: &str) -> Option<u64>
-    ensures { MatchOption result ((n : ℕ) → IsNumber text.now n → ⊥) (λ n. IsNumber text.now n) }
-{
-    match text.parse::<u64>() {
-        Ok(number) => Some(number),
-        Err(_) => None,
-    }
-}
-
-/// The same where it is among them.
-pub(crate) fn number_if_there(arguments: &ArgMatches<'_>, id: &str) -> Option<Option<u64>>
-    ensures { MatchOption result (HasNoNumber id.now (rows_of (found_of arguments.now))) (λ n. MayHaveNumber id.now (rows_of (found_of arguments.now)) n) }
-{
-    let Some(_) = text_of(arguments, id) else {
-        return Some(None);
-    };
-    let number = number_of(arguments, id)?;
-    Some(Some(number))
-}
-
-/// The image that a text names.
-fn image_of(text: &str) -> Image<'_>
-    ensures { IsImage text.now result }
-{
-    if text == "mem:" {
-        Image::Memory
-    } else {
-        Image::File(text)
     }
 }
 
@@ -760,6 +550,18 @@ fn around_tip(text: &str) -> Option<(&str, &str, &str)> {
 /// Whether the first argument that begins so would be a value that is refused, as where a number is wanted, if `--` stood in front of it.
 fn is_no_value<S: AsStr>(alloc: Global, words: &[S], argument: &str) -> Result<bool, AllocError> {
     let mut tried = Vec::new(alloc);
+    match part(words, argument, &mut tried) {
+        Ok(()) => is_refused(alloc, &tried),
+        Err(error) => Err(error),
+    }
+}
+
+/// Adds the words, with `--` in front of the first argument that begins so.
+fn part<'a, S: AsStr>(
+    words: &'a [S],
+    argument: &str,
+    tried: &mut Vec<&'a str>,
+) -> Result<(), AllocError> {
     let mut is_passed = false;
     for word in words {
         if !is_passed && !tried.is_empty() && word.as_str().starts_with(argument) {
@@ -768,9 +570,21 @@ fn is_no_value<S: AsStr>(alloc: Global, words: &[S], argument: &str) -> Result<b
         }
         tried.push(word.as_str())?;
     }
-    let mut known = known_commands(alloc)?;
-    match known.try_get_matches_from_mut(&tried) {
-        Ok(_) => Ok(false),
-        Err(error) => Ok(error.kind() == ErrorKind::ValueValidation),
+    Ok(())
+}
+
+/// Whether a value among these words is refused.
+fn is_refused(alloc: Global, words: &[&str]) -> Result<bool, AllocError> {
+    match known_commands(alloc) {
+        Ok(mut known) => Ok(refuses(&mut known, words)),
+        Err(error) => Err(error),
+    }
+}
+
+/// Whether these commands refuse a value among the words.
+fn refuses<'a>(known: &mut Command<'a>, words: &'a [&'a str]) -> bool {
+    match known.try_get_matches_from_mut(words) {
+        Ok(_) => false,
+        Err(error) => error.kind() == ErrorKind::ValueValidation,
     }
 }

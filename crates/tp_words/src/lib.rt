@@ -1,13 +1,12 @@
 //! The words of a command line, and the tasks that they name.
 //!
-//! [`words`] takes them from the system, and [`command`] reads them by `clap`: what it makes of them is said by `specs/CommandLine`.
+//! [`words`] takes them from the system, and [`command`] reads them by `clap`: what it makes of them is said by `tp_tasks/specs/CommandLine`.
 #![tactic(auto)]
 
 mod command_line;
 mod reading;
 mod running;
-mod task;
 
 pub use command_line::command;
 pub use reading::{NoWords, words};
-pub use task::{Asked, Image, Service, Sizes, Task, Texts, Unread};
+pub use tp_tasks::{Asked, Image, Service, Sizes, Task, Texts, Unread};

@@ -1,6 +1,6 @@
 use Rattle.std.proofs.Common.{Bool, subst, sym}
 use Rattle.std.specs.Prelude.{◌&&◌}
-use Rattle.tp_words.specs.declared.task.Task.{Task}
+use Rattle.tp_tasks.specs.declared.task.Task.{Task}
 use Rattle.nbd_session.specs.declared.phase.Profile.{Profile}
 use Rattle.tp_program.specs.Tasks.{Does, PlaysFile}
 use Rattle.tp_program.proofs.Tasks.{does_streamed, keeps_same}

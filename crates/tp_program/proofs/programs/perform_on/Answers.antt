@@ -1,5 +1,5 @@
 use Rattle.std.proofs.Common.{rules, subst, sym}
-use Rattle.tp_words.specs.declared.task.Task.{Task}
+use Rattle.tp_tasks.specs.declared.task.Task.{Task}
 use Rattle.nbd_session.specs.declared.phase.Profile.{Profile}
 use Rattle.tp_program.specs.Failures.{number_of}
 use Rattle.tp_program.specs.Tasks.{DoesOn, Feeds}

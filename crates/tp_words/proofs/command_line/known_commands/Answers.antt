@@ -1,4 +1,4 @@
-use Rattle.tp_words.specs.CommandLine.{ask_app, check_app, feed_app, format_app, message_app, play_app, run_app, serve_app, status_app, without_subcommands}
+use Rattle.tp_tasks.specs.CommandLine.{ask_app, check_app, feed_app, format_app, message_app, play_app, run_app, serve_app, status_app, without_subcommands}
 use Rattle.clap.specs.Words.{with_subcommand}
 use Rattle.tp_words.proofs.command_line.known_commands.Goals as goal
 
@@ -20,12 +20,12 @@ returns c =
     (c.add_to_made-known-4.ensures three check_app
     (c.add_to_made-known-3.ensures two status_app
     (c.add_to_made-known-2.ensures one message_app
-    (c.add_to_made-known.ensures without_subcommands format_app c.program.ensures c.format_command.ensures.app)
-    c.message_command.ensures.app)
-    c.status_command.ensures.app)
-    c.check_command.ensures.app)
-    c.feed_command.ensures.app)
-    c.serve_command.ensures.app)
-    c.play_command.ensures.app)
-    c.run_command.ensures.app)
-    c.ask_command.ensures.app
+    (c.add_to_made-known.ensures without_subcommands format_app c.program.ensures c.format_command.ensures)
+    c.message_command.ensures)
+    c.status_command.ensures)
+    c.check_command.ensures)
+    c.feed_command.ensures)
+    c.serve_command.ensures)
+    c.play_command.ensures)
+    c.run_command.ensures)
+    c.ask_command.ensures

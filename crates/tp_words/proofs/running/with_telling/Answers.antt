@@ -1,9 +1,10 @@
-use Rattle.std.proofs.Common.{◌∙◌, ap, ap₂}
-use Rattle.std.proofs.lemmas.Result.{IfOk-weaker}
-use Rattle.clap.specs.Words.{app_of, with_rule}
+use Rattle.std.specs.Prelude.{codes}
+use Rattle.clap.specs.Words.{with_rule}
+use Rattle.tp_tasks.specs.CommandLine.{flag_rule, number_option_rule}
 use Rattle.tp_words.proofs.running.with_telling.Goals as goal
 
-pub returns-clause-app : goal.returns-clause-app
-returns-clause-app c =
-    let first = c.in_ok-command.ensures.app ∙ ap (with_rule (app_of c.args.command)) c.number_option.ensures.rule in
-    IfOk-weaker c.with-2.result _ _ (λ made h. h ∙ ap₂ with_rule first c.flag.ensures.rule) c.with-2.ensures.app
+pub returns : goal.returns
+returns c before is =
+    let low = number_option_rule (codes "LOW_WATER") (codes "low-water") in
+    c.with.ensures (with_rule before low) (flag_rule (codes "QUIET") (codes "quiet"))
+    (c.with-made.ensures before low is (c.number_option.ensures.rule, c.number_option.ensures.local)) (c.flag.ensures.rule, c.flag.ensures.local)

@@ -1,7 +1,7 @@
 use Rattle.std.proofs.Common.{rules}
 use Rattle.clap.specs.Words.{found_of, rows_of}
-use Rattle.tp_words.proofs.Arguments.{no_number, no_text}
-use Rattle.tp_words.proofs.command_line.number_of.Goals as goal
+use Rattle.tp_tasks.proofs.Arguments.{no_number, no_text}
+use Rattle.tp_tasks.proofs.tasks.number_of.Goals as goal
 
 pub returns-in_err-text : goal.returns-in_err-text
 returns-in_err-text c =

@@ -3,9 +3,9 @@ use Rattle.std.specs.Prelude.{MatchOption}
 use Rattle.std.specs.Box.{box_value}
 use Rattle.clap.specs.Words.{Row, Text, found_of, rows_of}
 use Rattle.clap.specs.declared.parser.matches.ArgMatches.TheViews.{out-ArgMatches, out-SubCommand}
-use Rattle.tp_words.specs.CommandLine.{IsTaskOf, LacksTaskOf}
-use Rattle.tp_words.proofs.Arguments.{both_parts}
-use Rattle.tp_words.proofs.command_line.task_of.Goals as goal
+use Rattle.tp_tasks.specs.CommandLine.{IsTaskOf, LacksTaskOf}
+use Rattle.tp_tasks.proofs.Arguments.{both_parts}
+use Rattle.tp_tasks.proofs.tasks.task_of.Goals as goal
 
 pub returns : goal.returns
 returns c =

@@ -1,8 +1,8 @@
 use Rattle.std.proofs.Common.{map, rules, sym, ◌∙◌}
 use Rattle.clap.proofs.WalkLemmas.{raw_values-rows}
 use Rattle.clap.specs.Words.{found_of, rows_of}
-use Rattle.tp_words.proofs.Arguments.{no_texts, texts_among}
-use Rattle.tp_words.proofs.running.texts_of.Goals as goal
+use Rattle.tp_tasks.proofs.Arguments.{no_texts, texts_among}
+use Rattle.tp_tasks.proofs.services.texts_of.Goals as goal
 
 pub returns-in_err-texts : goal.returns-in_err-texts
 returns-in_err-texts c =

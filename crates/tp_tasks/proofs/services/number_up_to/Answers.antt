@@ -1,7 +1,7 @@
 use Rattle.std.proofs.Common.{rules}
 use Rattle.clap.specs.Words.{found_of, rows_of}
-use Rattle.tp_words.proofs.Arguments.{no_number_up_to, up_to_among}
-use Rattle.tp_words.proofs.running.number_up_to.Goals as goal
+use Rattle.tp_tasks.proofs.Arguments.{no_number_up_to, up_to_among}
+use Rattle.tp_tasks.proofs.services.number_up_to.Goals as goal
 
 pub returns-in_err-number : goal.returns-in_err-number
 returns-in_err-number c =

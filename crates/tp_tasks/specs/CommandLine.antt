@@ -12,15 +12,15 @@ use Rattle.clap.specs.declared.builder.value_parser.ValueParser.{ValueParser}
 use Rattle.clap.specs.declared.builder.value_parser.ValueParser.TheVariants.{Unsigned}
 use Rattle.clap.specs.declared.error.kind.ErrorKind.{ErrorKind}
 use Rattle.clap.specs.declared.error.kind.ErrorKind.TheVariants.{DisplayHelp, DisplayVersion}
-use Rattle.tp_words.specs.declared.task.Asked.{Asked}
-use Rattle.tp_words.specs.declared.task.Task.{Task}
-use Rattle.tp_words.specs.declared.task.Task.TheVariants.{Format, Message, Status, Check, Feed, Serve, Play, Run, Ask}
-use Rattle.tp_words.specs.declared.task.Sizes.{Sizes}
-use Rattle.tp_words.specs.declared.task.Texts.{Texts}
-use Rattle.tp_words.specs.declared.task.Image.{Image}
-use Rattle.tp_words.specs.declared.task.Image.TheVariants.{Memory, File}
-use Rattle.tp_words.specs.declared.task.Unread.{Unread}
-use Rattle.tp_words.specs.declared.task.Unread.TheVariants as unread
+use Rattle.tp_tasks.specs.declared.task.Asked.{Asked}
+use Rattle.tp_tasks.specs.declared.task.Task.{Task}
+use Rattle.tp_tasks.specs.declared.task.Task.TheVariants.{Format, Message, Status, Check, Feed, Serve, Play, Run, Ask}
+use Rattle.tp_tasks.specs.declared.task.Sizes.{Sizes}
+use Rattle.tp_tasks.specs.declared.task.Texts.{Texts}
+use Rattle.tp_tasks.specs.declared.task.Image.{Image}
+use Rattle.tp_tasks.specs.declared.task.Image.TheVariants.{Memory, File}
+use Rattle.tp_tasks.specs.declared.task.Unread.{Unread}
+use Rattle.tp_tasks.specs.declared.task.Unread.TheVariants as unread
 
 -- ---- the commands
 

@@ -4,8 +4,8 @@ use Rattle.std.specs.Prelude.{MatchOption, codes, is_some, option_map}
 use Rattle.std.specs.Borrow.{Bor}
 use Rattle.std.specs.Str.Parse.{digits_value, without_leading_plus}
 use Rattle.clap.specs.Words.{Row, Text, all_of, first_of}
-use Rattle.tp_words.specs.declared.task.Texts.{Texts}
-use Rattle.tp_words.specs.CommandLine.{HasClients, HasNoNumber, HasNoneUpTo, HasNumber, HasText, HasTexts, IsAbove, IsNumber, IsUpTo, LacksClients, LacksNumber, LacksText, LacksTexts, MayHaveNumber, MayHaveUpTo, texts_in}
+use Rattle.tp_tasks.specs.declared.task.Texts.{Texts}
+use Rattle.tp_tasks.specs.CommandLine.{HasClients, HasNoNumber, HasNoneUpTo, HasNumber, HasText, HasTexts, IsAbove, IsNumber, IsUpTo, LacksClients, LacksNumber, LacksText, LacksTexts, MayHaveNumber, MayHaveUpTo, texts_in}
 
 -- a text is read exactly where there is one
 pub text_read : (id : Text) (rows : List Row) (r : Option (Bor Text)) → option_map (λ s. s.now) r ≡ first_of id rows

@@ -1,7 +1,7 @@
 use Rattle.std.proofs.Common.{rules}
 use Rattle.clap.specs.Words.{found_of, rows_of}
-use Rattle.tp_words.proofs.Arguments.{clients_among, no_clients}
-use Rattle.tp_words.proofs.command_line.clients_of.Goals as goal
+use Rattle.tp_tasks.proofs.Arguments.{clients_among, no_clients}
+use Rattle.tp_tasks.proofs.tasks.clients_of.Goals as goal
 
 pub returns-in_err-count : goal.returns-in_err-count
 returns-in_err-count c =

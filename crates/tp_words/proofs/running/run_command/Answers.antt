@@ -1,0 +1,18 @@
+use Rattle.std.specs.Prelude.{codes}
+use Rattle.clap.specs.Words.{with_rule}
+use Rattle.tp_tasks.specs.CommandLine.{image_app, number_option_rule, option_rule, repeated_rule}
+use Rattle.tp_words.proofs.running.run_command.Goals as goal
+
+pub returns : goal.returns
+returns c =
+    let listen = repeated_rule (codes "LISTEN") (codes "listen") in
+    let control = option_rule (codes "CONTROL") (codes "control") in
+    let default = number_option_rule (codes "DEFAULT") (codes "default") in
+    let one = with_rule (image_app (codes "run")) listen in
+    let two = with_rule one control in
+    c.with_telling.ensures (with_rule two default)
+    (c.with-made-3.ensures two default
+    (c.with-made-2.ensures one control
+    (c.with-made.ensures (image_app (codes "run")) listen c.of_image-made.ensures (c.repeated.ensures.rule, c.repeated.ensures.local))
+    (c.option.ensures.rule, c.option.ensures.local))
+    (c.number_option.ensures.rule, c.number_option.ensures.local))
