@@ -2,6 +2,8 @@ mod Locking
 mod Going
 mod Keeping
 mod Framing
+mod Guests
+mod Reading
 mod Controlling
 mod Counting
 mod Commanding

@@ -7,6 +7,7 @@ ghost use Rattle.tp_crowd.specs.Framing.{given, passed};
 
 use crate::fetching::{Fetching, TakenBack};
 use crate::frames::Frames;
+use crate::patience::Patience;
 use crate::polled::Polled;
 use std::alloc::{AllocError, Global};
 use std::mem;
@@ -19,6 +20,7 @@ use tp_hub::Received;
 pub struct Crew {
     present: AtomicUsize,
     most: usize,
+    patience: Patience,
 }
 
 impl Crew {
@@ -27,7 +29,13 @@ impl Crew {
         Crew {
             present: AtomicUsize::new(0),
             most: processors / 2,
+            patience: Patience::new(),
         }
+    }
+
+    /// How long it pays to wait awake for what they send.
+    pub(crate) fn patience(&self) -> &Patience {
+        &self.patience
     }
 
     fn join(&self) {
@@ -105,7 +113,7 @@ impl<'c, R: Threads> Ahead<'c, R> {
 
     /// Starts a read behind the last one, where the client has sent more and there is a processor for it. Where there is no memory or no thread for it none
     /// is made.
-    pub(crate) fn start(&mut self, stream: &mut Polled, frames: Frames, len: usize)
+    pub(crate) fn start(&mut self, stream: &mut Polled<'_>, frames: Frames, len: usize)
         requires room { 0 < len }
         requires alone { self.old.under_way ≡ None }
         ensures { IfSome self.new.under_way (λ f. f.handle.promise.frames ≡ frames) }
@@ -154,7 +162,7 @@ impl<'c, R: Threads> Ahead<'c, R> {
     }
 
     /// The client is gone, and with it the read that is under way.
-    pub(crate) fn end(self, stream: &Polled) {
+    pub(crate) fn end(self, stream: &Polled<'_>) {
         let Ahead {
             rt,
             alloc: _,

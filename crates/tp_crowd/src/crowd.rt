@@ -2,7 +2,9 @@
 
 ghost use Rattle.std.specs.Prelude.{◌≡◌, ◌<◌, ◌≤◌, IfOk, length, take};
 ghost use Rattle.std.specs.Iterator.{IsFinite, size};
+ghost use Rattle.tp_lines.specs.ReadLines.{Leads};
 ghost use Rattle.tp_crowd.specs.Framing.{set_in};
+ghost use Rattle.tp_crowd.specs.Guests.{IsVisit, has_memory};
 ghost use Rattle.tp_crowd.specs.Locked.{CameOf, IsFrom};
 
 use crate::locked::{Alarm, HubLock, LockedDesk};
@@ -206,7 +208,17 @@ where
     )
 }
 
-/// The same over any desk.
+/// Whether there was memory for a client.
+fn was_carried(ending: Carried) -> bool
+    ensures { result ≡ has_memory ending }
+{
+    match ending {
+        Carried::NoMemory => false,
+        _ => true,
+    }
+}
+
+/// The same over any desk: [`carry`], where there is memory for a buffer.
 pub(crate) fn carry_over<D: Desk, S: Stream>(
     alloc: Global,
     desk: &mut D,
@@ -215,12 +227,14 @@ pub(crate) fn carry_over<D: Desk, S: Stream>(
     stream: &mut S,
 ) -> bool
     requires { number < 64 }
+    ensures { Leads D.asks (λ asks did. IsVisit number profile asks did result) desk.old desk.new (S.calls stream.old) (S.calls stream.new) }
 {
     let Ok(mut buffer) = zeroes(alloc, MAX_FRAME) else {
         return false;
     };
     let mut out = Answers::new(alloc);
-    carry(desk, number, profile, stream, &mut buffer, &mut out) != Carried::NoMemory
+    let ending = carry(desk, number, profile, stream, &mut buffer, &mut out);
+    was_carried(ending)
 }
 
 /// What is left behind so many clients, all of which are gone.

@@ -1,8 +1,8 @@
 //! A client of those who serve without end: its stream, which ends when it is told to, and what is seen of its visit.
 
-ghost use Rattle.std.specs.Prelude.{◌≡◌, ◌<◌, ◌++◌, [], length};
-ghost use Rattle.tp_hub.specs.Streams.{GivesSome};
-ghost use Rattle.tp_crowd.specs.Framing.{given, given_in};
+ghost use Rattle.std.specs.Prelude.{◌≡◌, ◌<◌, ◌++◌, [], ◌∷◌, false, length, IsTrue};
+ghost use Rattle.tp_hub.specs.Streams.{GivesSome, read_call};
+ghost use Rattle.tp_crowd.specs.Guests.{but_end, but_ends};
 
 use crate::chronicle::Visit;
 use crate::locked::{Alarm, LockedDesk};
@@ -15,14 +15,15 @@ use tp_hub::{Answers, Desk, Event, Log, Made, Put, Ran, Received, Seat, Stream};
 use tp_model::{DevId, Staged};
 use tp_msg::Managed;
 
-/// A [`Socket`] that is at its end once a flag is set: all that was read of it is told, and so answered, and no more is read.
+/// A [`Socket`] that is at its end once a flag is set: no more is read of it then. All else that is told of it is what the socket told, in order: what was read, and so is answered, and
+/// what of the answers was written.
 pub(crate) struct Guest<'c, R: Threads> {
     log: Log,
     socket: Socket<'c, R>,
     is_over: &'c AtomicBool,
     received: u64,
     sent: u64,
-    ghost told: { given_in log.calls ≡ given_in socket.log.calls },
+    ghost told: { but_ends log.calls ≡ but_ends socket.log.calls },
 }
 
 impl<'c, R: Threads> Guest<'c, R> {
@@ -63,18 +64,20 @@ impl<'c, R: Threads> Guest<'c, R> {
     }
 }
 
-/// Reads, unless the flag is set.
+/// Reads, unless it is over.
 fn read_unless<R: Threads>(
     socket: &mut Socket<'_, R>,
-    is_over: &AtomicBool,
+    is_over: bool,
     buffer: &mut Vec<u8>,
 ) -> Received
     requires { 0 < length buffer.old.items }
     ensures some { GivesSome result (length buffer.new.items) }
     ensures len { length buffer.new.items ≡ length buffer.old.items }
-    ensures told { given_in socket.new.log.calls ≡ given_in socket.old.log.calls ++ given result buffer.new.items }
+    ensures told { but_ends socket.new.log.calls ≡ but_ends socket.old.log.calls ++ but_end (read_call result buffer.new.items) }
+    ensures reads { is_over ≡ false → socket.new.log.calls ≡ socket.old.log.calls ++ read_call result buffer.new.items ∷ [] }
+    ensures ends { IsTrue is_over → (result ≡ Received.End) × (socket.new.log.calls ≡ socket.old.log.calls) }
 {
-    if is_over.load(Ordering::SeqCst) {
+    if is_over {
         return Received::End;
     }
     socket.receive(buffer)
@@ -100,7 +103,8 @@ impl<'c, R: Threads> Stream for Guest<'c, R> {
     ghost calls = { λ guest. guest.log.calls };
 
     fn receive(&mut self, buffer: &mut Vec<u8>) -> Received {
-        let received = read_unless(&mut self.socket, self.is_over, buffer);
+        let is_over = self.is_over.load(Ordering::SeqCst);
+        let received = read_unless(&mut self.socket, is_over, buffer);
         self.received = self.received.saturating_add(received_by(received));
         self.log.note(&Made::Read(received), buffer.as_slice());
         received

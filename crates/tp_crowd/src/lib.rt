@@ -23,6 +23,7 @@ mod listening;
 mod locked;
 mod midway;
 mod order;
+mod patience;
 mod pause;
 mod polled;
 mod ruling;

@@ -21,7 +21,6 @@ use nbd_session::begins_with_read;
 use std::alloc::Global;
 use std::sync::atomic::{AtomicBool, AtomicU64, Ordering};
 use std::sync::{MutexGuard, RwLock, RwLockReadGuard, RwLockWriteGuard, Wait};
-use std::thread;
 use tp_hub::{Answers, Desk, Event, Hub, Ran, SESSIONS, Seat};
 use tp_model::{Mode, Staged, Volumes};
 use tp_msg::Managed;
@@ -153,11 +152,11 @@ impl<'a, V: Staged, A: Alarm<V>, K: Start<V>> HubLock<'a, V, A, K> {
 
     /// Lets READs that wait go first, as long as it takes to wake them.
     fn let_reads_go(&self) {
+        let mut waiting = self.order.patience().begin();
         for _ in 0..TRIES_BEHIND_READS {
-            if self.waiting.load(Ordering::SeqCst) == 0 {
+            if self.waiting.load(Ordering::SeqCst) == 0 || !waiting.goes_on() {
                 return;
             }
-            thread::yield_now();
         }
     }
 
@@ -168,11 +167,14 @@ impl<'a, V: Staged, A: Alarm<V>, K: Start<V>> HubLock<'a, V, A, K> {
         _turn: &MutexGuard<'_, ()>,
     ) -> RwLockWriteGuard<'_, Guarded<V, K>> {
         self.let_reads_go();
+        let mut waiting = self.order.patience().begin();
         for _ in 0..TRIES_BETWEEN_READS {
             if let Some(guard) = self.hub.try_write() {
                 return guard;
             }
-            thread::yield_now();
+            if !waiting.goes_on() {
+                break;
+            }
         }
         self.hub.write(rt)
     }

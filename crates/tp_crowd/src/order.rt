@@ -1,8 +1,8 @@
 //! In which order those have a hub who want it alone.
 
+use crate::patience::Patience;
 use std::sync::atomic::{AtomicBool, AtomicU64, Ordering};
 use std::sync::{Mutex, MutexGuard, RwLock, RwLockWriteGuard, Wait};
-use std::thread;
 
 /// So often one who waits for its turn tries to have it before it sleeps.
 const TRIES: u32 = 4000;
@@ -33,6 +33,7 @@ pub(crate) struct Order {
     /// How many wait to keep what was written, and how many for anything else.
     keepers: AtomicU64,
     others: AtomicU64,
+    patience: Patience,
 }
 
 impl Order {
@@ -45,6 +46,7 @@ impl Order {
             is_kept: AtomicBool::new(true),
             keepers: AtomicU64::new(0),
             others: AtomicU64::new(0),
+            patience: Patience::new(),
         }
     }
 
@@ -65,9 +67,14 @@ impl Order {
         }
     }
 
-    /// Waits for a turn. To be woken takes time in which nobody has it, so who waits tries again and again for a while, and lets others run in between; but
-    /// for the device it sleeps.
+    /// How long it pays to wait awake for a turn, or in one for the hub.
+    pub(crate) fn patience(&self) -> &Patience {
+        &self.patience
+    }
+
+    /// Waits for a turn: who waits tries again and again for a while, and sleeps behind that; but for the device it sleeps at once.
     fn wait<R: Wait>(&self, rt: &R, purpose: Purpose) -> MutexGuard<'_, ()> {
+        let mut waiting = self.patience.begin();
         for tried in 0..TRIES {
             if tried >= COURTESY || self.is_first(purpose) {
                 if let Some(turn) = self.turn.try_lock() {
@@ -76,8 +83,8 @@ impl Order {
             }
             if self.is_keeping.load(Ordering::SeqCst) {
                 drop(self.device.read(rt));
-            } else {
-                thread::yield_now();
+            } else if !waiting.goes_on() {
+                break;
             }
         }
         self.turn.lock(rt)

@@ -2,9 +2,10 @@
 
 ghost use Rattle.std.specs.Io.{ReadsAtMost};
 
+use crate::patience::{Patience, Waiting};
+use std::io;
 use std::io::{ErrorKind, Read, Write};
 use std::net::{Shutdown, TcpStream};
-use std::{io, thread};
 
 /// So often a read that finds nothing is made again before its thread sleeps: some tens of microseconds, within which a client that waits for each answer
 /// asks again.
@@ -16,7 +17,7 @@ const LONGEST_PAUSE: u32 = 64;
 /// A TCP stream whose reads wait awake for a while before they sleep: to be woken takes about as long as such a client needs to ask again. Behind a read that
 /// waited awake in vain the next one sleeps at once, behind two in a row the next two, then 4, and so on.
 #[derive(Drop)]
-pub(crate) struct Polled {
+pub(crate) struct Polled<'c> {
     stream: TcpStream,
     /// Whether a call of the stream fails where it would wait.
     is_nonblocking: bool,
@@ -24,17 +25,19 @@ pub(crate) struct Polled {
     asleep: u32,
     /// How many are to do so when the next one waits awake in vain.
     pause: u32,
+    patience: &'c Patience,
 }
 
-impl Polled {
+impl<'c> Polled<'c> {
     /// A stream that may wait. What is written to it goes out at once, where the system lets it.
-    pub(crate) fn new(stream: TcpStream) -> Polled {
+    pub(crate) fn new(stream: TcpStream, patience: &'c Patience) -> Polled<'c> {
         let _ = stream.set_nodelay(true);
         Polled {
             stream,
             is_nonblocking: false,
             asleep: 0,
             pause: 1,
+            patience,
         }
     }
 
@@ -64,14 +67,32 @@ impl Polled {
         let _ = self.stream.shutdown(Shutdown::Both);
     }
 
+    /// A wait awake, where the next read is to wait so.
+    fn awake(&mut self) -> Option<Waiting<'c>> {
+        if self.asleep > 0 {
+            self.asleep -= 1;
+            return None;
+        }
+        let waiting = self.patience.begin();
+        if waiting.is_awake() {
+            Some(waiting)
+        } else {
+            None
+        }
+    }
+
     /// Reads without sleeping. It would wait longer where nothing came in so many tries.
-    fn read_awake(&mut self, buffer: &mut [u8]) -> io::Result<usize>
+    fn read_awake(&mut self, mut waiting: Waiting<'_>, buffer: &mut [u8]) -> io::Result<usize>
         ensures { ReadsAtMost result buffer.new }
     {
         self.set_nonblocking(true)?;
         for turn in 0..TRIES {
             match self.stream.read(buffer) {
-                Err(error) if error.kind() == ErrorKind::WouldBlock => thread::yield_now(),
+                Err(error) if error.kind() == ErrorKind::WouldBlock => {
+                    if !waiting.goes_on() {
+                        return Err(error);
+                    }
+                }
                 other => {
                     if turn > 0 {
                         self.pause = 1;
@@ -84,12 +105,10 @@ impl Polled {
     }
 }
 
-impl Read for Polled {
+impl Read for Polled<'_> {
     fn read(&mut self, buffer: &mut [u8]) -> io::Result<usize> {
-        if self.asleep > 0 {
-            self.asleep -= 1;
-        } else {
-            match self.read_awake(buffer) {
+        if let Some(waiting) = self.awake() {
+            match self.read_awake(waiting, buffer) {
                 Err(error) if error.kind() == ErrorKind::WouldBlock => {}
                 other => return other,
             }
@@ -101,7 +120,7 @@ impl Read for Polled {
     }
 }
 
-impl Write for Polled {
+impl Write for Polled<'_> {
     fn write(&mut self, bytes: &[u8]) -> io::Result<usize> {
         match self.stream.write(bytes) {
             Err(error) if error.kind() == ErrorKind::WouldBlock => {}

@@ -2,7 +2,9 @@
 
 ghost use Rattle.std.specs.Prelude.{◌≡◌, ◌<◌, ◌≤◌, ◌+◌, ◌-◌, [], length, min, IfSome, None};
 ghost use Rattle.std.proofs.Props.{props};
+ghost use Rattle.std.specs.Io.KnownBytes.{Consumes};
 ghost use Rattle.tp_hub.specs.Streams.{GivesSome, TakesSome};
+ghost use Rattle.tp_lines.specs.Pipes.{IsRead, IsWritten};
 ghost use Rattle.tp_crowd.specs.Framing.{at_first, given, given_in, passed};
 
 use crate::ahead::{Ahead, Crew};
@@ -37,7 +39,7 @@ const LONG_TO_ASK: usize = 262_144;
 pub struct Socket<'c, R: Threads> {
     log: Log,
     frames: Frames,
-    stream: Polled,
+    stream: Polled<'c>,
     ahead: Ahead<'c, R>,
     ghost follows: { frames ≡ passed at_first (given_in log.calls) },
     ghost beside: { IfSome ahead.under_way (λ f. f.handle.promise.frames ≡ frames) } by { Prim.hlevel props },
@@ -51,7 +53,7 @@ impl<'c, R: Threads> Socket<'c, R> {
         Socket {
             log: Log::new(),
             frames: Frames::new(),
-            stream: Polled::new(stream),
+            stream: Polled::new(stream, crew.patience()),
             ahead: Ahead::new(rt, alloc, crew),
         }
     }
@@ -76,7 +78,7 @@ impl<'c, R: Threads> Socket<'c, R> {
 /// What a read ahead brought, or else a read brings now.
 fn read<R: Threads>(
     ahead: &mut Ahead<'_, R>,
-    stream: &mut Polled,
+    stream: &mut Polled<'_>,
     frames: &mut Frames,
     buffer: &mut Vec<u8>,
 ) -> Received
@@ -103,6 +105,7 @@ fn read_some<T: Read>(stream: &mut T, buffer: &mut [u8]) -> Received
     requires { 0 < length buffer.old }
     ensures some { GivesSome result (length buffer.new) }
     ensures len { length buffer.new ≡ length buffer.old }
+    ensures read { IsRead result (T.remaining stream.old) (T.remaining stream.new) buffer.new }
 {
     match stream.read(buffer) {
         Ok(0) => Received::End,
@@ -147,6 +150,7 @@ pub(crate) fn read_frames<T: Read>(
     ensures some { GivesSome result (length buffer.new) }
     ensures len { length buffer.new ≡ length buffer.old }
     ensures follows { frames.new ≡ passed frames.old (given result buffer.new) }
+    ensures read { Consumes (T.remaining stream.old) (T.remaining stream.new) (given result buffer.new) }
 {
     let mut at = 0;
     for turn in 0..u64::MAX {
@@ -165,8 +169,9 @@ pub(crate) fn read_frames<T: Read>(
 }
 
 /// Writes some of the bytes by one call.
-fn write_some(stream: &mut Polled, bytes: &[u8]) -> Put
-    ensures { TakesSome result (length bytes.now) }
+fn write_some<T: Write>(stream: &mut T, bytes: &[u8]) -> Put
+    ensures some { TakesSome result (length bytes.now) }
+    ensures wrote { IsWritten result (T.contents stream.old) (T.contents stream.new) bytes.now }
 {
     match stream.write(bytes) {
         Ok(0) => Put::Failed,

@@ -1,0 +1,39 @@
+-- Internal: what a client of a hub is carried as, and the calls of a stream but for its ends (own).
+use Rattle.std.specs.Prelude.{◌≡◌, ℕ, Bool, true, false, List, [], ◌∷◌, ◌++◌, ◌⊎◌}
+use Rattle.nbd_session.specs.declared.phase.Profile.{Profile}
+use Rattle.tp_hub.specs.Told.{Told}
+use Rattle.tp_hub.specs.Desks.{Exchange}
+use Rattle.tp_hub.specs.Streams.{Flushes, Gave, GaveAgain, GaveEnd, GaveNone, StreamCall, Took, TookAgain, TookNone}
+use Rattle.tp_hub.specs.Carrying.{IsCarried}
+use Rattle.tp_hub.specs.declared.client.Carried.{Carried}
+use Rattle.tp_hub.specs.declared.client.Carried.TheVariants.{EndOfInput, InUse, InputFailed, LastLost, NoMemory, OutputFailed, SessionOver}
+
+-- a call, but that a read came to the end
+abbrev pub but_end : StreamCall → List StreamCall
+but_end (Gave bytes) = Gave bytes ∷ []
+but_end GaveAgain = GaveAgain ∷ []
+but_end GaveEnd = []
+but_end GaveNone = GaveNone ∷ []
+but_end (Took bytes) = Took bytes ∷ []
+but_end TookAgain = TookAgain ∷ []
+but_end TookNone = TookNone ∷ []
+but_end (Flushes done) = Flushes done ∷ []
+
+-- All calls of a stream, in order, but the reads that came to the end.
+abbrev pub but_ends : List StreamCall → List StreamCall
+but_ends [] = []
+but_ends (call ∷ calls) = but_end call ++ but_ends calls
+
+-- there was memory for its session and for its answers
+abbrev pub has_memory : Carried → Bool
+has_memory NoMemory = false
+has_memory InUse = true
+has_memory SessionOver = true
+has_memory LastLost = true
+has_memory EndOfInput = true
+has_memory InputFailed = true
+has_memory OutputFailed = true
+
+-- A client was carried to its end; or there was no memory for the bytes that are read of it, and nothing was asked, read or written. carried: whether there was memory for it.
+abbrev pub IsVisit : ℕ → Profile → List Exchange → List StreamCall → Bool → Type 0
+IsVisit n profile asks calls carried = ((asks ≡ []) × (calls ≡ []) × (carried ≡ false)) ⊎ ((out : Told) × (ending : Carried) × IsCarried n profile out asks calls ending × (carried ≡ has_memory ending))
