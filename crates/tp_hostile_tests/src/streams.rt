@@ -467,35 +467,45 @@ fn names_longer_than_the_option_are_invalid(rt: HostRuntime) -> Result<(), Fail>
 /// The first sector of volume 0 is filled by the first client's WRITE, the last byte of which is this one's.
 const WRITTEN: usize = 567;
 
-/// Whether a client that sends this and goes is sent a beginning of all that the whole text is answered.
-fn is_begun<V: Managed>(
+/// How many bytes a client is sent that sends this and goes, where they are a beginning of all that the whole text is answered.
+fn begun<V: Managed>(
     alloc: Global,
     hub: &mut Hub<V>,
     text: &[u8],
     all: &[u8],
-) -> Result<bool, AllocError> {
+) -> Result<Option<usize>, AllocError> {
     let mut heard = Heard::new(alloc);
     let mut cuts = Random::from(text.len() as u64);
     visit(alloc, hub, text, &mut cuts, &mut heard)?;
-    Ok(all.starts_with(heard.sent.as_slice()))
+    let is_begun = all.starts_with(heard.sent.as_slice());
+    Ok(if is_begun {
+        Some(heard.sent.len())
+    } else {
+        None
+    })
 }
 
-/// Whether it is so, and volume 0 holds what it should then.
-fn is_beginning(
+/// The same where volume 0 holds what it should then.
+fn beginning(
     alloc: Global,
     text: &[u8],
     all: &[u8],
     wanted: &[u8],
     room: &mut [u8],
-) -> Result<bool, Fail> {
+) -> Result<Option<usize>, Fail> {
     let mut hub = hub_of(two_volumes(alloc)?);
-    let begun = is_begun(alloc, &mut hub, text, all)?;
+    let begun = begun(alloc, &mut hub, text, all)?;
     let mut pool = hub.into_pool();
-    Ok(begun && holds(&mut pool, DevId::new(0), wanted, room))
+    Ok(if holds(&mut pool, DevId::new(0), wanted, room) {
+        begun
+    } else {
+        None
+    })
 }
 
-/// The first beginning of a text, by its length, of which that is not so.
-fn first_wrong_beginning(alloc: Global, text: &[u8]) -> Result<Option<usize>, Fail> {
+/// How many bytes are sent of all beginnings of a text, together; or the first beginning, by its length, of which that is not so.
+fn told_of_beginnings(alloc: Global, text: &[u8]) -> Result<Result<usize, usize>, Fail> {
+    let mut sent = 0usize;
     let all = told_at_once(alloc, text)?;
     let zeros = Vec::from_elem(alloc, 0, VOLUME as usize)?;
     let mut written = Vec::from_elem(alloc, 0x61, 512)?;
@@ -503,11 +513,12 @@ fn first_wrong_beginning(alloc: Global, text: &[u8]) -> Result<Option<usize>, Fa
     let mut room = Vec::from_elem(alloc, 0, VOLUME as usize)?;
     for end in 0..text.len() + 1 {
         let wanted = if end < WRITTEN { &zeros } else { &written };
-        if !is_beginning(alloc, &text[..end], &all, wanted, &mut room)? {
-            return Ok(Some(end));
-        }
+        let Some(more) = beginning(alloc, &text[..end], &all, wanted, &mut room)? else {
+            return Ok(Err(end));
+        };
+        sent = sent.wrapping_add(more);
     }
-    Ok(None)
+    Ok(Ok(sent))
 }
 
 fn first_text(alloc: Global) -> Result<Vec<u8>, AllocError> {
@@ -519,7 +530,7 @@ fn first_text(alloc: Global) -> Result<Vec<u8>, AllocError> {
 #[test]
 fn every_beginning_of_the_first_session(rt: HostRuntime) -> Result<(), Fail> {
     let text = first_text(rt.alloc())?;
-    let wrong = first_wrong_beginning(rt.alloc(), &text)?;
-    assert_eq!(rt; (text.len(), wrong), (651, None));
+    let sent = told_of_beginnings(rt.alloc(), &text)?;
+    assert_eq!(rt; (text.len(), sent), (651, Ok(97_406)));
     Ok(())
 }

@@ -1,10 +1,10 @@
 //! A flush in parts: what is read between them, how often the disk is flushed, and what stops leave behind a fault of each call.
 
 use crate::calls::close;
-use crate::pools::{FEW, MANY, MemServed, SECTOR, byte_at, tally, with_volume, write};
+use crate::pools::{FEW, MANY, MemServed, SECTOR, byte_at, with_volume};
 use crate::stops::{
-    Begin, Expected, PLACES, Run, are_stops_right, begun, opened_failing, perform, sector_of,
-    volume_of,
+    ALL_LEFT, Begin, Expected, PLACES, Run, begun, fill_place, left_by_stops, opened_failing,
+    perform, sector_of, volume_of,
 };
 use crate::tallies::TalliedDisk;
 use std::alloc::Global;
@@ -12,7 +12,7 @@ use std::test::Fail;
 use tp_cache::ReadCache;
 use tp_disk::MemDisk;
 use tp_meta::Meta;
-use tp_model::{DevId, Flushing, Geometry, Refusal};
+use tp_model::{Flushing, Geometry, Refusal};
 use tp_served::MidServed;
 
 type MidMem = MidServed<ReadCache<TalliedDisk<MemDisk>>, Meta>;
@@ -20,22 +20,147 @@ type MidMem = MidServed<ReadCache<TalliedDisk<MemDisk>>, Meta>;
 /// Steps before the flush.
 const STEPS: usize = 12;
 
-/// A sector of a block that no step writes to, so that the flush has metadata to keep.
-const FRESH: u64 = 400;
+/// The place in a block that no step writes to: written before the flush, it gives that metadata to keep.
+const FRESH: usize = 8;
 
 /// The disk calls of opening.
 const OPENING: u64 = 6;
 
-/// The byte that fills a sector of a volume of a pool in the midst of a flush, where a shared read gives it.
-fn byte_between(midway: &MidMem, id: DevId, sector: u64) -> Option<u8> {
-    let mut out = [255; SECTOR];
+/// A byte that no place is filled with.
+const STRANGE: u8 = 255;
+
+/// What a pool told so far, and what the plain one holds.
+#[derive(Clone, Copy)]
+struct Life {
+    expected: Expected,
+    has_failed: bool,
+    /// How often it told that the disk failed: in what changes it, in a READ, which is asked again, and in closing.
+    faults: [u64; 3],
+    /// How many READs gave what the plain pool holds: shared ones between two parts, and those of the pool alone. And how many a failed pool refused.
+    reads: [u64; 3],
+    /// How much was told that may not be.
+    wrong: u64,
+}
+
+impl Life {
+    fn new() -> Life {
+        Life {
+            expected: Expected {
+                now: [0; PLACES],
+                allowed: [1; PLACES],
+            },
+            has_failed: false,
+            faults: [0; 3],
+            reads: [0; 3],
+            wrong: 0,
+        }
+    }
+
+    fn wonder(&mut self) {
+        self.wrong = self.wrong.wrapping_add(1);
+    }
+
+    fn count_fault(&mut self, kind: usize) {
+        let kind = kind % 3;
+        self.faults[kind] = self.faults[kind].wrapping_add(1);
+    }
+
+    fn count_read(&mut self, kind: usize) {
+        let kind = kind % 3;
+        self.reads[kind] = self.reads[kind].wrapping_add(1);
+    }
+
+    /// Takes what a READ of this kind gave of a place.
+    fn compare(&mut self, kind: usize, place: usize, byte: u8) {
+        if byte == self.expected.now[place % PLACES] {
+            self.count_read(kind);
+        } else {
+            self.wonder();
+        }
+    }
+
+    /// Takes what a READ of a place told: whether it is to be asked again.
+    fn hear_read(&mut self, place: usize, told: Result<u8, Refusal>) -> bool {
+        match told {
+            Ok(byte) => self.compare(1, place, byte),
+            Err(Refusal::Fault) => {
+                self.count_fault(1);
+                return true;
+            }
+            Err(Refusal::Failed) if self.has_failed => self.count_read(2),
+            Err(_) => self.wonder(),
+        }
+        false
+    }
+
+    /// Takes what is told of what was to change the pool, or of closing.
+    fn hear(&mut self, kind: usize, told: Result<(), Refusal>) {
+        match told {
+            Ok(()) if !self.has_failed => {}
+            Err(Refusal::Failed) if self.has_failed => {}
+            Err(Refusal::Fault) if !self.has_failed => {
+                self.count_fault(kind);
+                self.has_failed = true;
+            }
+            _ => self.wonder(),
+        }
+    }
+
+    /// Takes what is told of what keeps all that was done.
+    fn hear_kept(&mut self, kind: usize, told: Result<(), Refusal>) {
+        self.hear(kind, told);
+        if told.is_ok() {
+            self.expected.keep();
+        }
+    }
+
+    /// Whether it told of the fault of this call, and of nothing else; of call 0 there is none.
+    fn is_right(&self, call: u64) -> bool {
+        let [changes, reads, closings] = self.faults;
+        let faults = changes.wrapping_add(reads).wrapping_add(closings);
+        self.wrong == 0 && faults == (call > 0) as u64
+    }
+}
+
+/// The byte that fills the sector of a place in the midst of a flush, where a shared read gives it; `STRANGE` where none fills it.
+fn byte_between(midway: &MidMem, place: usize) -> Option<u8> {
+    let mut out = [STRANGE; SECTOR];
+    let sector = sector_of(place);
     if sector >= midway.geometry().volume_sectors() {
         return None;
     }
-    if !midway.read_shared(id, sector, &mut out) || out != [out[0]; SECTOR] {
+    if !midway.read_shared(volume_of(place), sector, &mut out) {
         return None;
     }
-    Some(out[0])
+    Some(if out == [out[0]; SECTOR] {
+        out[0]
+    } else {
+        STRANGE
+    })
+}
+
+/// Reads each place between two parts, where a shared read finds it.
+fn read_between(midway: &MidMem, life: &mut Life) {
+    for place in 0..PLACES {
+        if let Some(byte) = byte_between(midway, place) {
+            life.compare(0, place, byte);
+        }
+    }
+}
+
+/// Reads a place, and once more where the disk failed.
+fn read_place(pool: &mut MemServed, place: usize, life: &mut Life) {
+    let told = byte_at(pool, volume_of(place), sector_of(place));
+    if life.hear_read(place, told) {
+        let again = byte_at(pool, volume_of(place), sector_of(place));
+        life.hear_read(place, again);
+    }
+}
+
+fn read_all(pool: &mut MemServed, life: &mut Life) {
+    for place in 0..PLACES {
+        read_place(pool, place, life);
+    }
 }
 
 /// How often a disk was written to so far, how often it was flushed, and how many syncs ahead it had.
@@ -45,173 +170,194 @@ fn work_of(disk: &TalliedDisk<MemDisk>) -> [u64; 3] {
     [writes, tally.flushes, disk.syncs()]
 }
 
-/// What a flush in parts told.
+/// What a flush in parts was answered, and what the disk had had behind the first part, and behind the second one, where there was one.
 #[derive(Clone, Copy)]
 struct Told {
-    /// What a shared read of the first place gave behind the first part, and behind the second one, where there was one.
-    first: Option<u8>,
-    second: Option<u8>,
-    /// What the disk had had behind each of these.
     works: [[u64; 3]; 2],
     answer: Result<(), Refusal>,
 }
 
-fn ended(midway: MidMem, first: Option<u8>, work: [u64; 3]) -> (MemServed, Told) {
-    let second = byte_between(&midway, volume_of(0), sector_of(0));
+fn ended(midway: MidMem, life: &mut Life, work: [u64; 3]) -> (MemServed, Told) {
+    read_between(&midway, life);
     let works = [work, work_of(midway.disk())];
     midway.sync_ahead();
     let (pool, answer) = midway.end_flush();
-    (
-        pool,
-        Told {
-            first,
-            second,
-            works,
-            answer,
-        },
-    )
+    (pool, Told { works, answer })
 }
 
-fn gone_on(midway: MidMem) -> (MemServed, Told) {
-    let first = byte_between(&midway, volume_of(0), sector_of(0));
+fn gone_on(midway: MidMem, life: &mut Life) -> (MemServed, Told) {
+    read_between(&midway, life);
     let work = work_of(midway.disk());
     midway.sync_ahead();
     match midway.go_on() {
         Flushing::Done(pool, answer) => (
             pool,
             Told {
-                first,
-                second: None,
                 works: [work, work],
                 answer,
             },
         ),
-        Flushing::Midway(midway) => ended(midway, first, work),
+        Flushing::Midway(midway) => ended(midway, life, work),
     }
 }
 
 /// Flushes a pool in parts, and reads it and syncs ahead between them.
-fn flushed(pool: MemServed) -> (MemServed, Told) {
+fn flushed(pool: MemServed, life: &mut Life) -> (MemServed, Told) {
     match pool.begin_flush() {
         Flushing::Done(pool, answer) => (
             pool,
             Told {
-                first: None,
-                second: None,
                 works: [[0; 3]; 2],
                 answer,
             },
         ),
-        Flushing::Midway(midway) => gone_on(midway),
+        Flushing::Midway(midway) => gone_on(midway, life),
     }
 }
 
-/// Does so many random steps from those of this number on, up to the first that is refused, and writes to a fresh block; then reads the first place, whose metadata are in
-/// memory then.
-fn perform_some(pool: &mut MemServed, from: usize, expected: &mut Expected) -> Result<u8, Refusal> {
+/// Does so many random steps, up to the first that is refused, and fills the fresh place.
+fn perform_some(pool: &mut MemServed, expected: &mut Expected) -> Result<(), Refusal> {
     let mut bits = 1u64;
     for number in 0..STEPS {
         bits = bits.wrapping_mul(6_364_136_223_846_793_005).wrapping_add(1);
-        perform(pool, from.wrapping_add(number), bits, expected)?;
+        perform(pool, number, bits, expected)?;
     }
-    write(pool, volume_of(0), FRESH, &[1; SECTOR])?;
-    byte_at(pool, volume_of(0), sector_of(0))
+    fill_place(pool, FRESH, 1, expected)
 }
 
-/// Does some steps on a copy of the pool on which this disk call fails, flushes it in parts and closes it. It tells what was read before the flush, and what the flush told.
-fn run_parts(
+/// Does so, and reads all places, whose metadata are in memory then.
+fn live_before(pool: &mut MemServed, life: &mut Life) {
+    let told = perform_some(pool, &mut life.expected);
+    life.hear(0, told);
+    read_all(pool, life);
+}
+
+/// Flushes a pool in parts, and reads all places behind that.
+fn flush_and_read(pool: MemServed, life: &mut Life) -> MemServed {
+    let (mut pool, told) = flushed(pool, life);
+    life.hear_kept(0, told.answer);
+    read_all(&mut pool, life);
+    pool
+}
+
+/// Does some steps on a copy of the pool on which this disk call fails, flushes it in parts, reads it before, between and behind them, and closes it.
+fn run_parts(alloc: Global, begin: &Begin, call: u64, life: &mut Life) -> Result<MemDisk, Fail> {
+    let mut pool = opened_failing(alloc, begin, call)?;
+    live_before(&mut pool, life);
+    let (answer, disk) = close(flush_and_read(pool, life));
+    life.hear_kept(2, answer);
+    Ok(disk)
+}
+
+/// Such a run: what its pool told, how many disk calls it made, and how many images of three stops are clean and places of their pools read as they may.
+fn told_of_run(
     alloc: Global,
     begin: &Begin,
     call: u64,
-) -> Result<(Run, Result<u8, Refusal>, Told), Fail> {
-    let mut pool = opened_failing(alloc, begin, call)?;
-    let mut expected = Expected {
-        now: [0; PLACES],
-        allowed: [1; PLACES],
+    life: &mut Life,
+) -> Result<(u64, [u64; 2]), Fail> {
+    let disk = run_parts(alloc, begin, call, life)?;
+    let run = Run {
+        disk,
+        expected: life.expected,
+        refused: life.has_failed,
     };
-    let before = perform_some(&mut pool, 0, &mut expected);
-    let (pool, told) = flushed(pool);
-    if told.answer.is_ok() {
-        expected.keep();
+    let left = left_by_stops(alloc, begin, &run)?;
+    Ok((run.disk.calls(), left))
+}
+
+/// What many runs told, all together.
+#[derive(Clone, Copy, Debug, PartialEq, Eq)]
+struct Tally {
+    /// In how many of them a call failed, and in how many of these that was told by a change or the flush, by a READ, and by closing.
+    faults: [u64; 4],
+    /// How many READs gave what the plain pool holds between two parts, and of the pool alone, and how many a failed pool refused.
+    reads: [u64; 3],
+    /// How many images of stops are clean, and how many READs of their pools gave what may be found.
+    left: [u64; 2],
+}
+
+impl Tally {
+    const NOTHING: Tally = Tally {
+        faults: [0; 4],
+        reads: [0; 3],
+        left: [0; 2],
+    };
+
+    fn add(&mut self, life: &Life, left: &[u64; 2]) {
+        let [tried, changes, reads, closings] = self.faults;
+        self.faults = [
+            tried.wrapping_add(1),
+            changes.wrapping_add(life.faults[0]),
+            reads.wrapping_add(life.faults[1]),
+            closings.wrapping_add(life.faults[2]),
+        ];
+        let [between, alone, refused] = self.reads;
+        self.reads = [
+            between.wrapping_add(life.reads[0]),
+            alone.wrapping_add(life.reads[1]),
+            refused.wrapping_add(life.reads[2]),
+        ];
+        self.left = [
+            self.left[0].wrapping_add(left[0]),
+            self.left[1].wrapping_add(left[1]),
+        ];
     }
-    let (answer, disk) = close(pool);
-    let refused = before.is_err() || told.answer.is_err() || answer.is_err();
-    Ok((
-        Run {
-            disk,
-            expected,
-            refused,
-        },
-        before,
-        told,
-    ))
 }
 
-/// Whether what was read between two parts is what was read before. A READ that failed tells nothing of what there was, and the same one may succeed then.
-fn is_same(between: Option<u8>, before: Result<u8, Refusal>) -> bool {
-    match before {
-        Ok(byte) => between == None || between == Some(byte),
-        Err(_) => true,
-    }
+/// Counts the run in which this call fails: whether that is told, and all that is read is what it may be.
+fn is_run_right(alloc: Global, begin: &Begin, call: u64, tally: &mut Tally) -> Result<bool, Fail> {
+    let mut life = Life::new();
+    let (_, left) = told_of_run(alloc, begin, call, &mut life)?;
+    tally.add(&life, &left);
+    Ok(life.is_right(call) && left == ALL_LEFT)
 }
 
-/// One for a shared read that gave a sector.
-fn one_for(between: Option<u8>) -> u64 {
-    match between {
-        Some(_) => 1,
-        None => 0,
-    }
-}
-
-/// How many shared reads between parts gave a sector, where a fault of this call is told, stops leave what they may, and these reads gave what was read before the
-/// flush. A fault of the first call of a part leaves the disk as it is between two.
-fn reads_where_right(alloc: Global, begin: &Begin, call: u64) -> Result<Option<u64>, Fail> {
-    let (run, before, told) = run_parts(alloc, begin, call)?;
-    let is_told = run.refused == (call > 0);
-    let are_same = is_same(told.first, before) && is_same(told.second, before);
-    let is_right = are_stops_right(alloc, begin, &run)? && is_told && are_same;
-    Ok(if is_right {
-        Some(one_for(told.first).wrapping_add(one_for(told.second)))
-    } else {
-        None
-    })
-}
-
-/// The disk calls of a run without a fault.
-fn calls_of(alloc: Global, begin: &Begin) -> Result<u64, Fail> {
-    let (run, _, _) = run_parts(alloc, begin, 0)?;
-    Ok(run.disk.calls())
-}
-
-/// How many faults were tried, one of each call behind those of opening, and how many shared reads between parts gave a sector in these runs; or the first call
-/// whose fault is not told or leaves what it may not.
-fn looked_at(alloc: Global, begin: &Begin) -> Result<Result<[u64; 2], u64>, Fail> {
-    let calls = calls_of(alloc, begin)?;
-    let mut looked = [0u64, 0];
+/// Counts the runs in which each call behind those of opening fails alone: the first one that is wrong.
+fn first_wrong(
+    alloc: Global,
+    begin: &Begin,
+    calls: u64,
+    tally: &mut Tally,
+) -> Result<Option<u64>, Fail> {
     for number in OPENING..calls {
-        let Some(reads) = reads_where_right(alloc, begin, number + 1)? else {
-            return Ok(Err(number + 1));
-        };
-        looked = [looked[0].wrapping_add(1), looked[1].wrapping_add(reads)];
+        if !is_run_right(alloc, begin, number + 1, tally)? {
+            return Ok(Some(number + 1));
+        }
     }
-    Ok(Ok(looked))
+    Ok(None)
 }
 
-/// Each fault is looked at behind three stops. Without one both reads give a sector.
+/// A run without a fault: whether it is right, how many disk calls it makes and what was read in it. And what those with one told, and the first that is wrong.
+type Looked = ((bool, u64, [u64; 3]), Tally, Option<u64>);
+
+fn looked_at(alloc: Global, begin: &Begin) -> Result<Looked, Fail> {
+    let mut whole = Life::new();
+    let (calls, left) = told_of_run(alloc, begin, 0, &mut whole)?;
+    let is_right = whole.is_right(0) && left == ALL_LEFT;
+    let mut tally = Tally::NOTHING;
+    let wrong = first_wrong(alloc, begin, calls, &mut tally)?;
+    Ok(((is_right, calls, whole.reads), tally, wrong))
+}
+
+/// Each fault is looked at behind three stops. The READ that fails gives the same sector when it is asked again.
 #[test]
 fn faults_and_stops_of_a_flush_in_parts(rt: HostRuntime) -> Result<(), Fail> {
-    let begin = begun(rt.alloc(), FEW)?;
-    let whole = reads_where_right(rt.alloc(), &begin, 0)?;
-    let looked = looked_at(rt.alloc(), &begin)?;
-    assert_eq!(rt; (whole, looked), (Some(2), Ok([40, 8])));
+    let looked = looked_at(rt.alloc(), &begun(rt.alloc(), FEW)?)?;
+    let tally = Tally {
+        faults: [55, 38, 16, 1],
+        reads: [342, 378, 612],
+        left: [165, 1485],
+    };
+    assert_eq!(rt; looked, ((true, 61, [18, 18, 0]), tally, None));
     Ok(())
 }
 
-/// A pool of which the first place is written and read, so that a shared read finds it.
-fn written(alloc: Global) -> Result<MemServed, Refusal> {
+/// A pool of which the first place is written and read, so that a shared read finds those of its volume.
+fn written(alloc: Global, life: &mut Life) -> Result<MemServed, Refusal> {
     let mut pool = with_volume(alloc, Geometry::new(128, 16, 2048, 4)?, MANY)?;
-    write(&mut pool, volume_of(0), sector_of(0), &[7; 512])?;
-    byte_at(&mut pool, volume_of(0), sector_of(0))?;
+    fill_place(&mut pool, 0, 7, &mut life.expected)?;
+    read_place(&mut pool, 0, life);
     Ok(pool)
 }
 
@@ -224,27 +370,26 @@ fn since(work: [u64; 3], earlier: [u64; 3]) -> [u64; 3] {
     ]
 }
 
-/// What a flush in parts of such a pool told, and how often each part wrote and flushed and how often it was synced ahead before it.
-fn told_of_parts(pool: MemServed) -> (Told, [[u64; 3]; 3]) {
+/// How often each part of a flush of such a pool wrote and flushed, and how often it was synced ahead before it.
+fn work_of_parts(pool: MemServed, life: &mut Life) -> [[u64; 3]; 3] {
     let before = work_of(pool.disk());
-    let (pool, told) = flushed(pool);
+    let (pool, told) = flushed(pool, life);
+    life.hear_kept(0, told.answer);
     let [first, second] = told.works;
     let last = since(work_of(pool.disk()), second);
-    (told, [since(first, before), since(second, first), last])
+    [since(first, before), since(second, first), last]
 }
 
 /// The first part writes nodes and counts, the second one flushes them and writes the superblock, and the last one flushes that. Before each flush what it is to bring
-/// was synced ahead.
+/// was synced ahead. All five places of the volume are read behind the first part and behind the second one.
 #[test]
 fn reads_go_on_between_the_parts_of_a_flush(rt: HostRuntime) -> Result<(), Fail> {
-    let (told, parts) = told_of_parts(written(rt.alloc())?);
-    let reads = (told.first, told.second, told.answer);
+    let mut life = Life::new();
+    let pool = written(rt.alloc(), &mut life)?;
+    let parts = work_of_parts(pool, &mut life);
     assert_eq!(rt;
-        (reads, parts),
-        (
-            (Some(7), Some(7), Ok(())),
-            [[4, 0, 0], [1, 1, 1], [0, 1, 1]]
-        )
+        (life.is_right(0), life.reads, parts),
+        (true, [10, 1, 0], [[4, 0, 0], [1, 1, 1], [0, 1, 1]])
     );
     Ok(())
 }

@@ -9,8 +9,8 @@ use tp_disk::{Disk, MemDisk};
 use tp_model::{DevId, Geometry, Refusal};
 use tp_served::Room;
 
-/// The sectors that are written: of each of two volumes some in blocks of their own, and about the end of a block.
-pub(crate) const PLACES: usize = 8;
+/// The sectors that are looked at: of each of two volumes some in blocks of their own, and about the end of a block; and one in a block that no step writes to.
+pub(crate) const PLACES: usize = 9;
 
 const STEPS: usize = 60;
 
@@ -22,7 +22,7 @@ pub(crate) fn volume_of(place: usize) -> DevId {
 }
 
 pub(crate) fn sector_of(place: usize) -> u64 {
-    [5, 127, 128, 300][place / 2 % 4]
+    [5, 127, 128, 300, 400][place / 2 % 5]
 }
 
 /// What the places have.
@@ -45,6 +45,20 @@ impl Expected {
     }
 }
 
+/// Fills the sector of a place, and tells the arrays.
+pub(crate) fn fill_place(
+    pool: &mut MemServed,
+    place: usize,
+    value: u8,
+    expected: &mut Expected,
+) -> Result<(), Refusal> {
+    let place = place % PLACES;
+    expected.allowed[place] |= bit(value);
+    write(pool, volume_of(place), sector_of(place), &[value; 512])?;
+    expected.now[place] = value;
+    Ok(())
+}
+
 /// Does the step of this number from random bits, and tells the arrays: a flush, or four times of five a write of a sector.
 pub(crate) fn perform(
     pool: &mut MemServed,
@@ -58,11 +72,7 @@ pub(crate) fn perform(
         return Ok(());
     }
     let place = ((bits >> 40) % 8) as usize;
-    let value = (number % 63 + 1) as u8;
-    expected.allowed[place] |= bit(value);
-    write(pool, volume_of(place), sector_of(place), &[value; 512])?;
-    expected.now[place] = value;
-    Ok(())
+    fill_place(pool, place, (number % 63 + 1) as u8, expected)
 }
 
 /// Does the steps up to the first that is refused.
@@ -159,41 +169,45 @@ pub(crate) fn stopped(
     Ok(disk.stop(alloc, &picks)?)
 }
 
-/// Whether each place reads as one of the values that it may have.
-fn are_left(pool: &mut MemServed, expected: &Expected) -> Result<bool, Refusal> {
-    let mut all = true;
+/// How many places read as one of the values that they may have.
+fn places_left(pool: &mut MemServed, expected: &Expected) -> Result<u64, Refusal> {
+    let mut count = 0u64;
     for place in 0..PLACES {
         let byte = byte_at(pool, volume_of(place), sector_of(place))?;
-        all = all && byte < 64 && expected.allowed[place] & bit(byte) != 0;
+        let is_left = byte < 64 && expected.allowed[place] & bit(byte) != 0;
+        count = count.wrapping_add(is_left as u64);
     }
-    Ok(all)
+    Ok(count)
 }
 
-/// Whether the stop by this seed leaves what it may of a run.
-fn is_stop_right(alloc: Global, begin: &Begin, run: &Run, seed: u64) -> Result<bool, Fail> {
+/// Whether the image that the stop by this seed leaves of a run is clean (1 where it is), and how many places of its pool read as they may.
+fn left_by_stop(alloc: Global, begin: &Begin, run: &Run, seed: u64) -> Result<[u64; 2], Fail> {
     let mut left = stopped(alloc, &run.disk, Some(seed), Some(seed))?;
     let is_clean = is_clean(alloc, &mut left);
     let expected = &run.expected;
-    let are_left = told_of_opened(alloc, left, begin.geometry, begin.room, |pool| {
-        are_left(pool, expected)
+    let places = told_of_opened(alloc, left, begin.geometry, begin.room, |pool| {
+        places_left(pool, expected)
     })??;
-    Ok(are_left && is_clean)
+    Ok([is_clean as u64, places])
 }
 
-/// Whether the stop by each of three seeds does.
-pub(crate) fn are_stops_right(alloc: Global, begin: &Begin, run: &Run) -> Result<bool, Fail> {
+/// Three clean images, all places of which read as they may.
+pub(crate) const ALL_LEFT: [u64; 2] = [3, 27];
+
+/// How many images that the stops by three seeds leave are clean, and how many places of their pools read as they may.
+pub(crate) fn left_by_stops(alloc: Global, begin: &Begin, run: &Run) -> Result<[u64; 2], Fail> {
+    let mut all = [0u64, 0];
     for seed in 0..3 {
-        if !is_stop_right(alloc, begin, run, seed)? {
-            return Ok(false);
-        }
+        let left = left_by_stop(alloc, begin, run, seed)?;
+        all = [all[0].wrapping_add(left[0]), all[1].wrapping_add(left[1])];
     }
-    Ok(true)
+    Ok(all)
 }
 
 /// Whether a fault of this call is told, and stops leave what they may. The run without a fault counts as call 0.
 fn is_right(alloc: Global, begin: &Begin, call: u64) -> Result<bool, Fail> {
     let run = run_steps(alloc, begin, call)?;
-    Ok(are_stops_right(alloc, begin, &run)? && run.refused == (call > 0))
+    Ok(left_by_stops(alloc, begin, &run)? == ALL_LEFT && run.refused == (call > 0))
 }
 
 /// The disk calls of a run without a fault.
@@ -201,33 +215,36 @@ fn calls_of(alloc: Global, begin: &Begin) -> Result<u64, Fail> {
     Ok(run_steps(alloc, begin, 0)?.disk.calls())
 }
 
-/// The first call, behind those of opening, whose fault is not told or leaves what it may not; then call 0.
-fn first_wrong_of(alloc: Global, begin: &Begin) -> Result<Option<u64>, Fail> {
+/// How many faults were tried, one of each call behind those of opening; or the first call whose fault is not told or leaves what it may not, 0 where a run without a
+/// fault does.
+fn faults_of(alloc: Global, begin: &Begin) -> Result<Result<u64, u64>, Fail> {
+    let mut tried = 0u64;
     for number in OPENING..calls_of(alloc, begin)? {
         if !is_right(alloc, begin, number + 1)? {
-            return Ok(Some(number + 1));
+            return Ok(Err(number + 1));
         }
+        tried = tried.wrapping_add(1);
     }
     Ok(if is_right(alloc, begin, 0)? {
-        None
+        Ok(tried)
     } else {
-        Some(0)
+        Err(0)
     })
 }
 
-/// That call of a pool with this room.
-fn first_wrong(alloc: Global, room: Room) -> Result<Option<u64>, Fail> {
-    first_wrong_of(alloc, &begun(alloc, room)?)
+/// The same of a pool with this room.
+fn faults_with(alloc: Global, room: Room) -> Result<Result<u64, u64>, Fail> {
+    faults_of(alloc, &begun(alloc, room)?)
 }
 
-/// With one place the table is full in most steps.
+/// With one place the table is full in most steps. Behind each fault three stops are looked at.
 #[test]
 fn a_stop_among_random_writes(rt: HostRuntime) -> Result<(), Fail> {
     let one = Room {
         changed: 1,
         read: 1,
     };
-    let wrong = (first_wrong(rt.alloc(), FEW)?, first_wrong(rt.alloc(), one)?);
-    assert_eq!(rt; wrong, (None, None));
+    let tried = (faults_with(rt.alloc(), FEW)?, faults_with(rt.alloc(), one)?);
+    assert_eq!(rt; tried, (Ok(84), Ok(220)));
     Ok(())
 }
