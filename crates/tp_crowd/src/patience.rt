@@ -9,9 +9,10 @@ use std::{hint, thread};
 /// those who ask have it for less, and a busy machine keeps it for some milliseconds.
 const LATE: u64 = 2_000_000;
 
-/// So many waits sleep at once behind one that was late, and twice as many behind each further one, but not more than the most.
+/// So many waits sleep at once behind the first one that was late, and twice as many behind each further one.
 const SHORTEST_PAUSE: u64 = 64;
 
+/// But not more than so many.
 const LONGEST_PAUSE: u64 = 8192;
 
 /// So often one who is to sleep tries before it does, and lets nobody run in between: some microseconds.
@@ -51,8 +52,8 @@ impl Patience {
         }
     }
 
-    /// Whether a wait that begins is to be awake.
-    fn is_left(&self) -> bool {
+    /// Counts a wait that begins, and tells whether it is to be awake.
+    fn begins_awake(&self) -> bool {
         let asleep = self.asleep.load(Ordering::SeqCst);
         if asleep > 0 {
             self.asleep.store(asleep - 1, Ordering::SeqCst);
@@ -64,13 +65,13 @@ impl Patience {
     pub(crate) fn begin(&self) -> Waiting<'_> {
         Waiting {
             patience: self,
-            is_awake: self.is_left(),
+            is_awake: self.begins_awake(),
             looks: LOOKS,
         }
     }
 
     /// Whoever let others run had its processor back soon: the next pause is a little shorter.
-    fn is_rewarded(&self) {
+    fn shorten_pause(&self) {
         let pause = self.pause.load(Ordering::SeqCst);
         if pause > SHORTEST_PAUSE {
             self.pause.store(pause - pause / 32 - 1, Ordering::SeqCst);
@@ -78,7 +79,7 @@ impl Patience {
     }
 
     /// It was late: a pause begins, and the next one is twice as long.
-    fn is_lost(&self) {
+    fn begin_pause(&self) {
         let pause = self.pause.load(Ordering::SeqCst);
         self.asleep.store(pause, Ordering::SeqCst);
         let longer = pause.saturating_mul(2).min(LONGEST_PAUSE);
@@ -91,9 +92,9 @@ impl Patience {
         thread::yield_now();
         let is_soon = now().saturating_sub(began) < LATE;
         if is_soon {
-            self.is_rewarded();
+            self.shorten_pause();
         } else {
-            self.is_lost();
+            self.begin_pause();
         }
         is_soon
     }
