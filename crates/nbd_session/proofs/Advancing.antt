@@ -8,7 +8,7 @@ use Rattle.tp_model.specs.declared.refusal.NbdError.{NbdError}
 use Rattle.tp_model.specs.Requests.{form_error, is_flush, is_read, is_trim, is_write}
 use Rattle.tp_model.specs.Geometry.{Geometry, sectors_of_volume}
 use Rattle.tp_model.specs.Pool.{PlainPool, Outline, hold_count, hold_total}
-use Rattle.tp_model.specs.Calls.{Call, Answer, Done, Gave, Line, Found, Refused, Sized, Hold, LetGo, NextId, VolumeBlocks, is_failed, holds_after}
+use Rattle.tp_model.specs.Calls.{Call, Answer, Done, Gave, Line, Found, Refused, Sized, Listed, Hold, LetGo, NextId, VolumeBlocks, is_failed, holds_after}
 use Rattle.nbd_wire.specs.declared.Kind.{Kind}
 use Rattle.nbd_wire.specs.declared.Request.{Request}
 use Rattle.nbd_wire.specs.declared.TheConstants.{COMMAND_DISC, OPTION_ABORT, OPTION_EXPORT_NAME, OPTION_GO, OPTION_INFO, OPTION_LIST}
@@ -213,6 +213,7 @@ module _ {D : Type 0} (view : View D) (laws : ViewLaws view) where
   made_next v n r rest last (Line bytes) sent next h = (Listens true, h.1, refl)
   made_next v n r rest last (Found id) sent next h = (Listens true, h.1, refl)
   made_next v n r rest last (Sized blocks) sent next h = (Listens true, h.1, refl)
+  made_next v n r rest last (Listed slots) sent next h = (Listens true, h.1, refl)
   made_next v n r rest last (Refused reason) sent next h = (Listens true, h.1, refl)
 
   part_holds : (b : Bool) (trim zeroes : Call) (answer : Answer) (holds : FinMap nat_cmp ℕ) → holds_after holds trim answer ≡ holds → holds_after holds zeroes answer ≡ holds
@@ -288,6 +289,7 @@ module _ {D : Type 0} (view : View D) (laws : ViewLaws view) where
     told_moves old asked new id (Gave sectors) sent next is call h = absurd h
     told_moves old asked new id (Line bytes) sent next is call h = absurd h
     told_moves old asked new id (Found least) sent next is call h = absurd h
+    told_moves old asked new id (Listed slots) sent next is call h = absurd h
 
     -- of one that is held from now on
     module _ (old held : D) (id : ℕ) (same : g ≡ (view.outline old).geometry) (hold : PoolCall view old (Hold id) Done held) where
@@ -331,6 +333,7 @@ module _ {D : Type 0} (view : View D) (laws : ViewLaws view) where
       sized_moves asked new (Gave sectors) sent next is call h = absurd h
       sized_moves asked new (Line bytes) sent next is call h = absurd h
       sized_moves asked new (Found least) sent next is call h = absurd h
+      sized_moves asked new (Listed slots) sent next is call h = absurd h
 
     held_moves : (old held new : D) (id : ℕ) (answer : Answer) (sent : List ℕ) (next : Phase) → g ≡ (view.outline old).geometry → o.holds ≡ true → PoolCall view old (Hold id) answer held
         → IsHeld view.outline (PoolCall view) (found_so id) id answer held sent next new → Moves old new (Options z) next
@@ -341,6 +344,7 @@ module _ {D : Type 0} (view : View D) (laws : ViewLaws view) where
     held_moves old held new id (Line bytes) sent next same is call h = absurd h
     held_moves old held new id (Found least) sent next same is call h = absurd h
     held_moves old held new id (Sized blocks) sent next same is call h = absurd h
+    held_moves old held new id (Listed slots) sent next same is call h = absurd h
 
     enters_moves : (b : Bool) (old new : D) (id : ℕ) (sent : List ℕ) (next : Phase) → g ≡ (view.outline old).geometry → o.holds ≡ b
         → MatchBool b (Holds view.outline (PoolCall view) (found_so id) id old sent next new) (Sizes view.outline (PoolCall view) false (found_so id) id old sent next new) → Moves old new (Options z) next
@@ -361,6 +365,7 @@ module _ {D : Type 0} (view : View D) (laws : ViewLaws view) where
     finds_moves old new id (Gave sectors) sent next same h = absurd h
     finds_moves old new id (Line bytes) sent next same h = absurd h
     finds_moves old new id (Sized blocks) sent next same h = absurd h
+    finds_moves old new id (Listed slots) sent next same h = absurd h
 
   module _ (old new : D) (z : Terms) (o : VolumeOption) (lands : Lands z o) where
     asks_move : (id : ℕ) (sent : List ℕ) (next : Phase) → AsksFor view.outline (PoolCall view) o id old sent next new → Moves old new (Options z) next
@@ -575,6 +580,7 @@ module _ {D : Type 0} (view : View D) (laws : ViewLaws view) where
   made_quiet v n r rest last (Line bytes) sent next h w = absurd (elsewhere next (Transmission v n (Listens true)) h.1 refl w)
   made_quiet v n r rest last (Found id) sent next h w = absurd (elsewhere next (Transmission v n (Listens true)) h.1 refl w)
   made_quiet v n r rest last (Sized blocks) sent next h w = absurd (elsewhere next (Transmission v n (Listens true)) h.1 refl w)
+  made_quiet v n r rest last (Listed slots) sent next h w = absurd (elsewhere next (Transmission v n (Listens true)) h.1 refl w)
   made_quiet v n r rest last (Refused reason) sent next h w = absurd (elsewhere next (Transmission v n (Listens true)) h.1 refl w)
 
   deaf_quiet : (phase : Phase) (old new : D) (from to : State) (piece sent : List ℕ) (taken : ℕ) (ended : Bool)

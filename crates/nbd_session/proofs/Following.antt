@@ -4,7 +4,7 @@ use Rattle.std.specs.Prelude.{MatchOption, MatchBool, ◌==◌, if◌then◌else
 use Rattle.tp_model.specs.declared.mode.Mode.{Mode}
 use Rattle.tp_model.specs.Geometry.{Geometry}
 use Rattle.tp_model.specs.Pool.{Outline}
-use Rattle.tp_model.specs.Calls.{Call, Answer, Done, Found, Gave, Hold, LetGo, Line, NextId, Refused, Sized, VolumeBlocks, is_failed, is_read_only}
+use Rattle.tp_model.specs.Calls.{Call, Answer, Done, Found, Gave, Hold, LetGo, Line, NextId, Refused, Sized, Listed, VolumeBlocks, is_failed, is_read_only}
 use Rattle.nbd_wire.specs.declared.Kind.{Kind}
 use Rattle.nbd_wire.specs.declared.Request.{Request}
 use Rattle.nbd_wire.specs.declared.TheConstants.{OPTION_ABORT, OPTION_EXPORT_NAME, OPTION_GO, OPTION_INFO, OPTION_LIST}
@@ -78,6 +78,7 @@ module _ {D B : Type 0} (outline : D → Outline) (Calls : D → Call → Answer
   sized_likewise held found id (Gave sectors) old new s sent next r h = absurd h
   sized_likewise held found id (Line bytes) old new s sent next r h = absurd h
   sized_likewise held found id (Found least) old new s sent next r h = absurd h
+  sized_likewise held found id (Listed slots) old new s sent next r h = absurd h
 
   sizes_likewise : (held : Bool) (found : ℕ → Outcome) (id : ℕ) (old new : D) (s : B) (sent : List ℕ) (next : Phase) → R old s
       → Sizes outline Calls held found id old sent next new → Likewise (Sizes outline' Calls' held found id s sent next) new
@@ -94,6 +95,7 @@ module _ {D B : Type 0} (outline : D → Outline) (Calls : D → Call → Answer
   held_likewise found id (Line bytes) old new s sent next r h = absurd h
   held_likewise found id (Found least) old new s sent next r h = absurd h
   held_likewise found id (Sized blocks) old new s sent next r h = absurd h
+  held_likewise found id (Listed slots) old new s sent next r h = absurd h
 
   enters_likewise : (b : Bool) (found : ℕ → Outcome) (id : ℕ) (old new : D) (s : B) (sent : List ℕ) (next : Phase) → R old s
       → MatchBool b (Holds outline Calls found id old sent next new) (Sizes outline Calls false found id old sent next new)
@@ -118,6 +120,7 @@ module _ {D B : Type 0} (outline : D → Outline) (Calls : D → Call → Answer
   finds_likewise o found id (Gave sectors) old new s sent next r h = absurd h
   finds_likewise o found id (Line bytes) old new s sent next r h = absurd h
   finds_likewise o found id (Sized blocks) old new s sent next r h = absurd h
+  finds_likewise o found id (Listed slots) old new s sent next r h = absurd h
 
   module _ (old new : D) (s : B) (is_shown : R old s) where
     same_mode : (outline' s).mode ≡ (outline old).mode

@@ -7,7 +7,7 @@ use Rattle.tp_model.specs.declared.refusal.Refusal.{Refusal}
 use Rattle.tp_model.specs.Refusals.{nbd_code, nbd_error}
 use Rattle.tp_model.specs.Sectors.{sectors_of}
 use Rattle.tp_model.specs.Pool.{Outline}
-use Rattle.tp_model.specs.Calls.{Call, Answer, Done, Gave, Line, Found, Refused, Sized, Hold, LetGo, NextId, VolumeBlocks, Read, Write, Trim, WriteZeroes, Flush, is_failed, is_read_only}
+use Rattle.tp_model.specs.Calls.{Call, Answer, Done, Gave, Line, Found, Refused, Sized, Listed, Hold, LetGo, NextId, VolumeBlocks, Read, Write, Trim, WriteZeroes, Flush, is_failed, is_read_only}
 use Rattle.nbd_wire.specs.declared.Kind.{Kind}
 use Rattle.nbd_wire.specs.declared.Kind.TheVariants as kinds
 use Rattle.nbd_wire.specs.declared.Request.{Request}
@@ -97,6 +97,7 @@ reply_to cookie (Gave sectors) = simple_reply 0 cookie (concat sectors)
 reply_to cookie (Line bytes) = simple_reply 0 cookie []
 reply_to cookie (Found id) = simple_reply 0 cookie []
 reply_to cookie (Sized blocks) = simple_reply 0 cookie []
+reply_to cookie (Listed slots) = simple_reply 0 cookie []
 reply_to cookie (Refused reason) = simple_reply (nbd_code (nbd_error reason)) cookie []
 
 -- HAS_FLAGS, SEND_FLUSH, SEND_FUA, SEND_TRIM and SEND_WRITE_ZEROES, and READ_ONLY where the pool is so

@@ -9,12 +9,9 @@ ghost use Rattle.tp_mapping.specs.Runs.{without_run};
 ghost use Rattle.tp_mapping.specs.Slots.{last_block};
 ghost use Rattle.tp_mapping.specs.List.{HasChanged, IsAsRoomy, IsFullAt, IsRoomy, LacksAt, device_rank, free_below, has_another, is_taken, is_used, is_used_elsewhere, used_below, volume, volumes};
 
-use crate::mapped::Slot;
-use crate::mapping::MOST_SLOTS;
 use crate::slots::{add_all, has_other, has_place, last, place_of, put, take_out};
-use arrayvec::ArrayVec;
 use tp_counts::StoreError;
-use tp_model::{DevId, Pb, Vb};
+use tp_model::{DevId, Pb, Slot, Slots, Vb};
 
 /// A device and its slots, in the order of their virtual blocks.
 #[derive(Drop)]
@@ -326,7 +323,7 @@ pub(crate) fn highest_of(devices: &[Device], id: DevId) -> Option<Vb>
 }
 
 /// Adds the slots of a device with virtual blocks from `from` on, until there is no room; none where it is not there.
-pub(crate) fn walk_of(devices: &[Device], id: DevId, from: Vb, out: &mut ArrayVec<Slot, MOST_SLOTS>)
+pub(crate) fn walk_of(devices: &[Device], id: DevId, from: Vb, out: &mut Slots)
     requires { length out.old.items ≤ 252 }
     ensures value { out.new.items ≡ take 252 (out.old.items ++ from_block from (slots_of id (volumes devices.now))) }
     ensures longer { IsLonger out.old.items out.new.items }

@@ -24,6 +24,6 @@ mod trees;
 mod volume;
 
 pub use list::ListMapping;
-pub use mapped::{Mapped, Slot};
-pub use mapping::{MOST_RUN, MOST_SLOTS, Mapping};
+pub use mapped::Mapped;
+pub use mapping::{MOST_RUN, Mapping};
 pub use trees::TreeMapping;

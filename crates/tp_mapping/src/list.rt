@@ -16,14 +16,13 @@ use crate::device::{
     is_used_elsewhere, mapped_of, mark, next_of, put_slot, remove, resize, size_of, slot_of,
     take_slot, walk_of,
 };
-use crate::mapped::{Mapped, Slot};
-use crate::mapping::{MOST_SLOTS, Mapping};
+use crate::mapped::Mapped;
+use crate::mapping::Mapping;
 use crate::sizes::{size_for, told_blocks};
-use arrayvec::ArrayVec;
 use std::alloc::{AllocError, Global};
 use tp_counts::StoreError;
 use tp_disk::Disk;
-use tp_model::{DevId, Geometry, Pb, Vb};
+use tp_model::{DevId, Geometry, Pb, Slot, Slots, Vb};
 
 /// A mapping as a list of devices, each with a list of its slots. It reads and writes no disk, and takes no memory after
 /// it is made.
@@ -221,7 +220,7 @@ impl Mapping for ListMapping {
         _disk: &mut D,
         device: DevId,
         from: Vb,
-        slots: &mut ArrayVec<Slot, MOST_SLOTS>,
+        slots: &mut Slots,
     ) -> Result<(), StoreError> {
         let _ = slots.len();
         walk_of(&self.devices, device, from, slots);

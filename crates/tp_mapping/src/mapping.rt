@@ -11,17 +11,13 @@ ghost use Rattle.tp_mapping.specs.Mapping.{AreInside, AreTold, AreWithin, IsChan
 ghost use Rattle.tp_mapping.specs.Next.{IsNext};
 ghost use Rattle.tp_mapping.specs.Runs.{without_run};
 
-use crate::mapped::{Mapped, Slot};
-use arrayvec::ArrayVec;
+use crate::mapped::Mapped;
 use tp_counts::StoreError;
 use tp_disk::Disk;
-use tp_model::{DevId, Pb, Vb};
+use tp_model::{DevId, Pb, Slots, Vb};
 
 /// As many virtual blocks as a call of `look_up_run` looks up at most: those that a request touches.
 pub const MOST_RUN: usize = 17;
-
-/// As many slots as a call of `walk` gives at most.
-pub const MOST_SLOTS: usize = 252;
 
 /// A map from the virtual blocks of devices to data blocks, now and as the last commit kept it.
 ///
@@ -112,7 +108,7 @@ pub trait Mapping {
         disk: &mut D,
         device: DevId,
         from: Vb,
-        slots: &mut ArrayVec<Slot, MOST_SLOTS>,
+        slots: &mut Slots,
     ) -> Result<(), StoreError>
         requires disk { sectors_of_image (geometry self.now) ≤ (D.state disk.old).size }
         ensures looked { LooksUp (stands self.now) (D.state disk.old) (D.state disk.new) result (λ done now. IsFilled (from_block from (slots_of device now)) slots.old.items slots.new.items) }

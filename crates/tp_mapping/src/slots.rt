@@ -6,11 +6,8 @@ ghost use Rattle.tp_sharing.specs.Volumes.{BlockSlot, place_in, with_place, with
 ghost use Rattle.tp_mapping.specs.Mapping.{IsLonger, from_block};
 ghost use Rattle.tp_mapping.specs.Slots.{last_block, has_other, has_place, rank_in};
 
-use crate::mapped::Slot;
-use crate::mapping::MOST_SLOTS;
-use arrayvec::ArrayVec;
 use tp_counts::StoreError;
-use tp_model::{Pb, Vb};
+use tp_model::{MOST_SLOTS, Pb, Slot, Slots, Vb};
 
 /// The data block of a virtual block, if it has one.
 pub(crate) fn place_of(slots: &[Slot], block: Vb) -> Option<Pb>
@@ -132,7 +129,7 @@ pub(crate) fn last(slots: &[Slot]) -> Option<Vb>
 }
 
 /// Adds a slot, where its virtual block is `from` or a greater one and there is room.
-fn add(out: &mut ArrayVec<Slot, MOST_SLOTS>, slot: Slot, from: Vb)
+fn add(out: &mut Slots, slot: Slot, from: Vb)
     ensures value { out.new.items ≡ take 252 (out.old.items ++ from_block from (slot ∷ [])) }
     ensures longer { IsLonger out.old.items out.new.items }
 {
@@ -146,7 +143,7 @@ fn add(out: &mut ArrayVec<Slot, MOST_SLOTS>, slot: Slot, from: Vb)
 }
 
 /// Adds the slots with virtual blocks from `from` on, until there is no room.
-pub(crate) fn add_all(out: &mut ArrayVec<Slot, MOST_SLOTS>, slots: &[Slot], from: Vb)
+pub(crate) fn add_all(out: &mut Slots, slots: &[Slot], from: Vb)
     requires { length out.old.items ≤ 252 }
     ensures value { out.new.items ≡ take 252 (out.old.items ++ from_block from slots.now) }
     ensures longer { IsLonger out.old.items out.new.items }

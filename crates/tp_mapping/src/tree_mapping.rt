@@ -8,15 +8,14 @@ ghost use Rattle.tp_mapping.specs.Trees.{StandForVolumes};
 ghost use Rattle.tp_mapping.specs.Framing.{frame_stands};
 ghost use Rattle.tp_mapping.specs.One.{trees_stand_for_one};
 
-use crate::mapped::{Mapped, Slot};
-use crate::mapping::{MOST_SLOTS, Mapping};
+use crate::mapped::Mapped;
+use crate::mapping::Mapping;
 use crate::runs::clear;
 use crate::tree_runs::places_at;
 use crate::trees::TreeMapping;
-use arrayvec::ArrayVec;
 use tp_counts::StoreError;
 use tp_disk::Disk;
-use tp_model::{DevId, Pb, Vb};
+use tp_model::{DevId, Pb, Slots, Vb};
 
 impl Mapping for TreeMapping {
     ghost geometry = { λ m. m.tm.geometry };
@@ -80,7 +79,7 @@ impl Mapping for TreeMapping {
         disk: &mut D,
         device: DevId,
         from: Vb,
-        slots: &mut ArrayVec<Slot, MOST_SLOTS>,
+        slots: &mut Slots,
     ) -> Result<(), StoreError> {
         self.walk_slots(disk, device, from, slots)
     }

@@ -13,8 +13,7 @@ ghost use Rattle.tp_mapping.specs.Held.{HasThere, HasVolume};
 ghost use Rattle.tp_mapping.specs.Trees.{StandForVolumes};
 ghost use Rattle.tp_mapping.specs.Telling.{IsThere, NameBlocks, NamesBlocks, as_slot};
 
-use crate::mapped::{Mapped, Slot};
-use crate::mapping::MOST_SLOTS;
+use crate::mapped::Mapped;
 use crate::sizes::told_blocks;
 use crate::trees::TreeMapping;
 use crate::volume::{MOST_BLOCKS, There, Volume, data_block_of, volume_at};
@@ -23,7 +22,7 @@ use tp_btree::{count, last, lookup, walk};
 use tp_counts::StoreError;
 use tp_disk::Disk;
 use tp_layout::{Entry, TreeKind};
-use tp_model::{DevId, Mb, Vb};
+use tp_model::{DevId, MOST_SLOTS, Mb, Slot, Slots, Vb};
 use tp_tm::Tm;
 
 /// The data block of a virtual block of a volume, and whether another slot has it too.
@@ -49,8 +48,6 @@ fn place_at<D: Disk>(
         is_shared: there.is_shared | found.is_shared,
     }))
 }
-
-type Slots = ArrayVec<Slot, MOST_SLOTS>;
 
 /// The virtual block of this number, or `Damaged` where there is none.
 fn virtual_block_of(number: u64) -> Result<Vb, StoreError>
@@ -252,7 +249,7 @@ impl TreeMapping {
         disk: &mut D,
         device: DevId,
         from: Vb,
-        slots: &mut ArrayVec<Slot, MOST_SLOTS>,
+        slots: &mut Slots,
     ) -> Result<(), StoreError>
         requires disk { sectors_of_image self.now.tm.geometry ≤ (D.state disk.old).size }
         ensures looked { LooksUp (StandForVolumes self.now) (D.state disk.old) (D.state disk.new) result (λ done now. IsFilled (from_block from (slots_of device now)) slots.old.items slots.new.items) }

@@ -20,10 +20,10 @@ ghost use Rattle.tp_meta.specs.Midway.{IsNamed, IsWritten, StoresCommit};
 ghost use Rattle.tp_meta.specs.Stale.{AreCurrent, NameFixed, SameArea, marks_in};
 
 use crate::ending::end_store;
-use crate::naming::put;
 use crate::stale::{AreaMarks, StaleBlocks};
 use tp_disk::{Disk, Fault};
 use tp_layout::{Part, SlotId, Superblock};
+use tp_super::put;
 use tp_tm::Tm;
 
 /// Keeps a store of nodes as the commit of a superblock, and all that was written to data blocks. Of the counts it writes

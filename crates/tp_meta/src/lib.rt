@@ -14,7 +14,6 @@ mod losing;
 mod marking;
 mod marks;
 mod metadata;
-mod naming;
 mod opening;
 mod pool_metadata;
 mod stale;

@@ -9,11 +9,10 @@ ghost use Rattle.tp_meta.specs.Marking.{AreCutAt, AreOrdered, IsPiece};
 ghost use Rattle.tp_meta.specs.Metadata.{marked_all};
 
 use crate::marks::Marks;
-use arrayvec::ArrayVec;
 use tp_counts::StoreError;
 use tp_disk::Disk;
-use tp_mapping::{MOST_SLOTS, Mapping, Slot, TreeMapping};
-use tp_model::{DevId, Vb};
+use tp_mapping::{Mapping, TreeMapping};
+use tp_model::{DevId, MOST_SLOTS, Slot, Slots, Vb};
 
 /// The numbers of virtual blocks are below this one.
 const MOST_BLOCKS: u32 = 16_777_216;
@@ -61,7 +60,7 @@ fn mark_piece<D: Disk>(
         (λ next now. marked_all (from_block from (slots_of device now)) marks.old ≡ marked_all (from_block next (slots_of device now)) marks.new) }
     ensures further { IfOk result (λ next. from < next) }
 {
-    let mut slots: ArrayVec<Slot, MOST_SLOTS> = ArrayVec::new();
+    let mut slots = Slots::new();
     mapping.walk(disk, device, Vb::new(from), &mut slots)?;
     mark_slots(marks, &slots);
     behind(&slots, from)

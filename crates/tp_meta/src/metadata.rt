@@ -11,7 +11,7 @@ ghost use Rattle.tp_model.specs.Pool.{PlainPool, copy_id};
 ghost use Rattle.tp_image.specs.Stands.{HasTrees};
 ghost use Rattle.tp_stored.specs.Contents.{Contents, HasContents, HoldsContents};
 ghost use Rattle.tp_stored.specs.Laws.{AreBounded};
-ghost use Rattle.tp_mapping.specs.Mapping.{IsHighest, IsLeastFree, NoneIsFree, free_places, size_for, size_or_none, slots_of, without_copies};
+ghost use Rattle.tp_mapping.specs.Mapping.{IsFilled, IsHighest, IsLeastFree, NoneIsFree, free_places, from_block, size_for, size_or_none, slots_of, without_copies};
 ghost use Rattle.tp_mapping.specs.Next.{IsNext};
 ghost use Rattle.tp_mapping.specs.Runs.{without_run};
 ghost use Rattle.tp_mapping.specs.Telling.{AreCopied};
@@ -19,7 +19,7 @@ ghost use Rattle.tp_meta.specs.Metadata.{AreInside, AreTold, AreWithin, IsAltere
 
 use tp_counts::StoreError;
 use tp_disk::{Disk, Fault};
-use tp_model::{DevId, Geometry, Pb, Vb};
+use tp_model::{DevId, Geometry, Pb, Slots, Vb};
 
 /// Where a virtual block stands.
 #[derive(Clone, Copy, Debug, PartialEq, Eq)]
@@ -155,6 +155,21 @@ pub trait Metadata {
     fn highest<D: Disk>(&self, disk: &mut D, device: DevId) -> Result<Option<Vb>, StoreError>
         requires disk { sectors_of_image (geometry self.now) ≤ (D.state disk.old).size }
         ensures { LooksUp (stands self.now) (D.state disk.old) (D.state disk.new) result (λ answer now. IsHighest device now.volumes answer) };
+
+    /// Adds the slots of a device with virtual blocks from `from` on, in their order, until `slots` is full. It tells whether there is such a device; where there is none,
+    /// nothing is added. A volume of any size is walked in pieces: the next begins behind the last virtual block. After an `Err` some slots may have been added.
+    fn walk<D: Disk>(
+        &self,
+        disk: &mut D,
+        device: DevId,
+        from: Vb,
+        slots: &mut Slots,
+    ) -> Result<bool, StoreError>
+        requires disk { sectors_of_image (geometry self.now) ≤ (D.state disk.old).size }
+        ensures looked { LooksUp (stands self.now) (D.state disk.old) (D.state disk.new) result (λ is_there now. (is_there ≡ is_some (device_of device now.volumes))
+            × IsFilled (from_block from (slots_of device now.volumes)) slots.old.items slots.new.items) }
+        ensures read { LooksUp (tells self.now) (D.state disk.old) (D.state disk.new) result (λ is_there now. (is_there ≡ is_some (device_of device now.volumes))
+            × IsFilled (from_block from (slots_of device now.volumes)) slots.old.items slots.new.items) };
 
     /// How many devices there are.
     fn devices<D: Disk>(&self, disk: &mut D) -> Result<u32, StoreError>

@@ -12,7 +12,7 @@ use crate::whole::Meta;
 use tp_counts::StoreError;
 use tp_disk::{Disk, Fault};
 use tp_mapping::{MOST_RUN, Mapping};
-use tp_model::{DevId, Geometry, Pb, Vb};
+use tp_model::{DevId, Geometry, Pb, Slots, Vb};
 
 impl Metadata for Meta {
     ghost geometry = { λ m. m.mapping.tm.geometry };
@@ -113,6 +113,18 @@ impl Metadata for Meta {
 
     fn highest<D: Disk>(&self, disk: &mut D, device: DevId) -> Result<Option<Vb>, StoreError> {
         self.mapping.highest(disk, device)
+    }
+
+    fn walk<D: Disk>(
+        &self,
+        disk: &mut D,
+        device: DevId,
+        from: Vb,
+        slots: &mut Slots,
+    ) -> Result<bool, StoreError> {
+        let mapped = self.mapping.mapped(disk, device)?;
+        self.mapping.walk(disk, device, from, slots)?;
+        Ok(mapped.is_some())
     }
 
     fn devices<D: Disk>(&self, disk: &mut D) -> Result<u32, StoreError> {

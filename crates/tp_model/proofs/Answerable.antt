@@ -7,7 +7,7 @@ use Rattle.tp_model.specs.declared.refusal.Refusal.{Refusal}
 use Rattle.tp_model.specs.declared.refusal.Refusal.TheVariants.{BadSize, Busy, Exists, Failed, NoDataSpace, NoMetadataSpace, NoSuchDevice, ReadOnly, StaleTransactionId, TooManyDevices, HeldRootExists, NoHeldRoot}
 use Rattle.tp_model.specs.Sectors.{Sector}
 use Rattle.tp_model.specs.Pool.{PlainPool, device_count, hold_count}
-use Rattle.tp_model.specs.Calls.{Call, Read, Write, Trim, WriteZeroes, Flush, CreateThin, CreateSnap, Delete, SetTransactionId, Grow, Hold, LetGo, Status, ThinStatus, NextId, VolumeBlocks, Close, HeldRead, ReserveMetadataSnap, ReleaseMetadataSnap, IsOneOf, exists, has_copy, first_failed, volume_blocks, has_data_room, has_metadata_room, is_failed, is_read_only, may_accept, refusal_of, refusals}
+use Rattle.tp_model.specs.Calls.{Call, Read, Write, Trim, WriteZeroes, Flush, CreateThin, CreateSnap, Delete, SetTransactionId, Grow, Hold, LetGo, Status, ThinStatus, NextId, VolumeBlocks, Walk, Close, HeldRead, ReserveMetadataSnap, ReleaseMetadataSnap, IsOneOf, exists, has_copy, first_failed, volume_blocks, has_data_room, has_metadata_room, is_failed, is_read_only, may_accept, refusal_of, refusals}
 
 abbrev pub Told : Mode → Call → Option Refusal → Type 0
 Told m call o = MatchOption o (IsTrue (may_accept m call)) (λ reason. IsOneOf reason (refusals m call))
@@ -161,6 +161,13 @@ size_told mode.ReadOnly true id = refl
 size_told mode.ReadOnly false id = inl refl
 size_told mode.Failed there id = inl refl
 
+walk_told : (m : Mode) (there : Bool) (id from : ℕ) → Told m (Walk id from) (first_failed ((is_failed m, Failed) ∷ (not there, NoSuchDevice) ∷ []))
+walk_told mode.Writable true id from = refl
+walk_told mode.Writable false id from = inl refl
+walk_told mode.ReadOnly true id from = refl
+walk_told mode.ReadOnly false id from = inl refl
+walk_told mode.Failed there id from = inl refl
+
 memory_told : (m : Mode) (id : ℕ) → IsTrue (may_accept m (LetGo id)) × IsTrue (may_accept m Status)
 memory_told mode.Writable id = (refl, refl)
 memory_told mode.ReadOnly id = (refl, refl)
@@ -187,6 +194,7 @@ tests_told p Status = (memory_told p.mode 0).1
 tests_told p (ThinStatus id) = status_told p.mode (exists p id) id
 tests_told p (NextId from) = next_told p.mode from
 tests_told p (VolumeBlocks id) = size_told p.mode (exists p id) id
+tests_told p (Walk id from) = walk_told p.mode (exists p id) id from
 tests_told p Close = close_told p.mode
 tests_told p (HeldRead id sector count) = held_told p.mode (p.held_root == 0) (has_copy p id) id sector count
 tests_told p ReserveMetadataSnap = reserve_told p.mode (not (p.held_root == 0)) (not (has_metadata_room p 512))

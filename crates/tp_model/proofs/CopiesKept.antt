@@ -7,7 +7,7 @@ use Rattle.tp_model.specs.declared.refusal.Refusal.{Refusal}
 use Rattle.tp_model.specs.declared.refusal.Refusal.TheVariants.{Failed, NoDataSpace, NoMetadataSpace, NoSuchDevice, ReadOnly}
 use Rattle.tp_model.specs.Sectors.{Sector}
 use Rattle.tp_model.specs.Pool.{PlainPool, copy_id, is_now, volume_sector}
-use Rattle.tp_model.specs.Calls.{Call, Read, Write, Trim, WriteZeroes, Flush, CreateThin, CreateSnap, Delete, SetTransactionId, Grow, Hold, LetGo, Status, ThinStatus, NextId, VolumeBlocks, Close, HeldRead, ReserveMetadataSnap, ReleaseMetadataSnap, exists, first_failed, has_data_room, has_metadata_room, is_failed, is_read_only, refusal_of, refusal_of_request}
+use Rattle.tp_model.specs.Calls.{Call, Read, Write, Trim, WriteZeroes, Flush, CreateThin, CreateSnap, Delete, SetTransactionId, Grow, Hold, LetGo, Status, ThinStatus, NextId, VolumeBlocks, Walk, Close, HeldRead, ReserveMetadataSnap, ReleaseMetadataSnap, exists, first_failed, has_data_room, has_metadata_room, is_failed, is_read_only, refusal_of, refusal_of_request}
 use Rattle.tp_model.specs.PoolStops.{Event, Given, GivenIn, MayReopen}
 use Rattle.std.specs.FinMap.{contains_key}
 
@@ -44,6 +44,7 @@ none_given p Status id k x none g = g
 none_given p (ThinStatus i) id k x none g = g
 none_given p (NextId i) id k x none g = g
 none_given p (VolumeBlocks i) id k x none g = g
+none_given p (Walk i from) id k x none g = g
 none_given p Close id k x none g = g
 none_given p (HeldRead i sector count) id k x none g = g
 none_given p ReserveMetadataSnap id k x none g = g

@@ -10,7 +10,7 @@ use Rattle.tp_model.specs.declared.mode.Mode.TheVariants as mode
 use Rattle.tp_model.specs.declared.refusal.Refusal.{Refusal}
 use Rattle.tp_model.specs.declared.refusal.Refusal.TheVariants.{BadSize, Busy, Failed, NoMetadataSpace, NoSuchDevice, ReadOnly}
 use Rattle.tp_model.specs.Pool.{PlainPool, Volume, copy_id, hold_count, is_now}
-use Rattle.tp_model.specs.Calls.{Answer, Call, Read, Write, Trim, WriteZeroes, Flush, CreateThin, CreateSnap, Delete, SetTransactionId, Grow, Hold, LetGo, Status, ThinStatus, NextId, VolumeBlocks, Close, HeldRead, ReserveMetadataSnap, ReleaseMetadataSnap, Edits, IsAllowed, Makes, Step, Takes, after_refusal, exists, first_failed, grown, has_data_room, has_metadata_room, is_failed, is_read_only, is_writing, new_volume, refusal_of, volume_blocks, volume_of}
+use Rattle.tp_model.specs.Calls.{Answer, Call, Read, Write, Trim, WriteZeroes, Flush, CreateThin, CreateSnap, Delete, SetTransactionId, Grow, Hold, LetGo, Status, ThinStatus, NextId, VolumeBlocks, Walk, Close, HeldRead, ReserveMetadataSnap, ReleaseMetadataSnap, Edits, IsAllowed, Makes, Step, Takes, after_refusal, exists, first_failed, grown, has_data_room, has_metadata_room, is_failed, is_read_only, is_writing, new_volume, refusal_of, volume_blocks, volume_of}
 use Rattle.tp_model.proofs.CopiesKept.{second_passes}
 use Rattle.tp_model.proofs.Maps.{get_remove}
 use Rattle.tp_model.proofs.Steps.{other_of_insert}
@@ -90,6 +90,7 @@ made_keeps p Status q a none not_res not_rel h = same_pool p q h
 made_keeps p (ThinStatus i) q a none not_res not_rel h = same_pool p q h
 made_keeps p (NextId i) q a none not_res not_rel h = same_pool p q h
 made_keeps p (VolumeBlocks i) q a none not_res not_rel h = same_pool p q h
+made_keeps p (Walk i from) q a none not_res not_rel h = same_pool p q h
 made_keeps p Close q a none not_res not_rel h = same_pool p q h
 made_keeps p (HeldRead i at n) q a none not_res not_rel h = same_pool p q h
 made_keeps p ReserveMetadataSnap q a none not_res not_rel h = absurd (not_res refl)

@@ -11,7 +11,7 @@ use Rattle.std.proofs.lemmas.Option.{slice_get-map}
 use Rattle.tp_model.specs.Geometry.{Geometry}
 use Rattle.tp_model.specs.Sectors.{Sector, zero_sector}
 use Rattle.tp_model.specs.Pool.{PlainPool, volume_sectors, volume_sector, slot_at}
-use Rattle.tp_model.specs.Calls.{Call, Read, Write, Trim, WriteZeroes, Flush, CreateThin, CreateSnap, Delete, SetTransactionId, Grow, Hold, LetGo, Status, ThinStatus, NextId, VolumeBlocks, Close, HeldRead, ReserveMetadataSnap, ReleaseMetadataSnap, SlotEffect, Keeps, Loses, Owns, is_within, touches, covers, sector_after, slot_effect, Edits}
+use Rattle.tp_model.specs.Calls.{Call, Read, Write, Trim, WriteZeroes, Flush, CreateThin, CreateSnap, Delete, SetTransactionId, Grow, Hold, LetGo, Status, ThinStatus, NextId, VolumeBlocks, Walk, Close, HeldRead, ReserveMetadataSnap, ReleaseMetadataSnap, SlotEffect, Keeps, Loses, Owns, is_within, touches, covers, sector_after, slot_effect, Edits}
 
 -- a block that a range does not touch has no sector of it
 pub not_touched : (g : Geometry) (at n k : ℕ) → 0 < g.block_sectors → touches g at n (k / g.block_sectors) ≡ false → is_within at n k ≡ false
@@ -127,6 +127,7 @@ effect_fits g Status k old slot some = inl refl
 effect_fits g (ThinStatus id) k old slot some = inl refl
 effect_fits g (NextId id) k old slot some = inl refl
 effect_fits g (VolumeBlocks id) k old slot some = inl refl
+effect_fits g (Walk id from) k old slot some = inl refl
 effect_fits g Close k old slot some = inl refl
 effect_fits g (HeldRead id sector count) k old slot some = inl refl
 effect_fits g ReserveMetadataSnap k old slot some = inl refl

@@ -7,7 +7,7 @@ use Rattle.tp_model.specs.declared.refusal.Refusal.{Refusal}
 use Rattle.tp_model.specs.declared.refusal.Refusal.TheVariants.{Failed, NoDataSpace, NoMetadataSpace, NoSuchDevice, ReadOnly}
 use Rattle.tp_model.specs.Refusals.{refusal_number}
 use Rattle.tp_model.specs.Pool.{PlainPool, hold_count}
-use Rattle.tp_model.specs.Calls.{Answer, Done, Gave, Line, Found, Sized, Refused, Call, Read, Write, Trim, WriteZeroes, Flush, CreateThin, CreateSnap, Delete, SetTransactionId, Grow, Hold, LetGo, Status, ThinStatus, NextId, VolumeBlocks, Close, HeldRead, ReserveMetadataSnap, ReleaseMetadataSnap, Step, Takes, exists, first_failed, has_data_room, has_metadata_room, is_failed, is_read_only, refusal_of, reply, volume_asked}
+use Rattle.tp_model.specs.Calls.{Answer, Done, Gave, Line, Found, Sized, Listed, Refused, Call, Read, Write, Trim, WriteZeroes, Flush, CreateThin, CreateSnap, Delete, SetTransactionId, Grow, Hold, LetGo, Status, ThinStatus, NextId, VolumeBlocks, Walk, Close, HeldRead, ReserveMetadataSnap, ReleaseMetadataSnap, Step, Takes, exists, first_failed, has_data_room, has_metadata_room, is_failed, is_read_only, refusal_of, reply, volume_asked}
 use Rattle.tp_model.specs.Clauses.{Called, View, ViewLaws}
 
 -- the number of what stands there; 0 where nothing does
@@ -21,6 +21,7 @@ answer_number (Gave sectors) = 0
 answer_number (Line bytes) = 0
 answer_number (Found bytes) = 0
 answer_number (Sized blocks) = 0
+answer_number (Listed slots) = 0
 answer_number (Refused reason) = refusal_number reason
 
 -- ---- the tests
@@ -63,6 +64,7 @@ module _ (p : PlainPool) (id : ℕ) (is : is_failed p.mode ≡ false → exists 
   tests_pass (ThinStatus i) same = absurd (none-some id same)
   tests_pass (NextId i) same = absurd (none-some id same)
   tests_pass (VolumeBlocks i) same = absurd (none-some id same)
+  tests_pass (Walk i from) same = absurd (none-some id same)
   tests_pass Close same = absurd (none-some id same)
   tests_pass (HeldRead i sector count) same = absurd (none-some id same)
   tests_pass ReserveMetadataSnap same = absurd (none-some id same)
@@ -87,6 +89,7 @@ reply_number p Status id same = absurd (none-some id same)
 reply_number p (ThinStatus i) id same = absurd (none-some id same)
 reply_number p (NextId i) id same = absurd (none-some id same)
 reply_number p (VolumeBlocks i) id same = absurd (none-some id same)
+reply_number p (Walk i from) id same = absurd (none-some id same)
 reply_number p Close id same = absurd (none-some id same)
 reply_number p (HeldRead i sector count) id same = absurd (none-some id same)
 reply_number p ReserveMetadataSnap id same = absurd (none-some id same)

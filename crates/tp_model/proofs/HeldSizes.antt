@@ -14,7 +14,7 @@ use Rattle.tp_model.specs.declared.mode.Mode.TheVariants as mode
 use Rattle.tp_model.specs.declared.refusal.Refusal.{Refusal}
 use Rattle.tp_model.specs.declared.refusal.Refusal.TheVariants.{BadSize, Busy, Exists, Failed, NoMetadataSpace, NoSuchDevice, ReadOnly, TooManyDevices}
 use Rattle.tp_model.specs.Pool.{FindsHeld, PlainPool, Volume, device_count, hold_count, is_now, volume_sectors, volume_size}
-use Rattle.tp_model.specs.Calls.{Answer, Call, Read, Write, Trim, WriteZeroes, Flush, CreateThin, CreateSnap, Delete, SetTransactionId, Grow, Hold, LetGo, Status, ThinStatus, NextId, VolumeBlocks, Close, HeldRead, ReserveMetadataSnap, ReleaseMetadataSnap, Reserves, Edits, Makes, Step, Takes, after_refusal, exists, first_failed, grown, has_metadata_room, is_failed, is_read_only, is_writing, new_volume, refusal_of, sector_after, volume_blocks, volume_of}
+use Rattle.tp_model.specs.Calls.{Answer, Call, Read, Write, Trim, WriteZeroes, Flush, CreateThin, CreateSnap, Delete, SetTransactionId, Grow, Hold, LetGo, Status, ThinStatus, NextId, VolumeBlocks, Walk, Close, HeldRead, ReserveMetadataSnap, ReleaseMetadataSnap, Reserves, Edits, Makes, Step, Takes, after_refusal, exists, first_failed, grown, has_metadata_room, is_failed, is_read_only, is_writing, new_volume, refusal_of, sector_after, volume_blocks, volume_of}
 use Rattle.tp_model.proofs.Holds.{fourth_passes, not_held}
 use Rattle.tp_model.proofs.Maps.{get_remove, get_retain}
 use Rattle.tp_model.proofs.Steps.{other_of_insert}
@@ -121,6 +121,7 @@ Makes-keeps_sizes p Status q none h found = same_volumes p q (ap (λ r. r.volume
 Makes-keeps_sizes p (ThinStatus id) q none h found = same_volumes p q (ap (λ r. r.volumes) h)
 Makes-keeps_sizes p (NextId id) q none h found = same_volumes p q (ap (λ r. r.volumes) h)
 Makes-keeps_sizes p (VolumeBlocks id) q none h found = same_volumes p q (ap (λ r. r.volumes) h)
+Makes-keeps_sizes p (Walk id from) q none h found = same_volumes p q (ap (λ r. r.volumes) h)
 Makes-keeps_sizes p Close q none h found = same_volumes p q (ap (λ r. r.volumes) h)
 Makes-keeps_sizes p (HeldRead id at n) q none h found = same_volumes p q (ap (λ r. r.volumes) h)
 Makes-keeps_sizes p ReserveMetadataSnap q none h found = reserved p q h found

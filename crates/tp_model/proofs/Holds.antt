@@ -11,7 +11,7 @@ use Rattle.tp_model.specs.declared.mode.Mode.TheVariants as mode
 use Rattle.tp_model.specs.declared.refusal.Refusal.{Refusal}
 use Rattle.tp_model.specs.declared.refusal.Refusal.TheVariants.{Busy, Failed, NoMetadataSpace, NoSuchDevice, ReadOnly}
 use Rattle.tp_model.specs.Pool.{FindsHeld, PlainPool, Volume, hold_count, is_now}
-use Rattle.tp_model.specs.Calls.{Answer, Call, Read, Write, Trim, WriteZeroes, Flush, CreateThin, CreateSnap, Delete, SetTransactionId, Grow, Hold, LetGo, Status, ThinStatus, NextId, VolumeBlocks, Close, HeldRead, ReserveMetadataSnap, ReleaseMetadataSnap, Reserves, has_metadata_room, Edits, Makes, Step, Takes, after_refusal, exists, first_failed, is_failed, is_read_only, grown, is_writing, new_volume, refusal_of, released, volume_of}
+use Rattle.tp_model.specs.Calls.{Answer, Call, Read, Write, Trim, WriteZeroes, Flush, CreateThin, CreateSnap, Delete, SetTransactionId, Grow, Hold, LetGo, Status, ThinStatus, NextId, VolumeBlocks, Walk, Close, HeldRead, ReserveMetadataSnap, ReleaseMetadataSnap, Reserves, has_metadata_room, Edits, Makes, Step, Takes, after_refusal, exists, first_failed, is_failed, is_read_only, grown, is_writing, new_volume, refusal_of, released, volume_of}
 use Rattle.tp_model.proofs.Maps.{get_insert, get_remove, get_retain}
 use Rattle.tp_model.proofs.Steps.{other_of_insert}
 
@@ -145,6 +145,7 @@ Makes-FindsHeld p Status q none h = same_volumes p q (ap (λ r. r.volumes) h) (a
 Makes-FindsHeld p (ThinStatus id) q none h = same_volumes p q (ap (λ r. r.volumes) h) (ap (λ r. r.holds) h)
 Makes-FindsHeld p (NextId id) q none h = same_volumes p q (ap (λ r. r.volumes) h) (ap (λ r. r.holds) h)
 Makes-FindsHeld p (VolumeBlocks id) q none h = same_volumes p q (ap (λ r. r.volumes) h) (ap (λ r. r.holds) h)
+Makes-FindsHeld p (Walk id from) q none h = same_volumes p q (ap (λ r. r.volumes) h) (ap (λ r. r.holds) h)
 Makes-FindsHeld p Close q none h = same_volumes p q (ap (λ r. r.volumes) h) (ap (λ r. r.holds) h)
 Makes-FindsHeld p (HeldRead id at n) q none h = same_volumes p q (ap (λ r. r.volumes) h) (ap (λ r. r.holds) h)
 Makes-FindsHeld p ReserveMetadataSnap q none h = reserved p q h

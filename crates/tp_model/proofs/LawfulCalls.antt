@@ -13,7 +13,7 @@ use Rattle.tp_model.specs.declared.refusal.Refusal.TheVariants.{NoMetadataSpace}
 use Rattle.tp_model.specs.Geometry.{Geometry}
 use Rattle.tp_model.specs.Sectors.{Sector, zero_sector}
 use Rattle.tp_model.specs.Pool.{Volume, PlainPool, is_now, volume_sector, volume_sectors, volume_slots, slot_at, IsExclusive, IsLawful, IsShaped, IsShapedVolume}
-use Rattle.tp_model.specs.Calls.{Call, Read, Write, Trim, WriteZeroes, Flush, CreateThin, CreateSnap, Delete, SetTransactionId, Grow, Hold, LetGo, Status, ThinStatus, NextId, VolumeBlocks, Close, HeldRead, ReserveMetadataSnap, ReleaseMetadataSnap, held_of, Reserves, Answer, SlotEffect, Keeps, Loses, Owns, sector_after, SlotAfter, effect_at, Edits, Makes, Step, refusal_of, after_refusal, grown, new_volume, volume_blocks, volume_of}
+use Rattle.tp_model.specs.Calls.{Call, Read, Write, Trim, WriteZeroes, Flush, CreateThin, CreateSnap, Delete, SetTransactionId, Grow, Hold, LetGo, Status, ThinStatus, NextId, VolumeBlocks, Walk, Close, HeldRead, ReserveMetadataSnap, ReleaseMetadataSnap, held_of, Reserves, Answer, SlotEffect, Keeps, Loses, Owns, sector_after, SlotAfter, effect_at, Edits, Makes, Step, refusal_of, after_refusal, grown, new_volume, volume_blocks, volume_of}
 use Rattle.tp_model.proofs.Maps.{get_insert, get_empty, get_remove, get_retain}
 use Rattle.tp_model.proofs.Growing.{blocks_are, in_front, no_less, old_or_zero, shaped_at}
 use Rattle.tp_model.proofs.Editing.{Fits, effect_fits, volume_sector-edited, volume_sector-other, slot_at-other}
@@ -266,6 +266,7 @@ Makes-IsLawful p Status q some shaped none law h = same_lawful p q h law
 Makes-IsLawful p (ThinStatus id) q some shaped none law h = same_lawful p q h law
 Makes-IsLawful p (NextId id) q some shaped none law h = same_lawful p q h law
 Makes-IsLawful p (VolumeBlocks id) q some shaped none law h = same_lawful p q h law
+Makes-IsLawful p (Walk id from) q some shaped none law h = same_lawful p q h law
 Makes-IsLawful p Close q some shaped none law h = same_lawful p q h law
 Makes-IsLawful p (HeldRead id at n) q some shaped none law h = same_lawful p q h law
 Makes-IsLawful p ReserveMetadataSnap q some shaped none law h = lawful_by_places p q (ap (λ r. r.geometry) h.rest) law (λ i b. reserved_place p q h p.geometry.block_sectors i b)

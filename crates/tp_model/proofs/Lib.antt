@@ -25,3 +25,4 @@ pub mod DiskStopLaws
 pub mod Moments
 pub mod Digits
 pub mod Nexts
+pub mod Walking

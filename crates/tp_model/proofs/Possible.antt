@@ -13,7 +13,7 @@ use Rattle.std.proofs.lemmas.Option.{none-some, same_Some}
 use Rattle.tp_model.specs.declared.refusal.Refusal.{Refusal}
 use Rattle.tp_model.specs.Geometry.{Geometry}
 use Rattle.tp_model.specs.Pool.{Volume, PlainPool, copy_id, is_now, volume_sectors, volume_slots, slot_at, all_slots}
-use Rattle.tp_model.specs.Calls.{Call, Read, Write, Trim, WriteZeroes, Flush, CreateThin, CreateSnap, Delete, SetTransactionId, Grow, Hold, LetGo, Status, ThinStatus, NextId, VolumeBlocks, Close, HeldRead, ReserveMetadataSnap, ReleaseMetadataSnap, held_of, Answer, Done, Refused, SlotEffect, Keeps, Loses, Owns, SlotAfter, sector_after, slot_effect, effect_at, Edits, Makes, Step, reply, refusal_of, after_refusal, grown, new_volume, volume_of, holds_after}
+use Rattle.tp_model.specs.Calls.{Call, Read, Write, Trim, WriteZeroes, Flush, CreateThin, CreateSnap, Delete, SetTransactionId, Grow, Hold, LetGo, Status, ThinStatus, NextId, VolumeBlocks, Walk, Close, HeldRead, ReserveMetadataSnap, ReleaseMetadataSnap, held_of, Answer, Done, Refused, SlotEffect, Keeps, Loses, Owns, SlotAfter, sector_after, slot_effect, effect_at, Edits, Makes, Step, reply, refusal_of, after_refusal, grown, new_volume, volume_of, holds_after}
 use Rattle.tp_model.proofs.Maps.{get_insert, get_remove, get_retain}
 use Rattle.tp_model.proofs.Sharing.{all_slots_pass}
 use Rattle.tp_model.proofs.Steps.{step_accepted, step_refused, not_touched_past, not_covered_past, other_of_insert}
@@ -120,6 +120,7 @@ module _ (g : Geometry) (some : 0 < g.block_sectors) where
   kept_past_end (ThinStatus id) block slot h = refl
   kept_past_end (NextId id) block slot h = refl
   kept_past_end (VolumeBlocks id) block slot h = refl
+  kept_past_end (Walk id from) block slot h = refl
   kept_past_end Close block slot h = refl
   kept_past_end (HeldRead id sector count) block slot h = refl
   kept_past_end ReserveMetadataSnap block slot h = refl
@@ -254,6 +255,7 @@ Makes-possible p Status some = (p, refl)
 Makes-possible p (ThinStatus id) some = (p, refl)
 Makes-possible p (NextId id) some = (p, refl)
 Makes-possible p (VolumeBlocks id) some = (p, refl)
+Makes-possible p (Walk id from) some = (p, refl)
 Makes-possible p Close some = (p, refl)
 Makes-possible p (HeldRead id at n) some = (p, refl)
 Makes-possible p ReserveMetadataSnap some = (reserved_pool p, record { rest = refl; held = omega arith; volumes = λ id. get_copies p.volumes id })

@@ -4,7 +4,7 @@ use Rattle.std.specs.Option.{IsSome, option_map}
 use Rattle.std.specs.FinMap.{insert, remove, retain_keys}
 use Rattle.std.proofs.lemmas.Bool.{cases_eq, false≢true}
 use Rattle.tp_model.specs.Pool.{PlainPool, is_now, volume_size, volume_sector, slot_at, IsExclusive, IsRenamed}
-use Rattle.tp_model.specs.Calls.{Call, Read, Write, Trim, WriteZeroes, Flush, CreateThin, CreateSnap, Delete, SetTransactionId, Grow, Hold, LetGo, Status, ThinStatus, NextId, VolumeBlocks, Close, HeldRead, ReserveMetadataSnap, ReleaseMetadataSnap, Reserves, SlotEffect, Keeps, Loses, Owns, SlotAfter, effect_at, Edits, Makes, grown, new_volume, volume_of}
+use Rattle.tp_model.specs.Calls.{Call, Read, Write, Trim, WriteZeroes, Flush, CreateThin, CreateSnap, Delete, SetTransactionId, Grow, Hold, LetGo, Status, ThinStatus, NextId, VolumeBlocks, Walk, Close, HeldRead, ReserveMetadataSnap, ReleaseMetadataSnap, Reserves, SlotEffect, Keeps, Loses, Owns, SlotAfter, effect_at, Edits, Makes, grown, new_volume, volume_of}
 use Rattle.tp_model.proofs.Maps.{same_nat_map}
 use Rattle.tp_model.proofs.Editing.{volume_sector-edited, volume_sector-other, slot_at-other}
 
@@ -125,6 +125,7 @@ Makes-IsRenamed p Status q r e f m h = same q r (e ∙ sym f)
 Makes-IsRenamed p (ThinStatus id) q r e f m h = same q r (e ∙ sym f)
 Makes-IsRenamed p (NextId id) q r e f m h = same q r (e ∙ sym f)
 Makes-IsRenamed p (VolumeBlocks id) q r e f m h = same q r (e ∙ sym f)
+Makes-IsRenamed p (Walk id from) q r e f m h = same q r (e ∙ sym f)
 Makes-IsRenamed p Close q r e f m h = same q r (e ∙ sym f)
 Makes-IsRenamed p (HeldRead id sector count) q r e f m h = same q r (e ∙ sym f)
 Makes-IsRenamed p ReserveMetadataSnap q r e f m h = same q r (reserves_one p q r e f h)

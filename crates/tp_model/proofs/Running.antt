@@ -7,7 +7,7 @@ use Rattle.tp_model.specs.declared.refusal.Refusal.TheVariants as refusals
 use Rattle.std.proofs.lemmas.List.{map-append}
 use Rattle.tp_model.specs.declared.mode.Mode.TheVariants as mode
 use Rattle.tp_model.specs.Pool.{Outline, PlainPool}
-use Rattle.tp_model.specs.Calls.{Call, Answer, Done, Gave, Line, Found, Sized, Refused, Takes, Step, is_writing, HasCause, MayAnswer}
+use Rattle.tp_model.specs.Calls.{Call, Answer, Done, Gave, Line, Found, Sized, Listed, Refused, Takes, Step, is_writing, HasCause, MayAnswer}
 use Rattle.tp_model.specs.PoolStops.{Event, Nothing, MayBeLeft, MayBeLeftSince, reopened, state_after}
 use Rattle.tp_model.specs.Clauses.{Entry, Traced, TracedCall, IsTrace, events_of, failed_in, traced, GoesOn, Meets, OpensSince, found_now, found_since, HasTrace, Continues, Asked, AreCalls, AreTraced, PoolCall, View, ViewLaws, last_of}
 use Rattle.tp_model.proofs.PoolStopLaws.{call_leaves, call_left, MayBeLeft-none, MayBeLeftSince-none, MayBeLeftSince-more, MayBeLeftSince-later, state_from}
@@ -70,6 +70,7 @@ cause_alone n (Gave xs) m h = (omega (arith, h), omega (arith, h))
 cause_alone n (Line xs) m h = (omega (arith, h), omega (arith, h))
 cause_alone n (Found xs) m h = (omega (arith, h), omega (arith, h))
 cause_alone n (Sized blocks) m h = (omega (arith, h), omega (arith, h))
+cause_alone n (Listed slots) m h = (omega (arith, h), omega (arith, h))
 cause_alone n (Refused reason) m h = cause_of_refusal n reason m h
 
 module _ (HasUse : PlainPool → Type 0) where

@@ -16,7 +16,7 @@ use Rattle.tp_model.specs.Sectors.{Sector, zero_sector}
 use Rattle.tp_model.specs.Pool.{Volume, PlainPool, is_now, volume_sectors, volume_slots, volume_sector, slot_at, IsShapedVolume, IsShaped, IsSound}
 use Rattle.tp_model.specs.declared.mode.Mode.TheVariants as mode
 use Rattle.tp_model.specs.declared.refusal.Refusal.TheVariants.{Failed, NoSuchDevice, ReadOnly, NoMetadataSpace, NoDataSpace}
-use Rattle.tp_model.specs.Calls.{is_writing, Takes, exists, is_failed, is_read_only, has_metadata_room, IsRange, first_failed, refusal_of_request, Call, Read, Write, Trim, WriteZeroes, Flush, CreateThin, CreateSnap, Delete, SetTransactionId, Grow, Hold, LetGo, Status, ThinStatus, NextId, VolumeBlocks, Close, HeldRead, ReserveMetadataSnap, ReleaseMetadataSnap, held_of, Reserves, Answer, SlotEffect, Keeps, Loses, Owns, touches, sector_after, slot_effect, SlotAfter, effect_at, Edits, Makes, Step, refusal_of, grown, new_volume, volume_of, IsAllowed}
+use Rattle.tp_model.specs.Calls.{is_writing, Takes, exists, is_failed, is_read_only, has_metadata_room, IsRange, first_failed, refusal_of_request, Call, Read, Write, Trim, WriteZeroes, Flush, CreateThin, CreateSnap, Delete, SetTransactionId, Grow, Hold, LetGo, Status, ThinStatus, NextId, VolumeBlocks, Walk, Close, HeldRead, ReserveMetadataSnap, ReleaseMetadataSnap, held_of, Reserves, Answer, SlotEffect, Keeps, Loses, Owns, touches, sector_after, slot_effect, SlotAfter, effect_at, Edits, Makes, Step, refusal_of, grown, new_volume, volume_of, IsAllowed}
 use Rattle.tp_model.proofs.Maps.{get_insert, get_empty, get_remove, get_retain}
 use Rattle.tp_model.proofs.Editing.{slice_get-enumerate_from, option_map-map}
 use Rattle.tp_model.specs.PoolStops.{GivenBy, Event, Given, MayReopen}
@@ -79,6 +79,7 @@ owned_before_end g Status block slot e = cc
 owned_before_end g (ThinStatus id) block slot e = cc
 owned_before_end g (NextId id) block slot e = cc
 owned_before_end g (VolumeBlocks id) block slot e = cc
+owned_before_end g (Walk id from) block slot e = cc
 owned_before_end g Close block slot e = cc
 owned_before_end g (HeldRead id sector count) block slot e = cc
 owned_before_end g ReserveMetadataSnap block slot e = cc
@@ -118,6 +119,7 @@ bytes_after p Status k old a o = o
 bytes_after p (ThinStatus id) k old a o = o
 bytes_after p (NextId id) k old a o = o
 bytes_after p (VolumeBlocks id) k old a o = o
+bytes_after p (Walk id from) k old a o = o
 bytes_after p Close k old a o = o
 bytes_after p (HeldRead id sector count) k old a o = o
 bytes_after p ReserveMetadataSnap k old a o = o
@@ -240,6 +242,7 @@ Makes-IsShaped p Status q none a shaped h = same_shaped p q (ap (λ r. r.geometr
 Makes-IsShaped p (ThinStatus id) q none a shaped h = same_shaped p q (ap (λ r. r.geometry) h) (ap (λ r. r.volumes) h) shaped
 Makes-IsShaped p (NextId id) q none a shaped h = same_shaped p q (ap (λ r. r.geometry) h) (ap (λ r. r.volumes) h) shaped
 Makes-IsShaped p (VolumeBlocks id) q none a shaped h = same_shaped p q (ap (λ r. r.geometry) h) (ap (λ r. r.volumes) h) shaped
+Makes-IsShaped p (Walk id from) q none a shaped h = same_shaped p q (ap (λ r. r.geometry) h) (ap (λ r. r.volumes) h) shaped
 Makes-IsShaped p Close q none a shaped h = same_shaped p q (ap (λ r. r.geometry) h) (ap (λ r. r.volumes) h) shaped
 Makes-IsShaped p (HeldRead id at n) q none a shaped h = same_shaped p q (ap (λ r. r.geometry) h) (ap (λ r. r.volumes) h) shaped
 Makes-IsShaped p ReserveMetadataSnap q none a shaped h = reserved_shaped p q h shaped
@@ -275,6 +278,7 @@ step_geometry p Status q h = ap (λ r. r.geometry) h
 step_geometry p (ThinStatus id) q h = ap (λ r. r.geometry) h
 step_geometry p (NextId id) q h = ap (λ r. r.geometry) h
 step_geometry p (VolumeBlocks id) q h = ap (λ r. r.geometry) h
+step_geometry p (Walk id from) q h = ap (λ r. r.geometry) h
 step_geometry p Close q h = ap (λ r. r.geometry) h
 step_geometry p (HeldRead id at n) q h = ap (λ r. r.geometry) h
 step_geometry p ReserveMetadataSnap q h = ap (λ r. r.geometry) h.rest
@@ -342,6 +346,7 @@ length-Given p Status id k x a g = absurd g
 length-Given p (ThinStatus i) id k x a g = absurd g
 length-Given p (NextId i) id k x a g = absurd g
 length-Given p (VolumeBlocks i) id k x a g = absurd g
+length-Given p (Walk i from) id k x a g = absurd g
 length-Given p Close id k x a g = absurd g
 length-Given p (HeldRead i sector count) id k x a g = absurd g
 length-Given p ReserveMetadataSnap id k x a g = absurd g

@@ -10,7 +10,7 @@ use Rattle.tp_model.specs.declared.refusal.Refusal.{Refusal}
 use Rattle.tp_model.specs.declared.refusal.Refusal.TheVariants.{Failed}
 use Rattle.tp_model.specs.Geometry.{Geometry}
 use Rattle.tp_model.specs.Pool.{PlainPool}
-use Rattle.tp_model.specs.Calls.{Call, Read, Write, Trim, WriteZeroes, Flush, CreateThin, CreateSnap, Delete, SetTransactionId, Grow, Hold, LetGo, Status, ThinStatus, NextId, VolumeBlocks, Close, HeldRead, ReserveMetadataSnap, ReleaseMetadataSnap, Refused, refusal_of, after_refusal, reply, Makes, Step, touches, covers, is_failed, is_read_only}
+use Rattle.tp_model.specs.Calls.{Call, Read, Write, Trim, WriteZeroes, Flush, CreateThin, CreateSnap, Delete, SetTransactionId, Grow, Hold, LetGo, Status, ThinStatus, NextId, VolumeBlocks, Walk, Close, HeldRead, ReserveMetadataSnap, ReleaseMetadataSnap, Refused, refusal_of, after_refusal, reply, Makes, Step, touches, covers, is_failed, is_read_only}
 use Rattle.tp_model.proofs.Maps.{get_insert}
 
 pub step_accepted : (p : PlainPool) (call : Call) (q : PlainPool) → refusal_of p call ≡ None → Makes p call q → Step p call (reply p call) q
@@ -64,6 +64,7 @@ refused_alike p q Status f g = refl
 refused_alike p q (ThinStatus id) f g = simp (f, g)
 refused_alike p q (NextId id) f g = simp (f, g)
 refused_alike p q (VolumeBlocks id) f g = simp (f, g)
+refused_alike p q (Walk id from) f g = simp (f, g)
 refused_alike p q Close f g = simp (f, g)
 refused_alike p q (HeldRead id sector count) f g = simp (f, g)
 refused_alike p q ReserveMetadataSnap f g = simp (f, g)
@@ -87,6 +88,7 @@ answered_alike p q Status f g none = simp (f, g)
 answered_alike p q (ThinStatus id) f g none = simp (f, g)
 answered_alike p q (NextId from) f g none = absurd (none-some Failed (sym none ∙ simp f))
 answered_alike p q (VolumeBlocks id) f g none = absurd (none-some Failed (sym none ∙ simp f))
+answered_alike p q (Walk id from) f g none = absurd (none-some Failed (sym none ∙ simp f))
 answered_alike p q Close f g none = refl
 answered_alike p q (HeldRead id sector count) f g none = absurd (none-some Failed (sym none ∙ simp f))
 answered_alike p q ReserveMetadataSnap f g none = refl

@@ -33,6 +33,7 @@ pub data Call : Type 0 where
   ThinStatus : (id : ℕ) → Call
   NextId : (from : ℕ) → Call
   VolumeBlocks : (id : ℕ) → Call
+  Walk : (id from : ℕ) → Call
   Close : Call
   HeldRead : (id sector count : ℕ) → Call
   ReserveMetadataSnap : Call
@@ -44,6 +45,7 @@ pub data Answer : Type 0 where
   Line : (bytes : List ℕ) → Answer
   Found : (id : Option ℕ) → Answer
   Sized : (blocks : ℕ) → Answer
+  Listed : (slots : List (ℕ × ℕ)) → Answer
   Refused : (reason : Refusal) → Answer
 
 -- the volume that a request reads or writes; none where the call is no such request
@@ -220,6 +222,7 @@ refusal_of p Status = None
 refusal_of p (ThinStatus id) = first_failed ((not (is_failed p.mode) && not (exists p id), NoSuchDevice) ∷ [])
 refusal_of p (NextId from) = first_failed ((is_failed p.mode, Failed) ∷ [])
 refusal_of p (VolumeBlocks id) = first_failed ((is_failed p.mode, Failed) ∷ (not (exists p id), NoSuchDevice) ∷ [])
+refusal_of p (Walk id from) = first_failed ((is_failed p.mode, Failed) ∷ (not (exists p id), NoSuchDevice) ∷ [])
 refusal_of p Close = first_failed ((is_failed p.mode, Failed) ∷ [])
 refusal_of p (HeldRead id sector count) = first_failed (
     (is_failed p.mode, Failed)
@@ -247,12 +250,22 @@ abbrev pub first_from : ℕ → List (ℕ × Volume) → Option ℕ
 first_from from [] = None
 first_from from (e ∷ es) = if nat_le from e.0 && is_now e.0 then Some e.0 else first_from from es
 
+-- of slots in the order of their blocks, each a block with its label, those with blocks from this one on
+abbrev pub slots_from : ℕ → List (ℕ × ℕ) → List (ℕ × ℕ)
+slots_from from [] = []
+slots_from from (s ∷ ss) = if nat_le from s.0 then s ∷ slots_from from ss else slots_from from ss
+
+-- as many of them as one call lists
+abbrev pub piece_from : ℕ → List (ℕ × ℕ) → List (ℕ × ℕ)
+piece_from from slots = take 252 (slots_from from slots)
+
 abbrev pub reply : PlainPool → Call → Answer
 reply p (Read id sector count) = Gave (take count (drop sector (volume_sectors p id)))
 reply p Status = Line (pool_line p)
 reply p (ThinStatus id) = Line (volume_line p id)
 reply p (NextId from) = Found (first_from from (entries p.volumes))
 reply p (VolumeBlocks id) = Sized (volume_blocks p id)
+reply p (Walk id from) = Listed (piece_from from (entries (volume_slots p id)))
 reply p (HeldRead id sector count) = Gave (take count (drop sector (volume_sectors p (copy_id id))))
 reply p call = Done
 
@@ -354,6 +367,7 @@ is_writing Status = false
 is_writing (ThinStatus id) = false
 is_writing (NextId from) = false
 is_writing (VolumeBlocks id) = false
+is_writing (Walk id from) = false
 is_writing (HeldRead id sector count) = false
 is_writing call = true
 
@@ -389,6 +403,7 @@ looks_up (Hold id) = true
 looks_up (ThinStatus id) = true
 looks_up (NextId from) = true
 looks_up (VolumeBlocks id) = true
+looks_up (Walk id from) = true
 looks_up (HeldRead id sector count) = true
 looks_up call = false
 
@@ -450,6 +465,7 @@ refusals_in_writable Status = []
 refusals_in_writable (ThinStatus id) = NoSuchDevice ∷ Fault ∷ Damaged ∷ []
 refusals_in_writable (NextId from) = Fault ∷ Damaged ∷ []
 refusals_in_writable (VolumeBlocks id) = NoSuchDevice ∷ Fault ∷ Damaged ∷ []
+refusals_in_writable (Walk id from) = NoSuchDevice ∷ Fault ∷ Damaged ∷ []
 refusals_in_writable Close = Fault ∷ Damaged ∷ []
 refusals_in_writable (HeldRead id sector count) = NoHeldRoot ∷ NoSuchDevice ∷ Fault ∷ Damaged ∷ []
 refusals_in_writable ReserveMetadataSnap = HeldRootExists ∷ NoMetadataSpace ∷ Fault ∷ Damaged ∷ []

@@ -12,4 +12,5 @@ pub mod Requests
 pub mod PoolStops
 pub mod Clauses
 pub mod Flushing
+pub mod Slots
 pub mod Digits

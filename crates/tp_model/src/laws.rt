@@ -1,11 +1,12 @@
 //! Laws of the definitions, each the contract of a function that does nothing.
-ghost use Rattle.std.specs.Prelude.{◌≡◌, ◌≢◌, ◌⊎◌, ◌<◌, ◌≤◌, ◌++◌, ◌∷◌, [], ℕ, Bool, true, List, IsSome, Some, length, IsTrue, MatchOption};
-ghost use Rattle.std.specs.FinMap.{get};
+ghost use Rattle.std.specs.Prelude.{◌≡◌, ◌≢◌, ◌⊎◌, ◌/◌, ◌<◌, ◌≤◌, ◌++◌, ◌∷◌, [], ℕ, Bool, true, List, IsSome, Some, length, slice_get, IsTrue, MatchOption};
+ghost use Rattle.std.specs.Ordering.{nat_cmp};
+ghost use Rattle.std.specs.FinMap.{entries, find, get, is_sorted};
 ghost use Rattle.tp_model.specs.Sectors.{Sector};
 ghost use Rattle.tp_model.specs.Disk.{DiskState, Writes, after_read, after_flush};
 ghost use Rattle.tp_model.specs.DiskStops.{Leaves, LeavesOnly, PartlyOverlaid, StoppedSince, moment as moment_of};
-ghost use Rattle.tp_model.specs.Pool.{FindsHeld, IsExclusive, IsRenamed, IsShared, IsSound, PlainPool, copy_id, hold_count, slot_at, volume_sector, volume_size};
-ghost use Rattle.tp_model.specs.Calls.{Answer, Call, IsAllowed, Makes, Refused, ReleaseMetadataSnap, ReserveMetadataSnap, Step, Takes, volume_asked, IsOneOf, may_accept, refusal_of, refusals};
+ghost use Rattle.tp_model.specs.Pool.{FindsHeld, IsExclusive, IsLawful, IsRenamed, IsShared, IsSound, PlainPool, copy_id, hold_count, slot_at, volume_sector, volume_size, volume_slots};
+ghost use Rattle.tp_model.specs.Calls.{Answer, Call, IsAllowed, Makes, Refused, ReleaseMetadataSnap, ReserveMetadataSnap, Step, Takes, volume_asked, IsOneOf, may_accept, piece_from, refusal_of, refusals};
 ghost use Rattle.tp_model.specs.PoolStops.{Event, GivenBy, GivenIn, MayBeLeftSince, MayReopen, Nothing, keeps, reopened};
 ghost use Rattle.tp_model.specs.Clauses.{AreCalls, AreTraced, Asked, Called, Continues, HasTrace, OpensSince, Traced, found_now, traced, PoolCall};
 
@@ -80,6 +81,26 @@ pub fn copies_stay()
 pub fn requests_find_their_volume<V: Volumes>()
     ensures { (old new : V) (s : PlainPool) (call : Call) (id : ℕ) → V.view.shows old s → volume_asked call ≡ Some id
         → 0 < hold_count (V.view.outline old).holds id → Called V.view old new call (Refused Refusal.NoSuchDevice) → ⊥ }
+{}
+
+/// A call of a walk lists the slots of a volume from a block on exactly, as far as it goes: each block from there on has the slot that is found in the piece, and none
+/// where none is found. That is so of every block where the piece has fewer than 252 slots, and else up to the last block that it lists, which is no earlier than the one
+/// that was asked for: so the next piece is asked for from behind it.
+pub fn walks_are_exact()
+    ensures short { (p : PlainPool) (id from block : ℕ) → length (piece_from from (entries (volume_slots p id))) < 252 → from ≤ block
+        → find nat_cmp block (piece_from from (entries (volume_slots p id))) ≡ slot_at p id block }
+    ensures full { (p : PlainPool) (id from block last label : ℕ) → slice_get (piece_from from (entries (volume_slots p id))) 251 ≡ Some (last, label) → from ≤ block → block ≤ last
+        → find nat_cmp block (piece_from from (entries (volume_slots p id))) ≡ slot_at p id block }
+    ensures ordered { (p : PlainPool) (id from : ℕ) → IsTrue (is_sorted nat_cmp (piece_from from (entries (volume_slots p id)))) }
+    ensures onward { (p : PlainPool) (id from i block label : ℕ) → slice_get (piece_from from (entries (volume_slots p id))) i ≡ Some (block, label) → from ≤ block }
+{}
+
+/// Where two volumes of a lawful pool have one slot at a block, or both none, they have equal sectors in it. So where the blocks are taken out of one of them at which the
+/// slots are not equal, and those of the other are put in their place, it is the other one.
+pub fn equal_slots_have_equal_sectors()
+    ensures { (p : PlainPool) (one other k : ℕ) (here there : Sector) → IsLawful p → 0 < p.geometry.block_sectors
+        → slot_at p one (k / p.geometry.block_sectors) ≡ slot_at p other (k / p.geometry.block_sectors)
+        → volume_sector p one k ≡ Some here → volume_sector p other k ≡ Some there → here ≡ there }
 {}
 
 /// What a stop may leave of a lawful pool, by calls that are allowed, is a lawful pool.

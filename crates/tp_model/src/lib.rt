@@ -9,16 +9,18 @@ mod laws;
 mod mode;
 mod numbers;
 mod refusal;
+mod slots;
 mod volumes;
 
 pub use geometry::Geometry;
 pub use laws::{
     Claim, calls_are_determined, calls_are_lawful, calls_are_possible, calls_are_traced,
-    held_sizes_stay, held_volumes_stay, kept_answers_are_found, kept_state_is_found,
-    mapped_blocks_are_exclusive_or_shared, moments_of_a_disk, requests_find_their_volume,
-    stops_are_lawful, tests_may_be_answered,
+    equal_slots_have_equal_sectors, held_sizes_stay, held_volumes_stay, kept_answers_are_found,
+    kept_state_is_found, mapped_blocks_are_exclusive_or_shared, moments_of_a_disk,
+    requests_find_their_volume, stops_are_lawful, tests_may_be_answered, walks_are_exact,
 };
 pub use mode::Mode;
 pub use numbers::{DevId, Mb, Pb, Vb};
 pub use refusal::{NbdError, Refusal};
+pub use slots::{MOST_SLOTS, Slot, Slots, Walked};
 pub use volumes::{Flushing, SharedReads, SharedVolumes, Staged, Volumes};

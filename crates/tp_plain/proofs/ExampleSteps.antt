@@ -8,7 +8,7 @@ use Rattle.tp_model.specs.declared.refusal.Refusal.TheVariants.{BadSize, Busy, N
 use Rattle.tp_model.specs.declared.refusal.NbdError.TheVariants.{Invalid, NoSpace}
 use Rattle.tp_model.specs.Sectors.{Sector, zero_sector}
 use Rattle.tp_model.specs.Pool.{PlainPool, copy_id, is_now, used, volume_size, volume_sector, slot_at, IsExclusive}
-use Rattle.tp_model.specs.Calls.{Answer, Call, Grow, HeldRead, ReserveMetadataSnap, ReleaseMetadataSnap, held_of, Makes, SlotEffect, Read, Trim, Write, CreateThin, CreateSnap, Delete, SetTransactionId, Sized, VolumeBlocks, after_refusal, Done, Gave, Refused, grown, volume_blocks, volume_of, reply, refusal_of, Step, SlotAfter, Keeps, Owns, Takes, effect_at, may_reclaim, need}
+use Rattle.tp_model.specs.Calls.{Answer, Call, Grow, HeldRead, ReserveMetadataSnap, ReleaseMetadataSnap, held_of, Makes, SlotEffect, Read, Trim, Write, CreateThin, CreateSnap, Delete, SetTransactionId, Sized, VolumeBlocks, Walk, Listed, after_refusal, Done, Gave, Refused, grown, volume_blocks, volume_of, reply, refusal_of, Step, SlotAfter, Keeps, Owns, Takes, effect_at, may_reclaim, need}
 use Rattle.tp_model.specs.PoolStops.{MayReopen}
 use Rattle.tp_model.specs.Status.{pool_line, volume_line}
 use Rattle.tp_model.proofs.CopiesStay.{copies_stay}
@@ -544,3 +544,14 @@ removes_with_room = simp map_values
 
 pub removes_without_root : refusal_of (record kept_own { meta_used = 2048 }) (Delete 0) ≡ None
 removes_without_root = simp map_values
+
+-- ---- the slots of a volume
+
+pub walked_all : reply zeroed_whole (Walk 0 0) ≡ Listed ((0, 0) ∷ (1, 1) ∷ [])
+walked_all = simp map_values
+
+pub walked_later : reply zeroed_whole (Walk 0 1) ≡ Listed ((1, 1) ∷ [])
+walked_later = simp map_values
+
+pub walked_none : reply zeroed_with_hole (Walk 0 1) ≡ Listed []
+walked_none = simp map_values

@@ -9,7 +9,7 @@ use Rattle.tp_model.specs.Pool.{PlainPool, device_count, hold_count}
 use Rattle.tp_model.specs.Calls as calls
 use Rattle.tp_model.specs.Calls.{Call, first_failed, is_failed, exists, has_copy, has_data_room, has_metadata_room, refusal_of, volume_blocks}
 use Rattle.tp_plain.specs.declared.tests_of_calls.Asked.{Asked}
-use Rattle.tp_plain.specs.declared.tests_of_calls.Asked.TheVariants.{Read, Write, Trim, WriteZeroes, Flush, CreateThin, CreateSnap, Delete, SetTransactionId, Grow, Hold, VolumeBlocks, HeldRead, ReserveMetadataSnap, ReleaseMetadataSnap}
+use Rattle.tp_plain.specs.declared.tests_of_calls.Asked.TheVariants.{Read, Write, Trim, WriteZeroes, Flush, CreateThin, CreateSnap, Delete, SetTransactionId, Grow, Hold, VolumeBlocks, Walk, HeldRead, ReserveMetadataSnap, ReleaseMetadataSnap}
 use Rattle.tp_plain.specs.declared.tests_of_calls.Facts.{Facts}
 use Rattle.tp_plain.specs.Tests.{Asks, IsTrueOf, message_refusal, refusal_by}
 
@@ -75,6 +75,7 @@ by_facts p id (Grow is_held blocks) call h =
     (subst (λ (b : Bool). refusal_by (facts_of p id (calls.Grow id blocks)) (Grow b blocks) ≡ refusal_of p (calls.Grow id blocks)) h.0 (message_tests p.mode (growth_tests p id blocks)))
 by_facts p id Hold call h = subst (λ (c : Call). refusal_by (facts_of p id c) Hold ≡ refusal_of p c) (sym h) refl
 by_facts p id VolumeBlocks call h = subst (λ (c : Call). refusal_by (facts_of p id c) VolumeBlocks ≡ refusal_of p c) (sym h) refl
+by_facts p id Walk call h = subst (λ (c : Call). refusal_by (facts_of p id c) Walk ≡ refusal_of p c) (sym h.1) refl
 by_facts p id HeldRead call h =
     subst (λ (c : Call). refusal_by (facts_of p id c) HeldRead ≡ refusal_of p c) (sym h.2)
     (ap (λ b. first_failed ((is_failed p.mode, refusals.Failed) ∷ (b, refusals.NoHeldRoot) ∷ (not (has_copy p id), refusals.NoSuchDevice) ∷ [])) (twice_not (p.held_root == 0)))

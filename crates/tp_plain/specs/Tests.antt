@@ -9,7 +9,7 @@ use Rattle.tp_model.specs.Pool.{PlainPool, device_count, hold_count}
 use Rattle.tp_model.specs.Calls as calls
 use Rattle.tp_model.specs.Calls.{Call, first_failed, is_failed, exists, has_copy, has_data_room, volume_blocks}
 use Rattle.tp_plain.specs.declared.tests_of_calls.Asked.{Asked}
-use Rattle.tp_plain.specs.declared.tests_of_calls.Asked.TheVariants.{Read, Write, Trim, WriteZeroes, Flush, CreateThin, CreateSnap, Delete, SetTransactionId, Grow, Hold, VolumeBlocks, HeldRead, ReserveMetadataSnap, ReleaseMetadataSnap}
+use Rattle.tp_plain.specs.declared.tests_of_calls.Asked.TheVariants.{Read, Write, Trim, WriteZeroes, Flush, CreateThin, CreateSnap, Delete, SetTransactionId, Grow, Hold, VolumeBlocks, Walk, HeldRead, ReserveMetadataSnap, ReleaseMetadataSnap}
 use Rattle.tp_plain.specs.declared.tests_of_calls.Facts.{Facts}
 
 -- the call of a pool, on this volume, that is asked
@@ -26,6 +26,7 @@ Asks p id (SetTransactionId current) call = (next : ℕ) × (call ≡ calls.SetT
 Asks p id (Grow is_held blocks) call = (nat_lt 0 (hold_count p.holds id) ≡ is_held) × (call ≡ calls.Grow id blocks)
 Asks p id Hold call = call ≡ calls.Hold id
 Asks p id VolumeBlocks call = call ≡ calls.VolumeBlocks id
+Asks p id Walk call = (from : ℕ) × (call ≡ calls.Walk id from)
 Asks p id HeldRead call = (sector : ℕ) × (count : ℕ) × (call ≡ calls.HeldRead id sector count)
 Asks p id ReserveMetadataSnap call = call ≡ calls.ReserveMetadataSnap
 Asks p id ReleaseMetadataSnap call = call ≡ calls.ReleaseMetadataSnap
@@ -98,6 +99,7 @@ refusal_by f (SetTransactionId current) = message_refusal f.mode (first_failed (
 refusal_by f (Grow is_held blocks) = message_refusal f.mode (growth_refusal f is_held blocks)
 refusal_by f Hold = read_refusal f
 refusal_by f VolumeBlocks = read_refusal f
+refusal_by f Walk = read_refusal f
 refusal_by f HeldRead = held_refusal f
 refusal_by f ReserveMetadataSnap = message_refusal f.mode (reserve_refusal f)
 refusal_by f ReleaseMetadataSnap = message_refusal f.mode (release_refusal f)

@@ -8,7 +8,7 @@ ghost use Rattle.std.specs.FinMap.{empty};
 ghost use Rattle.tp_model.specs.Sectors.{Sector};
 ghost use Rattle.tp_model.specs.Pool.{PlainPool, used, volume_sector};
 ghost use Rattle.tp_model.specs.Status.{pool_line, volume_line};
-ghost use Rattle.tp_model.specs.Calls.{Answer, CreateSnap, CreateThin, Delete, Done, Gave, Grow, HeldRead, Makes, Read, Refused, ReleaseMetadataSnap, ReserveMetadataSnap, SetTransactionId, Sized, Step, Takes, Trim, VolumeBlocks, Write, after_refusal, need, refusal_of, reply};
+ghost use Rattle.tp_model.specs.Calls.{Answer, CreateSnap, CreateThin, Delete, Done, Gave, Grow, HeldRead, Listed, Makes, Read, Refused, ReleaseMetadataSnap, ReserveMetadataSnap, SetTransactionId, Sized, Step, Takes, Trim, VolumeBlocks, Walk, Write, after_refusal, need, refusal_of, reply};
 ghost use Rattle.tp_model.specs.PoolStops.{MayReopen};
 ghost use Rattle.tp_plain.specs.Examples.{a, b, c, z, formatted, thin, thin_and_snapshot, across, wrote_across, full, snapped, overwrite, rewritten, shared_block, origin_written, both_written, trim, trimmed, zeroes, zeroed_with_hole, zeroed_whole, nearly_full, sevened, kept_own, overwritten, found_new, on_wire, grown_own, shows_old_data, as_large, held_own, reserved, written_since, written_in_place, released};
 
@@ -118,6 +118,13 @@ pub fn volume_grows()
     ensures line { volume_line grown_own 0 ≡ codes "2 1" }
     ensures no_old_data { Makes kept_own (Grow 0 4) shows_old_data → ⊥ }
     ensures same_size { (n : ℕ) → Step kept_own (Grow 0 2) Done (as_large n) → n ≡ 10 }
+{}
+
+/// A walk lists the slots of a volume from a block on, each block with its label, and none where there is none.
+pub fn slots_are_walked()
+    ensures all { reply zeroed_whole (Walk 0 0) ≡ Listed ((0, 0) ∷ (1, 1) ∷ []) }
+    ensures later { reply zeroed_whole (Walk 0 1) ≡ Listed ((1, 1) ∷ []) }
+    ensures none { reply zeroed_with_hole (Walk 0 1) ≡ Listed [] }
 {}
 
 /// The volume is looked for first, then its holders, then the size.

@@ -21,6 +21,7 @@ pub enum Asked {
     Grow { is_held: bool, blocks: u64 },
     Hold,
     VolumeBlocks,
+    Walk,
     HeldRead,
     ReserveMetadataSnap,
     ReleaseMetadataSnap,
@@ -170,7 +171,7 @@ fn refusal_of_facts(facts: &Facts, asked: Asked) -> Option<Refusal>
     ensures { result ≡ refusal_by facts.now asked }
 {
     match asked {
-        Asked::Read | Asked::Hold | Asked::VolumeBlocks => read_refusal_of(facts),
+        Asked::Read | Asked::Hold | Asked::VolumeBlocks | Asked::Walk => read_refusal_of(facts),
         Asked::Write { sectors } | Asked::WriteZeroes { sectors } => {
             request_refusal_of(facts, sectors, 512, facts.has_data_room)
         }

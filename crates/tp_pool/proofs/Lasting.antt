@@ -9,7 +9,7 @@ use Rattle.tp_model.specs.declared.refusal.Refusal.TheVariants.{BadSize, Busy, E
 use Rattle.tp_model.specs.Refusals.{refusal_number}
 use Rattle.tp_model.specs.Sectors.{Sector}
 use Rattle.tp_model.specs.Pool.{PlainPool, device_count, hold_count}
-use Rattle.tp_model.specs.Calls.{Answer, Call, Close, CreateSnap, CreateThin, Delete, Done, Found, Flush, Gave, Hold, LetGo, Line, Makes, NextId, Read, Refused, SetTransactionId, Status, Takes, ThinStatus, Trim, Write, WriteZeroes, after_refusal, exists, has_data_room, has_metadata_room, is_failed, is_read_only, refusal_of, refusal_of_request, reply, Grow, VolumeBlocks, Sized, volume_blocks, HeldRead, ReserveMetadataSnap, ReleaseMetadataSnap, has_copy}
+use Rattle.tp_model.specs.Calls.{Answer, Call, Close, CreateSnap, CreateThin, Delete, Done, Found, Flush, Gave, Hold, LetGo, Line, Makes, NextId, Read, Refused, SetTransactionId, Status, Takes, ThinStatus, Trim, Write, WriteZeroes, after_refusal, exists, has_data_room, has_metadata_room, is_failed, is_read_only, refusal_of, refusal_of_request, reply, Grow, VolumeBlocks, Walk, Sized, Listed, volume_blocks, HeldRead, ReserveMetadataSnap, ReleaseMetadataSnap, has_copy}
 use Rattle.tp_model.specs.Clauses.{Entry, IsTrace}
 use Rattle.tp_image.specs.Bound.{IsBounded, mapped_in, metadata_bound}
 use Rattle.tp_image.specs.Stands.{StandsFor}
@@ -107,6 +107,7 @@ room_lasts s (Read id sector count) spent leaves = alive (is_failed s.mode) _ (�
 room_lasts s (Hold id) spent leaves = alive (is_failed s.mode) _ (λ works. other (not (exists s id)) NoSuchDevice None (λ e. absurd (omega (arith, e))) none_lacks)
 room_lasts s (ThinStatus id) spent leaves = other (not (is_failed s.mode) && not (exists s id)) NoSuchDevice None (λ e. absurd (omega (arith, e))) none_lacks
 room_lasts s (VolumeBlocks id) spent leaves = alive (is_failed s.mode) _ (λ works. other (not (exists s id)) NoSuchDevice None (λ e. absurd (omega (arith, e))) none_lacks)
+room_lasts s (Walk id from) spent leaves = alive (is_failed s.mode) _ (λ works. other (not (exists s id)) NoSuchDevice None (λ e. absurd (omega (arith, e))) none_lacks)
 room_lasts s (NextId from) spent leaves = alive (is_failed s.mode) None (λ works. none_lacks)
 room_lasts s Flush spent leaves = alive (is_failed s.mode) None (λ works. none_lacks)
 room_lasts s Close spent leaves = alive (is_failed s.mode) None (λ works. none_lacks)
@@ -121,6 +122,7 @@ is_refused (Gave sectors) = false
 is_refused (Line bytes) = false
 is_refused (Found id) = false
 is_refused (Sized blocks) = false
+is_refused (Listed slots) = false
 is_refused (Refused reason) = true
 
 abbrev pub reason_of : Answer → Refusal
@@ -129,6 +131,7 @@ reason_of (Gave sectors) = Fault
 reason_of (Line bytes) = Fault
 reason_of (Found id) = Fault
 reason_of (Sized blocks) = Fault
+reason_of (Listed slots) = Fault
 reason_of (Refused reason) = reason
 
 pub accepts : (p : PlainPool) (call : Call) → is_refused (reply p call) ≡ false
@@ -148,6 +151,7 @@ accepts p Status = refl
 accepts p (ThinStatus id) = refl
 accepts p (NextId from) = refl
 accepts p (VolumeBlocks id) = refl
+accepts p (Walk id from) = refl
 accepts p Close = refl
 accepts p (HeldRead id sector count) = refl
 accepts p ReserveMetadataSnap = refl

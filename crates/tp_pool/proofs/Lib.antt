@@ -58,3 +58,4 @@ mod Snapping
 mod Reserving
 mod Copied
 mod Parts
+pub mod Pieces

@@ -8,7 +8,7 @@ use Rattle.tp_model.specs.Geometry.{Geometry}
 use Rattle.tp_model.specs.Sectors.{Sector}
 use Rattle.tp_model.specs.Pool.{PlainPool}
 use Rattle.tp_model.specs.Refusals.{is_fault, is_fault_refusal}
-use Rattle.tp_model.specs.Calls.{Answer, Call, Read, Write, Trim, WriteZeroes, Flush, CreateThin, CreateSnap, Delete, SetTransactionId, Hold, LetGo, Status, ThinStatus, NextId, Close, Refused, Step, is_failed, Grow, VolumeBlocks, HeldRead, ReserveMetadataSnap, ReleaseMetadataSnap}
+use Rattle.tp_model.specs.Calls.{Answer, Call, Read, Write, Trim, WriteZeroes, Flush, CreateThin, CreateSnap, Delete, SetTransactionId, Hold, LetGo, Status, ThinStatus, NextId, Close, Refused, Step, is_failed, Grow, VolumeBlocks, Walk, HeldRead, ReserveMetadataSnap, ReleaseMetadataSnap}
 use Rattle.tp_model.specs.PoolStops.{Event, keeps}
 use Rattle.tp_model.specs.Disk.{DiskState, FaultHasCause, seen}
 use Rattle.tp_model.specs.DiskStops.{LeavesOnly}
@@ -61,6 +61,7 @@ fault_keeps_not Status = refl
 fault_keeps_not (ThinStatus id) = refl
 fault_keeps_not (NextId id) = refl
 fault_keeps_not (VolumeBlocks id) = refl
+fault_keeps_not (Walk id from) = refl
 fault_keeps_not Close = refl
 fault_keeps_not (HeldRead id sector count) = refl
 fault_keeps_not ReserveMetadataSnap = refl

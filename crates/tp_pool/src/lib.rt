@@ -19,6 +19,7 @@ mod status;
 mod together;
 mod trimming;
 mod volumes;
+mod walking;
 mod writing;
 mod zeroing;
 

@@ -9,7 +9,7 @@ use Rattle.tp_model.specs.declared.refusal.Refusal.{Refusal}
 use Rattle.tp_model.specs.Geometry.{Geometry, data_sector}
 use Rattle.tp_model.specs.Sectors.{Sector, sector_at}
 use Rattle.tp_model.specs.Pool.{PlainPool}
-use Rattle.tp_model.specs.Calls.{Answer, Call, Read, Write, Trim, WriteZeroes, Flush, CreateThin, CreateSnap, Delete, SetTransactionId, Grow, Hold, LetGo, Status, ThinStatus, NextId, VolumeBlocks, Close, HeldRead, ReserveMetadataSnap, ReleaseMetadataSnap, Done, HasCause, Refused, commits, is_flush, is_silent, is_writing, most_flushes, refusal_of}
+use Rattle.tp_model.specs.Calls.{Answer, Call, Read, Write, Trim, WriteZeroes, Flush, CreateThin, CreateSnap, Delete, SetTransactionId, Grow, Hold, LetGo, Status, ThinStatus, NextId, VolumeBlocks, Walk, Close, HeldRead, ReserveMetadataSnap, ReleaseMetadataSnap, Done, HasCause, Refused, commits, is_flush, is_silent, is_writing, most_flushes, refusal_of}
 use Rattle.tp_model.specs.PoolStops.{During, Event, GivenBy, MayReopen, Nothing, StopsWithin, keeps, reopened}
 use Rattle.tp_model.specs.Clauses.{Called, Flushes, GoesOn, IsAnswered, IsQuiet, IsOpened, Meets, View, found_now, found_since}
 use Rattle.tp_model.specs.Disk.{Cell, DiskState, MayLeave, cell_at, newest, seen}
@@ -239,6 +239,7 @@ reads_flush_not mode.Writable Status writes = refl
 reads_flush_not mode.Writable (ThinStatus id) writes = refl
 reads_flush_not mode.Writable (NextId first) writes = refl
 reads_flush_not mode.Writable (VolumeBlocks id) writes = refl
+reads_flush_not mode.Writable (Walk id from) writes = refl
 reads_flush_not mode.Writable Close writes = absurd (true≢false writes)
 reads_flush_not mode.Writable (HeldRead id sector count) writes = refl
 reads_flush_not mode.Writable ReserveMetadataSnap writes = absurd (true≢false writes)

@@ -3,18 +3,19 @@ ghost use Rattle.std.specs.Prelude.{◌≡◌, ◌≢◌, ◌/◌, ◌%◌, ◌+
 ghost use Rattle.tp_model.specs.Sectors.{sectors_of};
 ghost use Rattle.tp_model.specs.Pool.{PlainPool, copy_id, hold_count, hold_total};
 ghost use Rattle.tp_model.specs.declared.mode.Mode.TheVariants as mode;
-ghost use Rattle.tp_model.specs.Calls.{CreateSnap, CreateThin, Delete, Done, Flush, Found, Gave, Grow, HeldRead, Hold, LetGo, Line, NextId, Read, Refused, ReleaseMetadataSnap, ReserveMetadataSnap, SetTransactionId, Sized, Status, ThinStatus, Trim, VolumeBlocks, Write, WriteZeroes};
+ghost use Rattle.tp_model.specs.Calls.{CreateSnap, CreateThin, Delete, Done, Flush, Found, Gave, Grow, HeldRead, Hold, LetGo, Line, Listed, NextId, Read, Refused, ReleaseMetadataSnap, ReserveMetadataSnap, SetTransactionId, Sized, Status, ThinStatus, Trim, VolumeBlocks, Walk, Write, WriteZeroes};
 ghost use Rattle.tp_model.specs.Clauses.{EndsInVolume, Meets};
 ghost use Rattle.tp_holders.specs.Holders.{holds_of};
 ghost use Rattle.tp_model.specs.Disk.{IsSettled};
 ghost use Rattle.tp_pool.specs.Held.{shows};
+ghost use Rattle.tp_model.specs.Slots.{listed};
 ghost use Rattle.tp_served.specs.Served.{IsClosed, IsUnwritten, StaysInPlace, cached, on_cache};
 
 use crate::inside::{Inside, end};
 use tp_cache::Start;
 use tp_disk::Disk;
 use tp_meta::Metadata;
-use tp_model::{DevId, Refusal, Volumes};
+use tp_model::{DevId, Refusal, Slots, Vb, Volumes};
 use tp_msg::LineBuffer;
 
 pub(crate) fn flush_on<D: Disk, M: Metadata, K: Start>(
@@ -214,6 +215,25 @@ pub(crate) fn thin_status_on<D: Disk, M: Metadata, K: Start>(
     inside.facts();
     let mut pool = inside.begin::<K>();
     let answer = pool.thin_status(id, out);
+    let after = end(pool);
+    after.facts();
+    (after, answer)
+}
+
+pub(crate) fn walk_on<D: Disk, M: Metadata, K: Start>(
+    inside: Inside<D, M>,
+    id: DevId,
+    from: Vb,
+    slots: &mut Slots,
+) -> (Inside<D, M>, Result<(), Refusal>)
+    requires { K.start ≡ inside.cache }
+    ensures { MatchResult result.1
+        (λ _. Meets (cached M.geometry M.stands M.marks M.room M.changed) inside result.0 (Walk id from) (Listed (listed slots.new.items)))
+        (λ reason. Meets (cached M.geometry M.stands M.marks M.room M.changed) inside result.0 (Walk id from) (Refused reason)) }
+{
+    inside.facts();
+    let mut pool = inside.begin::<K>();
+    let answer = pool.walk(id, from, slots);
     let after = end(pool);
     after.facts();
     (after, answer)

@@ -1,8 +1,9 @@
 //! A flush in parts, between which READs go on.
 ghost use Rattle.std.specs.Prelude.{◌≡◌, ◌+◌, ◌/◌, ◌%◌, ◌≤◌, IsTrue, MatchOption, false, length, true};
-ghost use Rattle.tp_model.specs.Calls.{Gave, Read};
+ghost use Rattle.tp_model.specs.Calls.{Gave, Listed, Read, Walk};
 ghost use Rattle.tp_model.specs.Clauses.{EndsInVolume, Meets};
 ghost use Rattle.tp_model.specs.Sectors.{sectors_of};
+ghost use Rattle.tp_model.specs.Slots.{listed};
 ghost use Rattle.tp_served.specs.Served.{cached};
 ghost use Rattle.tp_served.specs.Midway.{IsFlushed, IsFlushing, IsMidway};
 
@@ -12,7 +13,7 @@ use std::marker::{Brand, Model};
 use tp_cache::{Past, ReadCache, Start};
 use tp_disk::{Disk, SharedDisk};
 use tp_meta::Metadata;
-use tp_model::{DevId, Flushing, Geometry, Refusal};
+use tp_model::{DevId, Flushing, Geometry, Refusal, Slots, Vb};
 
 /// A pool in the midst of a flush. It is read as the pool was when the flush was begun; no other call can be made of it but the next part.
 #[derive(Drop)]
@@ -174,6 +175,14 @@ impl<D: SharedDisk, M: Metadata> MidServed<D, M> {
         ensures met { IsTrue result → Meets (cached M.geometry M.stands M.marks M.room M.changed) self.now self.now (Read id sector (length out.old / 512)) (Gave (sectors_of out.new)) }
     {
         self.inside.read_midway(id, sector, out)
+    }
+
+    /// Lists slots of a volume, for any of those who look at the pool at once: true where `slots` has what `walk` listed when the flush was begun. False says nothing of the pool,
+    /// and no call of it was made. `slots` may hold anything behind it.
+    pub fn walk_shared(&self, id: DevId, from: Vb, slots: &mut Slots) -> bool
+        ensures { IsTrue result → Meets (cached M.geometry M.stands M.marks M.room M.changed) self.now self.now (Walk id from) (Listed (listed slots.new.items)) }
+    {
+        self.inside.walk_midway(id, from, slots)
     }
 
     /// Brings to the device what the parts so far wrote, while others read, so that the flush in the next part finds little to bring.

@@ -1,12 +1,13 @@
 //! A pool and the cache that it stands on.
 ghost use Rattle.std.specs.Prelude.{◌≡◌, ◌+◌, ◌/◌, ◌%◌, ◌≤◌, Bool, IsTrue, length};
-ghost use Rattle.tp_model.specs.Calls.{Gave, Read};
+ghost use Rattle.tp_model.specs.Calls.{Gave, Listed, Read, Walk};
 ghost use Rattle.tp_model.specs.Clauses.{EndsInVolume, Meets};
 ghost use Rattle.tp_model.specs.Geometry.{sectors_of_image};
 ghost use Rattle.tp_model.specs.Sectors.{sectors_of};
 ghost use Rattle.tp_cache.specs.Table.{Since};
 ghost use Rattle.tp_pool.specs.Held.{Fits, view};
-ghost use Rattle.tp_pool.specs.Shared.{IsSharedRead};
+ghost use Rattle.tp_model.specs.Slots.{listed};
+ghost use Rattle.tp_pool.specs.Shared.{IsSharedCall, IsSharedRead};
 ghost use Rattle.tp_served.specs.Served.{Cached, IsKnown, cached, disk_of, on_cache};
 ghost use Rattle.tp_served.specs.Midway.{IsMidway};
 
@@ -14,7 +15,7 @@ use std::marker::Model;
 use tp_cache::{Life, NodeCache, Past, Start};
 use tp_disk::{Disk, SharedDisk};
 use tp_meta::Metadata;
-use tp_model::{DevId, Geometry, Mode};
+use tp_model::{DevId, Geometry, Mode, Slots, Vb};
 use tp_pool::{Besides, Pool};
 
 /// A cache over a disk, and what the pool on it has besides.
@@ -132,6 +133,22 @@ impl<D: SharedDisk, M: Metadata> Inside<D, M> {
             → IsSharedRead M.geometry M.stands M.marks M.room M.changed (on_cache old) id sector (length out.old / 512) (sectors_of out.new) }
     {
         self.besides.read_midway(&self.cache, id, sector, out)
+    }
+
+    /// A shared walk, of the cache as it stands.
+    pub(crate) fn walk_shared(&self, id: DevId, from: Vb, slots: &mut Slots) -> bool
+        ensures { IsTrue result → Meets (cached M.geometry M.stands M.marks M.room M.changed) self.now self.now (Walk id from) (Listed (listed slots.new.items)) }
+    {
+        self.facts();
+        self.besides.walk_shared(&self.cache, id, from, slots)
+    }
+
+    /// A shared walk in the midst of a flush.
+    pub(crate) fn walk_midway(&self, id: DevId, from: Vb, slots: &mut Slots) -> bool
+        ensures { IsTrue result → (old : Cached M) (is_named : Bool) → IsMidway M.geometry M.stands M.tells M.midway old is_named self.now
+            → IsSharedCall M.geometry M.stands M.marks M.room M.changed (on_cache old) (Walk id from) (Listed (listed slots.new.items)) }
+    {
+        self.besides.walk_midway(&self.cache, id, from, slots)
     }
 
     /// A sync ahead, of the cache as it stands.

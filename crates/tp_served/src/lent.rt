@@ -4,23 +4,24 @@ ghost use Rattle.tp_model.specs.Sectors.{sectors_of};
 ghost use Rattle.tp_model.specs.Pool.{PlainPool, copy_id, hold_count, hold_total};
 ghost use Rattle.tp_model.specs.Disk.{IsSettled};
 ghost use Rattle.tp_pool.specs.Held.{shows};
+ghost use Rattle.tp_model.specs.Slots.{listed};
 ghost use Rattle.tp_holders.specs.Holders.{holds_of};
 ghost use Rattle.tp_model.specs.declared.mode.Mode.TheVariants as mode;
-ghost use Rattle.tp_model.specs.Calls.{CreateSnap, CreateThin, Delete, Done, Flush, Found, Gave, Grow, HeldRead, Hold, LetGo, Line, NextId, Read, Refused, ReleaseMetadataSnap, ReserveMetadataSnap, SetTransactionId, Sized, Status, ThinStatus, Trim, VolumeBlocks, Write, WriteZeroes};
+ghost use Rattle.tp_model.specs.Calls.{CreateSnap, CreateThin, Delete, Done, Flush, Found, Gave, Grow, HeldRead, Hold, LetGo, Line, Listed, NextId, Read, Refused, ReleaseMetadataSnap, ReserveMetadataSnap, SetTransactionId, Sized, Status, ThinStatus, Trim, VolumeBlocks, Walk, Write, WriteZeroes};
 ghost use Rattle.tp_model.specs.Clauses.{EndsInVolume, Meets};
 ghost use Rattle.tp_served.specs.Served.{IsClosed, IsKnown, IsUnwritten, StaysInPlace, cached, disk_of, got, on_cache};
 
 use crate::calls::{
     close_on, create_snap_on, create_thin_on, delete_on, flush_on, grow_on, held_read_on, hold_on,
     let_go_on, next_id_on, read_on, release_metadata_snap_on, reserve_metadata_snap_on,
-    set_transaction_id_on, status_on, thin_status_on, trim_on, volume_blocks_on, write_on,
+    set_transaction_id_on, status_on, thin_status_on, trim_on, volume_blocks_on, walk_on, write_on,
     write_zeroes_on,
 };
 use crate::inside::Inside;
 use std::marker::Brand;
 use tp_disk::{Disk, SharedDisk};
 use tp_meta::Metadata;
-use tp_model::{DevId, Geometry, Mode, Refusal};
+use tp_model::{DevId, Geometry, Mode, Refusal, Slots, Vb};
 use tp_msg::LineBuffer;
 
 /// The parts, which are there between calls.
@@ -193,6 +194,17 @@ impl<D: Disk + Drop, M: Metadata + Drop> Lent<D, M> {
         answer
     }
 
+    pub(crate) fn walk(&mut self, id: DevId, from: Vb, slots: &mut Slots) -> Result<(), Refusal>
+        ensures { MatchResult result
+            (λ _. Meets (cached M.geometry M.stands M.marks M.room M.changed) (got self.old.inside self.old.there) (got self.new.inside self.new.there) (Walk id from) (Listed (listed slots.new.items)))
+            (λ reason. Meets (cached M.geometry M.stands M.marks M.room M.changed) (got self.old.inside self.old.there) (got self.new.inside self.new.there) (Walk id from) (Refused reason)) }
+    {
+        let inside = self.inside.take().unwrap();
+        let (after, answer) = walk_on::<D, M, Brand>(inside, id, from, slots);
+        self.inside = Some(after);
+        answer
+    }
+
     pub(crate) fn hold(&mut self, id: DevId) -> Result<(), Refusal>
         requires { hold_total (holds_of (got self.old.inside self.old.there).besides.holders) < 64 }
         ensures { MatchResult result
@@ -349,6 +361,12 @@ impl<D: SharedDisk, M: Metadata> Lent<D, M> {
         ensures met { IsTrue result → Meets (cached M.geometry M.stands M.marks M.room M.changed) (got self.now.inside self.now.there) (got self.now.inside self.now.there) (Read id sector (length out.old / 512)) (Gave (sectors_of out.new)) }
     {
         self.inside.as_ref().unwrap().read_shared(id, sector, out)
+    }
+
+    pub(crate) fn walk_shared(&self, id: DevId, from: Vb, slots: &mut Slots) -> bool
+        ensures { IsTrue result → Meets (cached M.geometry M.stands M.marks M.room M.changed) (got self.now.inside self.now.there) (got self.now.inside self.now.there) (Walk id from) (Listed (listed slots.new.items)) }
+    {
+        self.inside.as_ref().unwrap().walk_shared(id, from, slots)
     }
 
     pub(crate) fn sync_ahead(&self) {

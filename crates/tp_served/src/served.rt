@@ -4,9 +4,10 @@ ghost use Rattle.tp_model.specs.Sectors.{sectors_of};
 ghost use Rattle.tp_model.specs.Pool.{PlainPool, copy_id, hold_count, hold_total};
 ghost use Rattle.tp_model.specs.Disk.{IsSettled};
 ghost use Rattle.tp_pool.specs.Held.{shows};
+ghost use Rattle.tp_model.specs.Slots.{listed};
 ghost use Rattle.tp_holders.specs.Holders.{holds_of};
 ghost use Rattle.tp_model.specs.declared.mode.Mode.TheVariants as mode;
-ghost use Rattle.tp_model.specs.Calls.{CreateSnap, CreateThin, Delete, Done, Flush, Found, Gave, Grow, HeldRead, Hold, LetGo, Line, NextId, Read, Refused, ReleaseMetadataSnap, ReserveMetadataSnap, SetTransactionId, Sized, Status, ThinStatus, Trim, VolumeBlocks, Write, WriteZeroes};
+ghost use Rattle.tp_model.specs.Calls.{CreateSnap, CreateThin, Delete, Done, Flush, Found, Gave, Grow, HeldRead, Hold, LetGo, Line, Listed, NextId, Read, Refused, ReleaseMetadataSnap, ReserveMetadataSnap, SetTransactionId, Sized, Status, ThinStatus, Trim, VolumeBlocks, Walk, Write, WriteZeroes};
 ghost use Rattle.tp_model.specs.Clauses.{EndsInVolume, Meets};
 ghost use Rattle.tp_served.specs.Midway.{IsFlushing};
 ghost use Rattle.tp_served.specs.Served.{IsClosed, IsKnown, IsUnwritten, StaysInPlace, cached, disk_of, on_cache};
@@ -17,7 +18,7 @@ use crate::lent::Lent;
 use std::marker::Model;
 use tp_disk::{Disk, SharedDisk};
 use tp_meta::Metadata;
-use tp_model::{DevId, Flushing, Geometry, Mode, Refusal};
+use tp_model::{DevId, Flushing, Geometry, Mode, Refusal, Slots, Vb};
 use tp_msg::LineBuffer;
 
 /// A pool over a disk, which keeps changed metadata blocks in memory until it commits, and holds blocks that were read. No call takes
@@ -160,6 +161,17 @@ impl<D: Disk + Drop, M: Metadata + Drop> Served<D, M> {
         ensures most { IfOk result (λ blocks. blocks ≤ 16777216) }
     {
         self.lent.volume_blocks(id)
+    }
+
+    /// Lists the slots of a volume with blocks from `from` on, in the order of their blocks, each with the number of its data block: Ok, or 21, 15, 5, 2. It lists 252 where
+    /// there are so many, and the next call asks for those from behind the last one; where it lists fewer, there are no more. It writes nothing. Behind an `Err` `slots` may
+    /// hold anything.
+    pub fn walk(&mut self, id: DevId, from: Vb, slots: &mut Slots) -> Result<(), Refusal>
+        ensures { MatchResult result
+            (λ _. Meets (cached M.geometry M.stands M.marks M.room M.changed) self.old self.new (Walk id from) (Listed (listed slots.new.items)))
+            (λ reason. Meets (cached M.geometry M.stands M.marks M.room M.changed) self.old self.new (Walk id from) (Refused reason)) }
+    {
+        self.lent.walk(id, from, slots)
     }
 
     /// Writes the pool's status line into a buffer and answers its length; the bytes behind it are of no meaning. No call of the disk is made.
@@ -339,6 +351,15 @@ impl<D: SharedDisk, M: Metadata> Served<D, M> {
         ensures met { IsTrue result → Meets (cached M.geometry M.stands M.marks M.room M.changed) self.now self.now (Read id sector (length out.old / 512)) (Gave (sectors_of out.new)) }
     {
         self.lent.read_shared(id, sector, out)
+    }
+
+    /// Lists slots of a volume, for any of those who look at the pool at once: true where `slots` has what `walk` would list. False says nothing of the pool, and no call of it
+    /// was made: `walk` is to be asked then, as where a metadata block is not in memory, a disk fails, the pool has failed, or there is no such volume. `slots` may hold anything
+    /// behind it.
+    pub fn walk_shared(&self, id: DevId, from: Vb, slots: &mut Slots) -> bool
+        ensures { IsTrue result → Meets (cached M.geometry M.stands M.marks M.room M.changed) self.now self.now (Walk id from) (Listed (listed slots.new.items)) }
+    {
+        self.lent.walk_shared(id, from, slots)
     }
 
     /// Brings to the device what was written so far, for a flush that comes next, while others read. Where metadata has changed it does so only where that is a MiB

@@ -4,7 +4,8 @@ use crate::served::Served;
 use tp_disk::{Disk, SharedDisk};
 use tp_meta::Metadata;
 use tp_model::{
-    DevId, Flushing, Geometry, Mode, Refusal, SharedReads, SharedVolumes, Staged, Volumes,
+    DevId, Flushing, Geometry, Mode, Refusal, SharedReads, SharedVolumes, Slots, Staged, Vb,
+    Volumes, Walked,
 };
 
 impl<D: Disk + Drop, M: Metadata + Drop> Volumes for Served<D, M> {
@@ -64,6 +65,12 @@ impl<D: Disk + Drop, M: Metadata + Drop> Volumes for Served<D, M> {
     }
 
     ghost laws = { served.laws M.geometry M.stands M.marks M.room M.changed M.trees (λ m disk now kept st. ((M.within m disk now kept st).limits, (M.within m disk now kept st).volumes_now, (M.within m disk now kept st).copies)) M.bounded M.one };
+}
+
+impl<D: Disk + Drop, M: Metadata + Drop> Walked for Served<D, M> {
+    fn walk(&mut self, id: DevId, from: Vb, slots: &mut Slots) -> Result<(), Refusal> {
+        self.walk(id, from, slots)
+    }
 }
 
 impl<D: SharedDisk + Drop, M: Metadata + Drop> SharedVolumes for Served<D, M> {

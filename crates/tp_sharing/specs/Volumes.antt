@@ -6,17 +6,13 @@ use Rattle.tp_model.specs.Geometry.{Geometry}
 use Rattle.tp_model.specs.Told.{IsToldSize, told_blocks}
 use Rattle.tp_model.specs.Pool.{different, is_now}
 pub use Rattle.tp_model.specs.Pool.{copy_id}
+pub use Rattle.tp_model.specs.Slots.{BlockSlot}
 use Rattle.tp_layout.specs.declared.entry.Entry.{Entry}
 use Rattle.tp_layout.specs.Entries.{found}
 use Rattle.tp_refs.specs.Store.{Store, count_of, node_at}
 use Rattle.tp_refs.specs.Balance.{Balanced}
 use Rattle.tp_trees.specs.Tree.{is_shared_path}
 use Rattle.tp_sharing.specs.Forest.{Forest, Forests, Slot, content, held_refs}
-
--- a virtual block, and the number of its data block
-pub record BlockSlot : Type 0 where
-  pub block : ℕ
-  pub place : ℕ
 
 -- a device, the size that its record tells, and its slots in the order of their virtual blocks
 pub record DeviceSlots : Type 0 where

@@ -10,7 +10,7 @@ use Rattle.tp_model.specs.declared.mode.Mode.TheVariants as mode
 use Rattle.tp_model.specs.Geometry.{Geometry, data_sector}
 use Rattle.tp_model.specs.Sectors.{Sector, sector_at}
 use Rattle.tp_model.specs.Pool.{IsExclusive, PlainPool, volume_sector}
-use Rattle.tp_model.specs.Calls.{Call, Read, Write, Trim, WriteZeroes, Flush, CreateThin, CreateSnap, Delete, SetTransactionId, Hold, LetGo, Status, ThinStatus, NextId, Close, effect_at, slot_effect, volume_asked, Grow, HeldRead, ReleaseMetadataSnap, ReserveMetadataSnap, VolumeBlocks}
+use Rattle.tp_model.specs.Calls.{Call, Read, Write, Trim, WriteZeroes, Flush, CreateThin, CreateSnap, Delete, SetTransactionId, Hold, LetGo, Status, ThinStatus, NextId, Close, effect_at, slot_effect, volume_asked, Grow, HeldRead, ReleaseMetadataSnap, ReserveMetadataSnap, VolumeBlocks, Walk}
 use Rattle.tp_model.specs.PoolStops.{Given, MayReopen}
 use Rattle.tp_sharing.specs.Volumes.{Volumes, device_of, slot_of}
 use Rattle.tp_stored.specs.Contents.{Contents, HasContents, IsOpened}
@@ -132,6 +132,7 @@ module _ (g : Geometry) (c : Contents) (image : List Sector) (p : PlainPool) (h 
   values_by (ThinStatus i) asked = (λ v. v, λ v. v)
   values_by (NextId i) asked = (λ v. v, λ v. v)
   values_by (VolumeBlocks i) asked = (λ v. v, λ v. v)
+  values_by (Walk i from) asked = (λ v. v, λ v. v)
   values_by Close asked = (λ v. v, λ v. v)
   values_by (HeldRead i sector count) asked = (λ v. v, λ v. v)
   values_by ReserveMetadataSnap asked = (λ v. v, λ v. v)

@@ -10,4 +10,4 @@ mod storing;
 
 pub use laws::one_choice;
 pub use loading::load;
-pub use storing::store;
+pub use storing::{put, store};

@@ -1,4 +1,4 @@
-use Rattle.std.proofs.Common.{ap, sym, Err}
+use Rattle.std.proofs.Common.{rules, ap, sym, Err}
 use Rattle.std.specs.Prelude.{Result}
 use Rattle.std.proofs.lemmas.Result.{err_from_is_err_and}
 use Rattle.tp_model.specs.declared.refusal.Refusal.{Refusal}
@@ -34,3 +34,6 @@ pub returns-in_err-has-clause-only : goal.returns-in_err-has-clause-only
 returns-in_err-has-clause-only g c =
     let p = err_from_is_err_and c.from_residual.result c.from_residual.ensures.1 in
     rw (p.1, p.2) (failure_deletes_nothing (refusal_of c.in_err-has.field-0.0) (refused_so c.in_err-has.field-0.0))
+
+pub returns-then-is_held-clause-told : goal.returns-then-is_held-clause-told
+returns-then-is_held-clause-told g c = search rules

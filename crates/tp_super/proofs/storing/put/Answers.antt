@@ -14,7 +14,7 @@ use Rattle.tp_layout.specs.declared.superblock.SlotId.TheVariants.{Zero, One}
 use Rattle.tp_image.specs.Slots.{Chooses, slot_sector}
 use Rattle.tp_super.specs.Store.{IsNext, IsStoring, super_sector}
 use Rattle.tp_super.proofs.Choice.{Chooses-either, Chooses-next, slot_sector_is}
-use Rattle.tp_meta.proofs.naming.put.Goals as goal
+use Rattle.tp_super.proofs.storing.put.Goals as goal
 
 on_the_disk : (slot : SlotId) (n : ℕ) → 9 ≤ n → slot_sector slot < n
 on_the_disk Zero n h = omega (arith, h)
