@@ -1,7 +1,7 @@
 -- Writes one after another.
 use Rattle.std.proofs.Common.{◌≡◌, ℕ, zero, suc, ◌<◌, Some, ◌+◌, ◌-◌, ◌^◌, ◌≤◌, Bool, true, false, List, [], ◌∷◌, ◌++◌, length, take, drop, inl, inr, refl, sym, ap, subst, ◌∙◌, arith, append_assoc, length-append}
 use Rattle.std.proofs.lemmas.List.{append-nil, drop-drop, drop_all, take-append-drop}
-use Rattle.tp_hub.specs.Streams.{Flushes, Gave, GaveAgain, GaveEnd, GaveNone, IsPut, IsSent, Makes, StreamCall, some_call, Took, TookAgain, TookNone, WritesTo}
+use Rattle.tp_hub.specs.Streams.{Flushes, Gave, GaveAgain, GaveEnd, GaveNone, IsPut, IsSent, Makes, StreamCall, some_call, Took, TookAgain, TookNone, Writes, WritesTo}
 
 -- one write more, which takes some of the rest
 pub writes_more : (text : List ℕ) (calls : List StreamCall) (rest bytes behind : List ℕ) → WritesTo text calls rest → rest ≡ bytes ++ behind → WritesTo text (calls ++ Took bytes ∷ []) behind
@@ -76,3 +76,44 @@ sent_whole old mid new bytes false w e = (w.0 ++ Flushes false ∷ [], e ∙ (ap
 
 pub sent_part : (old new : List StreamCall) (bytes : List ℕ) → Makes old new (λ did. IsPut bytes did false) → Makes old new (λ did. IsSent bytes did false)
 sent_part old new bytes w = (w.0, w.1, inl w.2)
+
+-- ---- texts one after another
+
+-- a second text behind a first one
+pub both_to : (x y rest : List ℕ) (p q : List StreamCall) → WritesTo x p [] → WritesTo y q rest → WritesTo (x ++ y) (p ++ q) rest
+both_to x y rest [] q w v = subst (λ (l : List ℕ). WritesTo (l ++ y) q rest) (sym w) v
+both_to x y rest (Took b ∷ p) q w v = (w.0 ++ y, ap (λ (l : List ℕ). l ++ y) w.1 ∙ append_assoc b w.0 y, both_to w.0 y rest p q w.2 v)
+both_to x y rest (TookAgain ∷ p) q w v = both_to x y rest p q w v
+both_to x y rest (TookNone ∷ p) q w v = absurd w
+both_to x y rest (Gave b ∷ p) q w v = absurd w
+both_to x y rest (GaveAgain ∷ p) q w v = absurd w
+both_to x y rest (GaveEnd ∷ p) q w v = absurd w
+both_to x y rest (GaveNone ∷ p) q w v = absurd w
+both_to x y rest (Flushes done ∷ p) q w v = absurd w
+
+-- and a longer one than was written
+pub longer_to : (x y rest : List ℕ) (p : List StreamCall) → WritesTo x p rest → WritesTo (x ++ y) p (rest ++ y)
+longer_to x y rest [] w = ap (λ (l : List ℕ). l ++ y) w
+longer_to x y rest (Took b ∷ p) w = (w.0 ++ y, ap (λ (l : List ℕ). l ++ y) w.1 ∙ append_assoc b w.0 y, longer_to w.0 y rest p w.2)
+longer_to x y rest (TookAgain ∷ p) w = longer_to x y rest p w
+longer_to x y rest (TookNone ∷ p) w = absurd w
+longer_to x y rest (Gave b ∷ p) w = absurd w
+longer_to x y rest (GaveAgain ∷ p) w = absurd w
+longer_to x y rest (GaveEnd ∷ p) w = absurd w
+longer_to x y rest (GaveNone ∷ p) w = absurd w
+longer_to x y rest (Flushes done ∷ p) w = absurd w
+
+pub calls_then : (a b c p q : List StreamCall) → b ≡ a ++ p → c ≡ b ++ q → c ≡ a ++ (p ++ q)
+calls_then a b c p q e f = f ∙ (ap (λ (l : List StreamCall). l ++ q) e ∙ append_assoc a p q)
+
+-- a text that is written, or is not, behind one that was
+pub writes_then : (a b c : List StreamCall) (x y : List ℕ) (all : Bool) → Writes a b x true → Writes b c y all → Writes a c (x ++ y) all
+writes_then a b c x y true (p, e, w) (q, f, v) = (p ++ q, calls_then a b c p q e f, both_to x y [] p q w v)
+writes_then a b c x y false (p, e, w) (q, f, (ws, rest, v, inl failed)) =
+    (p ++ q, calls_then a b c p q e f, (p ++ ws, rest, both_to x y rest p ws w v, inl (ap (λ (l : List StreamCall). p ++ l) failed ∙ sym (append_assoc p ws (TookNone ∷ [])))))
+writes_then a b c x y false (p, e, w) (q, f, (ws, rest, v, inr (is, many))) =
+    let len : length (p ++ q) ≡ length p + length q = length-append p q in
+    (p ++ q, calls_then a b c p q e f, (p ++ ws, rest, both_to x y rest p ws w v, inr (ap (λ (l : List StreamCall). p ++ l) is, omega (arith, len, many))))
+
+pub writes_first : (a b : List StreamCall) (x y : List ℕ) → Writes a b x false → Writes a b (x ++ y) false
+writes_first a b x y (q, f, (ws, rest, v, end)) = (q, f, (ws, rest ++ y, longer_to x y rest ws v, end))

@@ -84,6 +84,7 @@ module _ {S : Type 0} (outline : S → Outline) (Calls : S → Call → calls.An
   after_part r rest last (calls.Line bytes) sent next made = inl made.1
   after_part r rest last (calls.Found least) sent next made = inl made.1
   after_part r rest last (calls.Sized blocks) sent next made = inl made.1
+  after_part r rest last (calls.Listed slots) sent next made = inl made.1
   after_part r rest last (calls.Refused reason) sent next made = inl made.1
 
   -- a session without parts takes no turn without text

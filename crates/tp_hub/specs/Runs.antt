@@ -175,6 +175,7 @@ TellsDone (calls.Gave sectors) answers = ⊥
 TellsDone (calls.Line bytes) answers = ⊥
 TellsDone (calls.Found id) answers = ⊥
 TellsDone (calls.Sized blocks) answers = ⊥
+TellsDone (calls.Listed slots) answers = ⊥
 
 -- and where a status line was asked for
 abbrev pub TellsLine : calls.Answer → List Answer → Type 0
@@ -184,6 +185,7 @@ TellsLine calls.Done answers = ⊥
 TellsLine (calls.Gave sectors) answers = ⊥
 TellsLine (calls.Found id) answers = ⊥
 TellsLine (calls.Sized blocks) answers = ⊥
+TellsLine (calls.Listed slots) answers = ⊥
 
 -- One call of the pool was made, and no other, and its answer is told.
 abbrev pub IsCalled : {S : Type 0} → Call → (calls.Answer → List Answer → Type 0) → List (Happened S) → List Answer → Type 0

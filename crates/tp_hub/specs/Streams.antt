@@ -79,3 +79,7 @@ IsSent text did false = IsPut text did false ⊎ ((writes : List StreamCall) × 
 -- calls were made, and they are such
 abbrev pub Makes : List StreamCall → List StreamCall → (List StreamCall → Type 0) → Type 0
 Makes old new Are = (did : List StreamCall) × (new ≡ old ++ did) × Are did
+
+-- all of a text was written, or a beginning of it, up to a write that failed
+abbrev pub Writes : List StreamCall → List StreamCall → List ℕ → Bool → Type 0
+Writes old new text all = Makes old new (λ did. IsPut text did all)

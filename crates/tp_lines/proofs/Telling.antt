@@ -9,52 +9,13 @@ use Rattle.tp_hub.specs.declared.answers.Mark.{Mark}
 use Rattle.tp_hub.specs.declared.answers.Mark.TheVariants as marks
 use Rattle.tp_hub.specs.Told.{Accepts, Answer, Closes, Lines, Refuses, Says, len_of, told, total}
 use Rattle.tp_hub.specs.Carrying.{IsSaid}
-use Rattle.tp_hub.specs.Streams.{Flushes, Gave, GaveAgain, GaveEnd, GaveNone, IsSent, Makes, StreamCall, Took, TookAgain, TookNone, WritesTo}
-use Rattle.tp_hub.proofs.Streaming.{sent_whole}
+use Rattle.tp_hub.specs.Streams.{Flushes, IsSent, Makes, StreamCall, Writes}
+use Rattle.tp_hub.proofs.Streaming.{sent_whole, writes_first, writes_then}
 use Rattle.tp_lines.specs.Lines.{hex_digit}
 use Rattle.tp_lines.specs.Texts.{answer_of, hexed, newline, text_in, text_of}
-use Rattle.tp_lines.specs.Writing.{Writes}
-
--- ---- texts one after another
-
--- a second text behind a first one
-both_to : (x y rest : List ℕ) (p q : List StreamCall) → WritesTo x p [] → WritesTo y q rest → WritesTo (x ++ y) (p ++ q) rest
-both_to x y rest [] q w v = subst (λ (l : List ℕ). WritesTo (l ++ y) q rest) (sym w) v
-both_to x y rest (Took b ∷ p) q w v = (w.0 ++ y, ap (λ (l : List ℕ). l ++ y) w.1 ∙ append_assoc b w.0 y, both_to w.0 y rest p q w.2 v)
-both_to x y rest (TookAgain ∷ p) q w v = both_to x y rest p q w v
-both_to x y rest (TookNone ∷ p) q w v = absurd w
-both_to x y rest (Gave b ∷ p) q w v = absurd w
-both_to x y rest (GaveAgain ∷ p) q w v = absurd w
-both_to x y rest (GaveEnd ∷ p) q w v = absurd w
-both_to x y rest (GaveNone ∷ p) q w v = absurd w
-both_to x y rest (Flushes done ∷ p) q w v = absurd w
-
--- and a longer one than was written
-longer_to : (x y rest : List ℕ) (p : List StreamCall) → WritesTo x p rest → WritesTo (x ++ y) p (rest ++ y)
-longer_to x y rest [] w = ap (λ (l : List ℕ). l ++ y) w
-longer_to x y rest (Took b ∷ p) w = (w.0 ++ y, ap (λ (l : List ℕ). l ++ y) w.1 ∙ append_assoc b w.0 y, longer_to w.0 y rest p w.2)
-longer_to x y rest (TookAgain ∷ p) w = longer_to x y rest p w
-longer_to x y rest (TookNone ∷ p) w = absurd w
-longer_to x y rest (Gave b ∷ p) w = absurd w
-longer_to x y rest (GaveAgain ∷ p) w = absurd w
-longer_to x y rest (GaveEnd ∷ p) w = absurd w
-longer_to x y rest (GaveNone ∷ p) w = absurd w
-longer_to x y rest (Flushes done ∷ p) w = absurd w
 
 pub writes_none : (a : List StreamCall) → Writes a a [] true
 writes_none a = ([], sym (append-nil a), refl)
-
-pub writes_then : (a b c : List StreamCall) (x y : List ℕ) (all : Bool) → Writes a b x true → Writes b c y all → Writes a c (x ++ y) all
-writes_then a b c x y true (p, e, w) (q, f, v) = (p ++ q, f ∙ (ap (λ (l : List StreamCall). l ++ q) e ∙ append_assoc a p q), both_to x y [] p q w v)
-writes_then a b c x y false (p, e, w) (q, f, (ws, rest, v, inl failed)) =
-    (p ++ q, f ∙ (ap (λ (l : List StreamCall). l ++ q) e ∙ append_assoc a p q), (p ++ ws, rest, both_to x y rest p ws w v, inl (ap (λ (l : List StreamCall). p ++ l) failed ∙ sym (append_assoc p ws (TookNone ∷ [])))))
-writes_then a b c x y false (p, e, w) (q, f, (ws, rest, v, inr (is, many))) =
-    let len : length (p ++ q) ≡ length p + length q = length-append p q in
-    (p ++ q, f ∙ (ap (λ (l : List StreamCall). l ++ q) e ∙ append_assoc a p q), (p ++ ws, rest, both_to x y rest p ws w v, inr (ap (λ (l : List StreamCall). p ++ l) is, omega (arith, len, many))))
-
-pub writes_first : (a b : List StreamCall) (x y : List ℕ) → Writes a b x false → Writes a b (x ++ y) false
-writes_first a b x y (q, f, (ws, rest, v, inl failed)) = (q, f, (ws, rest ++ y, longer_to x y rest ws v, inl failed))
-writes_first a b x y (q, f, (ws, rest, v, inr many)) = (q, f, (ws, rest ++ y, longer_to x y rest ws v, inr many))
 
 -- ---- and a flush behind them
 

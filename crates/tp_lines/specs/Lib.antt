@@ -5,4 +5,3 @@ pub mod Plays
 pub mod ReadLines
 pub mod Split
 pub mod Texts
-pub mod Writing

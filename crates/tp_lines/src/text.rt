@@ -3,11 +3,10 @@
 ghost use Rattle.std.specs.Prelude.{◌≡◌, ◌+◌, ◌*◌, ◌≤◌, ◌++◌, drop, length, take};
 ghost use Rattle.std.specs.Fmt.{decimal};
 ghost use Rattle.tp_hub.specs.Carrying.{IsSaid};
-ghost use Rattle.tp_hub.specs.Streams.{Makes};
+ghost use Rattle.tp_hub.specs.Streams.{Makes, Writes};
 ghost use Rattle.tp_hub.specs.Told.{Says, len_of, told, total};
 ghost use Rattle.tp_lines.specs.Lines.{hex_digit};
 ghost use Rattle.tp_lines.specs.Texts.{answer_of, hexed, newline, numbered, text_in, text_of};
-ghost use Rattle.tp_lines.specs.Writing.{Writes};
 
 use itoa::Buffer;
 use tp_hub::{Answers, Mark, Stream, write_out};

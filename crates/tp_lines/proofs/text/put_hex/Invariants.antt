@@ -1,6 +1,6 @@
 use Rattle.std.proofs.Common.{◌-◌, ◌≤◌, length, take, true}
 use Rattle.tp_lines.specs.Texts.{hexed}
-use Rattle.tp_lines.specs.Writing.{Writes}
+use Rattle.tp_hub.specs.Streams.{Writes}
 use Rattle.tp_lines.proofs.text.put_hex.Given as goal
 
 -- the bytes are written up to a place

@@ -1,5 +1,5 @@
 use Rattle.tp_lines.specs.Texts.{newline}
-use Rattle.tp_lines.proofs.Telling.{writes_first, writes_then}
+use Rattle.tp_hub.proofs.Streaming.{writes_first, writes_then}
 use Rattle.tp_lines.proofs.text.put_line.Goals as goal
 
 pub returns-then-not-write_out : goal.returns-then-not-write_out

@@ -1,7 +1,7 @@
 use Rattle.std.proofs.Common.{◌≡◌, ◌∙◌, ◌<◌, List, ap, length, subst, sym, false, true, arith}
 use Rattle.tp_hub.specs.Told.{Answer, told}
 use Rattle.tp_lines.specs.Texts.{text_in}
-use Rattle.tp_lines.specs.Writing.{Writes}
+use Rattle.tp_hub.specs.Streams.{Writes}
 use Rattle.tp_lines.proofs.Telling.{is_none, is_some, said_all, said_lost, said_none}
 use Rattle.tp_lines.proofs.text.tell.Goals as goal
 

@@ -1,0 +1,4 @@
+pub mod Texts
+pub mod Writing
+pub mod Json
+pub mod Holes
