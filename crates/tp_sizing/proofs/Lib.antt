@@ -1,0 +1,5 @@
+mod Blocks
+mod Determined
+mod Fitting
+mod Room
+mod Sized

@@ -1,0 +1,9 @@
+use Rattle.tp_sizing.proofs.Determined.{one_answer}
+use Rattle.tp_sizing.proofs.Fitting.{few_fit, three_fit}
+use Rattle.tp_sizing.proofs.laws.sizes_are_determined.Goals as goal
+
+pub returns-clause-answer : goal.returns-clause-answer
+returns-clause-answer c = one_answer
+
+pub returns-clause-fit : goal.returns-clause-fit
+returns-clause-fit c = λ w fit much. (three_fit w fit much.1.0 much.1.1, few_fit w fit much.1.0 much.1.1)

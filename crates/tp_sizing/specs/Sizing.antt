@@ -1,0 +1,71 @@
+-- Trusted reading: which sizes a pool has that is to hold so much, and when there is none (own).
+use Rattle.std.specs.Prelude.{◌≡◌, ℕ, ◌+◌, ◌*◌, ◌^◌, ◌≤◌, ◌<◌, ◌⊎◌, List, MatchResult, Result, length, min, All}
+use Rattle.tp_model.specs.Geometry.{Geometry, IsWithinLimits}
+use Rattle.tp_image.specs.Bound.{metadata_bound}
+use Rattle.tp_sizing.specs.declared.wanted.Wanted.{Wanted}
+use Rattle.tp_sizing.specs.declared.wanted.Unfit.{Unfit}
+use Rattle.tp_sizing.specs.declared.wanted.Unfit.TheVariants.{OutOfRange, TooMany}
+
+-- the sectors that a data block is given
+abbrev pub IsBlockSize : ℕ → Type 0
+IsBlockSize n = (n ≡ 128) ⊎ (n ≡ 256) ⊎ (n ≡ 512) ⊎ (n ≡ 1024) ⊎ (n ≡ 2048)
+
+-- The most blocks that a pool and a volume may have are enough, with so many sectors each.
+abbrev pub AreEnough : Wanted → ℕ → Type 0
+AreEnough w sectors = (w.size ≤ 1048576 * (512 * sectors)) × (w.volume_size ≤ 2 ^ 24 * (512 * sectors))
+
+-- No number wanted is zero, and the largest blocks are enough.
+abbrev pub IsInRange : Wanted → Type 0
+IsInRange w = (0 < w.size) × (0 < w.volume_size) × (0 < w.volumes) × AreEnough w 2048
+
+pub record IsLeastBlock (w : Wanted) (sectors : ℕ) : Type 0 where
+  pub allowed : IsBlockSize sectors
+  pub enough : AreEnough w sectors
+  pub least : (n : ℕ) → IsBlockSize n → AreEnough w n → sectors ≤ n
+
+-- So many blocks of so many sectors hold these bytes, and one less would not.
+abbrev pub Holds : ℕ → ℕ → ℕ → Type 0
+Holds blocks sectors bytes = (bytes ≤ blocks * (512 * sectors)) × (blocks * (512 * sectors) < bytes + 512 * sectors)
+
+-- The blocks of a pool are the least, and as many as its data and its volumes need.
+pub record HasBlocks (w : Wanted) (g : Geometry) : Type 0 where
+  pub block : IsLeastBlock w g.block_sectors
+  pub pool : Holds g.data_blocks g.block_sectors w.size
+  pub volume : Holds g.virtual_blocks g.block_sectors w.volume_size
+
+-- the most blocks that a volume of the pool's own size has mapped
+abbrev pub most_mapped : Geometry → ℕ
+most_mapped g = min g.virtual_blocks g.data_blocks
+
+-- So many volumes have room: beside the most metadata blocks that they may use, whatever each has mapped, there are 512.
+abbrev pub HaveRoom : Geometry → ℕ → Type 0
+HaveRoom g volumes = (mapped : List ℕ) → length mapped ≤ volumes → All (λ m. m ≤ most_mapped g) mapped → metadata_bound g mapped + 512 ≤ g.metadata_blocks
+
+abbrev pub with_metadata : Geometry → ℕ → Geometry
+with_metadata g blocks = record g { metadata_blocks = blocks }
+
+-- The pool for what is wanted: within its limits, with room for its volumes, and with the least metadata of that kind.
+pub record IsSizedFor (w : Wanted) (g : Geometry) : Type 0 where
+  pub wanted : IsInRange w
+  pub limits : IsWithinLimits g
+  pub blocks : HasBlocks w g
+  pub room : HaveRoom g w.volumes
+  pub least : (n : ℕ) → IsWithinLimits (with_metadata g n) → HaveRoom (with_metadata g n) w.volumes → g.metadata_blocks ≤ n
+
+-- In a pool with the most metadata so many volumes have room, and no more, and more are wanted.
+pub record IsMost (w : Wanted) (fit : ℕ) (g : Geometry) : Type 0 where
+  pub limits : IsWithinLimits g
+  pub blocks : HasBlocks w g
+  pub metadata : g.metadata_blocks ≡ 65536
+  pub room : HaveRoom g fit
+  pub none : HaveRoom g (fit + 1) → ⊥
+  pub more : fit < w.volumes
+
+-- why there is no such pool
+abbrev pub IsUnfit : Wanted → Unfit → Type 0
+IsUnfit w OutOfRange = IsInRange w → ⊥
+IsUnfit w (TooMany fit) = IsInRange w × ((g : Geometry) × IsMost w fit g)
+
+-- what is answered
+abbrev pub IsAnswer : Wanted → Result Geometry Unfit → Type 0
+IsAnswer w result = MatchResult result (IsSizedFor w) (IsUnfit w)
