@@ -7,8 +7,8 @@ ghost use Rattle.tp_disk.specs.Streams.{IsNoStream};
 
 use crate::disk::MOST_SECTORS;
 use crate::opening::{
-    OpenError, OpenStep, lock, lock_shared, open_or_make, open_there, open_there_to_read,
-    sync_folder,
+    OpenError, OpenStep, lock, lock_file, lock_shared, open_or_make, open_there,
+    open_there_to_read, sync_folder,
 };
 use crate::shadow::{Shadow, Step};
 use crate::syncs::{Synced, Syncs};
@@ -25,7 +25,7 @@ const SECTOR: u64 = 512;
 /// all of it: 4 KiB take some 17 microseconds in one of a MiB, and 3 in one of 64 KiB. Long writes are no slower in such pieces.
 const MOST_WRITTEN: usize = 65_536;
 
-/// A disk over a regular file: sector i is the 512 bytes from byte 512 * i on. Reads and writes are at their places in the
+/// A disk over a regular file or a block device: sector i is the 512 bytes from byte 512 * i on. Reads and writes are at their places in the
 /// file, with no buffer between, and a flush waits until the system has brought the data to the device, unless nothing was written since the last sync that
 /// did. A long write is made by calls of the system of 64 KiB each. A call that the system cuts short or interrupts goes on; one that it refuses is a `Fault`,
 /// and [`FileDisk::trouble`] tells what the system said of it. Once a sync was refused, each flush fails: the system forgets what it could not write.
@@ -63,8 +63,8 @@ impl FileDisk {
     ghost use Rattle.tp_disk.specs.HandedOut.{IsHandedOut};
     ghost use Rattle.tp_disk.specs.Syncs.{writes_of, writes_to};
 
-    /// The disk over an existing file. A part of a sector at the end is not counted. Refused where the system refuses, as for a missing file or one that
-    /// cannot be synced, where it is no regular file, another open holds its lock, or it would have one of descriptors 0 to 2, and where there are more
+    /// The disk over an existing file, or over a whole block device. A part of a sector at the end is not counted. Refused where the system refuses, as for a missing file or one that
+    /// cannot be synced, where it is neither a regular file nor a block device, another open holds its lock, or it would have one of descriptors 0 to 2, and where there are more
     /// than 2^54 sectors.
     pub fn open<R: Files<File = File>>(rt: &R, path: &str) -> Result<FileDisk, OpenError>
         ensures { IfOk result (λ disk. IsHandedOut (file_state disk)) }
@@ -86,7 +86,7 @@ impl FileDisk {
 
     /// A disk of this many sectors. Makes the file where it is absent, with rights for its owner alone, and then also waits until its folder is on the
     /// device; and sets its length: what an existing file held stays up to that length, and what is added is zero. Refused as `open`, where the lock
-    /// is tested before the length is set, and for more than 2^54 sectors, for which no file is touched. A link to a file that is absent is refused,
+    /// is tested before the length is set, for a block device, whose length is its own, and for more than 2^54 sectors, for which no file is touched. A link to a file that is absent is refused,
     /// since that file's folder is another one.
     pub fn create<R: Files<File = File>>(
         rt: &R,
@@ -100,7 +100,7 @@ impl FileDisk {
             return Err(OpenError::TooLarge);
         }
         let (file, is_new) = open_or_make(rt, path)?;
-        let _ = lock(&file)?;
+        lock_file(&file)?;
         OpenStep::SetLength.tried(file.set_len(SECTOR * sectors))?;
         let disk = FileDisk::over(file, sectors)?;
         if is_new {

@@ -4,10 +4,10 @@ ghost use Rattle.std.specs.Prelude.{◌≡◌, IfOk, Ok};
 ghost use Rattle.tp_disk.specs.Streams.{IsNoStream};
 
 use std::fmt::{self, Display, Formatter};
-use std::fs::{self, File, OpenOptions, TryLockError};
-use std::io::{self, ErrorKind};
+use std::fs::{self, File, Metadata, OpenOptions, TryLockError};
+use std::io::{self, ErrorKind, Seek, SeekFrom};
 use std::os::fd::AsRawFd;
-use std::os::unix::fs::OpenOptionsExt;
+use std::os::unix::fs::{FileTypeExt, OpenOptionsExt};
 use std::rt::Files;
 
 /// The rights of a file that is made: its owner alone reads and writes it.
@@ -32,7 +32,7 @@ pub enum OpenStep {
 pub enum OpenError {
     /// The system refused a step, and said why.
     System { step: OpenStep, error: io::Error },
-    /// It is no regular file.
+    /// It is neither a regular file nor a block device.
     NotRegular,
     /// Another open of it holds its lock.
     InUse,
@@ -72,7 +72,7 @@ impl Display for OpenError {
     fn fmt<W: fmt::Write>(&self, f: &mut Formatter<W>) -> fmt::Result {
         match self {
             OpenError::System { step, error } => write!(f, "{step}: {error}"),
-            OpenError::NotRegular => f.write_str("is no regular file"),
+            OpenError::NotRegular => f.write_str("is no regular file and no block device"),
             OpenError::InUse => f.write_str("is in use by another program (its lock is held)"),
             OpenError::TooLarge => f.write_str("would have more than 2^54 sectors"),
             OpenError::StandardStream => f.write_str(
@@ -100,7 +100,12 @@ pub(crate) fn open_there<R: Files<File = File>>(rt: &R, path: &str) -> Result<Fi
     apart(OpenStep::Open.tried(opened)?)
 }
 
-/// An existing regular file, to read alone.
+/// Whether it is a block device.
+fn is_device(found: &Metadata) -> bool {
+    found.file_type().is_block_device()
+}
+
+/// An existing regular file or block device, to read alone.
 pub(crate) fn open_there_to_read<R: Files<File = File>>(
     rt: &R,
     path: &str,
@@ -109,7 +114,7 @@ pub(crate) fn open_there_to_read<R: Files<File = File>>(
 {
     // To open a pipe to read would wait until somebody writes it.
     let found = OpenStep::Open.tried(fs::metadata(rt, path))?;
-    if !found.is_file() {
+    if !found.is_file() && !is_device(&found) {
         return Err(OpenError::NotRegular);
     }
     let opened = OpenOptions::new().read(true).open(rt, path);
@@ -172,7 +177,7 @@ fn locked(answer: Result<(), TryLockError>) -> Result<(), OpenError> {
     }
 }
 
-/// Takes the exclusive lock of a regular file, and tells its length in bytes.
+/// Takes the exclusive lock of a regular file or block device, and tells its length in bytes.
 pub(crate) fn lock(file: &File) -> Result<u64, OpenError> {
     locked(file.try_lock())?;
     length_of(file)
@@ -184,12 +189,29 @@ pub(crate) fn lock_shared(file: &File) -> Result<u64, OpenError> {
     length_of(file)
 }
 
-/// The length of a regular file, in bytes.
-fn length_of(file: &File) -> Result<u64, OpenError> {
-    let metadata = OpenStep::Measure.tried(file.metadata())?;
-    if metadata.is_file() {
-        Ok(metadata.len())
+/// Takes the exclusive lock of a regular file, whose length can be set.
+pub(crate) fn lock_file(file: &File) -> Result<(), OpenError> {
+    locked(file.try_lock())?;
+    if OpenStep::Measure.tried(file.metadata())?.is_file() {
+        Ok(())
     } else {
         Err(OpenError::NotRegular)
     }
+}
+
+/// Where a file ends, in bytes: that is told of a device, too.
+fn end_of(mut file: &File) -> Result<u64, OpenError> {
+    OpenStep::Measure.tried(file.seek(SeekFrom::End(0)))
+}
+
+/// The length of a regular file or block device, in bytes. What the system tells of a device has a length of 0.
+fn length_of(file: &File) -> Result<u64, OpenError> {
+    let metadata = OpenStep::Measure.tried(file.metadata())?;
+    if metadata.is_file() {
+        return Ok(metadata.len());
+    }
+    if is_device(&metadata) {
+        return end_of(file);
+    }
+    Err(OpenError::NotRegular)
 }

@@ -1,4 +1,4 @@
-//! Images that are the files of a system.
+//! Images that are the files and the block devices of a system.
 ghost use Rattle.std.specs.Prelude.{◌≡◌, []};
 ghost use Rattle.std.specs.List.{All};
 ghost use Rattle.tp_images.specs.Files.{ClaimsNothing};
@@ -8,10 +8,11 @@ use crate::log::DeedLog;
 use crate::noting::{closed, no_deeds, opened};
 use crate::way::Way;
 use std::fs::{self, File};
+use std::os::unix::fs::FileTypeExt;
 use std::rt::Files;
 use tp_disk::{FileDisk, OpenError};
 
-/// The files of a system, by their paths. That they are honest disks is not claimed, so nothing is said of what they hold.
+/// The files and block devices of a system, by their paths. That they are honest disks is not claimed, so nothing is said of what they hold.
 #[derive(Drop)]
 pub struct FileImages<'r, R: Files<File = File>> {
     files: &'r R,
@@ -62,6 +63,13 @@ impl<'r, R: Files<File = File>> Images for FileImages<'r, R> {
         match fs::metadata(self.files, name) {
             Ok(found) => Some(found.len()),
             Err(_) => None,
+        }
+    }
+
+    fn is_device(&self, name: &str) -> bool {
+        match fs::metadata(self.files, name) {
+            Ok(found) => found.file_type().is_block_device(),
+            Err(_) => false,
         }
     }
 }

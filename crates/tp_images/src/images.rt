@@ -24,7 +24,7 @@ pub trait Images {
     fn open_to_read(&mut self, name: &str) -> Result<Self::Disk, OpenError>
         ensures { Answers ToRead name.now (deeds self.old) (deeds self.new) Self.Disk.state result };
 
-    /// The image of a name, of this many sectors. It is made where it is not there.
+    /// The image of a name, of this many sectors. It is made where it is not there, and refused where a device is.
     fn create(&mut self, name: &str, sectors: u64) -> Result<Self::Disk, OpenError>
         ensures told { Answers ToMake name.now (deeds self.old) (deeds self.new) Self.Disk.state result }
         ensures size { IfOk result (λ disk. (Self.Disk.state disk).size ≡ sectors) };
@@ -35,4 +35,7 @@ pub trait Images {
 
     /// The length of what stands under a name, in bytes, for who is asked before that is destroyed.
     fn length(&self, name: &str) -> Option<u64>;
+
+    /// Whether a device stands under a name, which is as large as it is: it is opened, and `create` refuses it. False where that cannot be told.
+    fn is_device(&self, name: &str) -> bool;
 }

@@ -16,11 +16,13 @@ use tp_disk::{Disk, MemDisk, OpenError, OpenStep};
 const SECTOR: u64 = 512;
 
 /// Images in memory, by name. Each keeps by proof what it is closed with. One that is closed can be stopped, and its calls made to fail; while it is handed out it
-/// is refused, as one that is not there.
+/// is refused, as one that is not there. A name can be made that of a device.
 #[derive(Drop)]
 pub struct MemImages {
     alloc: Global,
     shelf: Vec<Stored>,
+    /// The names of devices.
+    devices: Vec<Vec<u8>>,
     log: DeedLog,
 }
 
@@ -45,6 +47,7 @@ impl MemImages {
         MemImages {
             alloc,
             shelf: Vec::new(alloc),
+            devices: Vec::new(alloc),
             log: no_deeds(),
         }
     }
@@ -71,6 +74,32 @@ impl MemImages {
     {
         fail_disk(&mut self.shelf, name.as_bytes(), first, last)
     }
+
+    /// Has a name be that of a device from then on, whose image is opened as it stands and never made. False where there is no memory for it, and then nothing is
+    /// changed.
+    pub fn fix(&mut self, name: &str) -> bool
+        ensures { self.new ≡ self.old }
+    {
+        add_name(self.alloc, &mut self.devices, name.as_bytes())
+    }
+}
+
+/// A name more, where there is memory for it.
+fn add_name(alloc: Global, names: &mut Vec<Vec<u8>>, name: &[u8]) -> bool {
+    match Vec::from_slice(alloc, name) {
+        Ok(name) => names.push(name).is_ok(),
+        Err(_) => false,
+    }
+}
+
+/// Whether a name is one of these.
+fn is_among(names: &[Vec<u8>], name: &[u8]) -> bool {
+    for other in names {
+        if other.as_slice() == name {
+            return true;
+        }
+    }
+    false
 }
 
 /// Why a name has no disk to hand out.
@@ -103,6 +132,22 @@ fn hand_out(shelf: &mut Vec<Stored>, name: &[u8]) -> Result<MemDisk, OpenError>
         }
         None => Err(refusal(look_at(shelf, name))),
     }
+}
+
+/// A disk of zeros for a name, in the place of what was there, unless that is a device.
+fn make_new(
+    alloc: Global,
+    shelf: &mut Vec<Stored>,
+    is_device: bool,
+    name: &[u8],
+    sectors: u64,
+) -> Result<MemDisk, OpenError>
+    ensures { IsNew name.now shelf.old.items shelf.new.items sectors result }
+{
+    if is_device {
+        return Err(OpenError::NotRegular);
+    }
+    make(alloc, shelf, name, sectors)
 }
 
 /// A disk of zeros for a name, in the place of what was there.
@@ -147,7 +192,14 @@ impl Images for MemImages {
     }
 
     fn create(&mut self, name: &str, sectors: u64) -> Result<MemDisk, OpenError> {
-        let answer = make(self.alloc, &mut self.shelf, name.as_bytes(), sectors);
+        let is_device = is_among(&self.devices, name.as_bytes());
+        let answer = make_new(
+            self.alloc,
+            &mut self.shelf,
+            is_device,
+            name.as_bytes(),
+            sectors,
+        );
         self.log = opened(&self.log, Way::ToMake, name, &answer);
         answer
     }
@@ -163,5 +215,9 @@ impl Images for MemImages {
             Place::Disk(sectors) => Some(SECTOR.saturating_mul(sectors)),
             _ => None,
         }
+    }
+
+    fn is_device(&self, name: &str) -> bool {
+        is_among(&self.devices, name.as_bytes())
     }
 }
