@@ -8,7 +8,7 @@ use Rattle.tp_model.specs.declared.refusal.Refusal.{Refusal}
 use Rattle.tp_model.specs.declared.refusal.Refusal.TheVariants.{Fault, NoMetadataSpace}
 use Rattle.tp_model.specs.Sectors.{Sector}
 use Rattle.tp_model.specs.Pool.{Outline, PlainPool}
-use Rattle.tp_model.specs.Calls.{Answer, Call, Done, Gave, Line, Found, Sized, Refused, Makes, Takes, after_refusal, is_failed, mode_after, refusal_of, reply}
+use Rattle.tp_model.specs.Calls.{Answer, Call, Done, Gave, Line, Found, Sized, Listed, Refused, Makes, Takes, after_refusal, is_failed, mode_after, refusal_of, reply}
 use Rattle.tp_model.specs.PoolStops.{Event, During, Given, GivenBy, MayReopen, Nothing, keeps, reopened}
 use Rattle.tp_model.specs.Clauses.{Meets, OpensSince, View, ViewLaws, found_now}
 use Rattle.tp_model.proofs.Found.{MayReopen-nothing}
@@ -76,6 +76,7 @@ mode_stays m call (Gave sectors) fine = refl
 mode_stays m call (Line bytes) fine = refl
 mode_stays m call (Found id) fine = refl
 mode_stays m call (Sized blocks) fine = refl
+mode_stays m call (Listed slots) fine = refl
 mode_stays m call (Refused reason) fine = absurd (fine reason refl)
 
 -- a pool that was opened has not failed

@@ -1,5 +1,5 @@
 -- Clearing the flag of a clean image, in words of what the program prints.
-use Rattle.std.proofs.Common.{◌≡◌, ◌≢◌, List, Result, Ok, Err, subst, sym}
+use Rattle.std.proofs.Common.{◌≡◌, ◌≢◌, List, Result, subst}
 use Rattle.std.specs.Prelude.{IfErr, IsTrue, OnOk}
 use Rattle.std.proofs.lemmas.Result.{IfErr-weaker, on_ok_weaker}
 use Rattle.tp_model.specs.declared.refusal.Refusal.{Refusal}

@@ -1,13 +1,13 @@
 -- How a trace ends that a pool has, where the pool is closed.
-use Rattle.std.proofs.Common.{◌≡◌, ℕ, ◌+◌, ◌-◌, ◌≤◌, Bool, true, false, List, [], ◌∷◌, ◌++◌, ◌⊎◌, inl, inr, Option, Some, None, refl, sym, ap, subst, ◌∙◌, arith}
+use Rattle.std.proofs.Common.{◌≡◌, ℕ, ◌+◌, ◌-◌, ◌≤◌, Bool, true, false, List, [], ◌∷◌, ◌++◌, ◌⊎◌, inl, inr, Some, refl, sym, ap, subst, ◌∙◌, arith}
 use Rattle.tp_model.specs.declared.refusal.Refusal.{Refusal}
 use Rattle.tp_model.specs.declared.refusal.Refusal.TheVariants.{Failed, Fault}
 use Rattle.tp_model.specs.Pool.{Outline, PlainPool}
-use Rattle.tp_model.specs.Calls.{Answer, Call, Close, Done, Refused, HasCause, MayAnswer}
+use Rattle.tp_model.specs.Calls.{Answer, Call, Done, Refused, HasCause, MayAnswer}
 use Rattle.std.specs.Prelude.{Err, IfErr, IsTrue, MatchResult, Ok, OnOk, Result}
 use Rattle.std.proofs.lemmas.Bool.{false≢true}
 use Rattle.std.proofs.lemmas.Option.{same_Some}
-use Rattle.tp_model.specs.PoolStops.{Event, MayBeLeft, MayBeLeftSince, Nothing, keeps, reopened, state_after}
+use Rattle.tp_model.specs.PoolStops.{Event, MayBeLeft, Nothing, keeps, reopened, state_after}
 use Rattle.tp_model.proofs.Found.{MayReopen-nothing}
 use Rattle.tp_model.specs.Clauses.{Called, Continues, Entry, HasTrace, IsAnswered, IsTrace, Traced, TracedCall, View, ViewLaws, events_of, failed_in, found_now, found_since, traced}
 use Rattle.tp_program.specs.declared.failure.Failure.{Failure}

@@ -1,18 +1,12 @@
 -- The first pool.
-use Rattle.std.proofs.Common.{◌≡◌, ◌⊎◌, inl, inr, ℕ, Bool, true, false, List, [], Option, Some, None, Result, Ok, Err, refl, sym, ap, sum_by, ◌∙◌}
-use Rattle.std.specs.Prelude.{IfOk, MatchOption, MatchResult, OnOk}
-use Rattle.std.specs.Io.KnownBytes.{Keeps}
+use Rattle.std.proofs.Common.{◌≡◌, inl, inr, ℕ, Bool, true, false, List, [], Option, Some, None, sym, ap, sum_by, ◌∙◌}
+use Rattle.std.specs.Prelude.{MatchOption}
 use Rattle.std.proofs.lemmas.Bool.{false≢true}
 use Rattle.std.specs.FinMap.{empty, entries}
 use Rattle.tp_model.specs.declared.refusal.Refusal.{Refusal}
-use Rattle.tp_model.specs.declared.refusal.Refusal.TheVariants.{Memory}
 use Rattle.tp_model.specs.Pool.{PlainPool, hold_total}
-use Rattle.tp_model.specs.Clauses.{View}
 use Rattle.tp_model.specs.Calls.{Answer, Call, Done, Makes, Refused, Takes, after_refusal, refusal_of, reply}
 use Rattle.tp_model.proofs.Maps.{entries_empty}
-use Rattle.tp_model.specs.Disk.{DiskState}
-use Rattle.tp_meta.specs.declared.whole.Meta.{Meta}
-use Rattle.tp_meta.specs.Standing.{StandsFor, changed_of, geometry_of, marks_of, room_of}
 use Rattle.tp_holders.specs.Holders.{Holding, counts_of, holds_of}
 
 abbrev is_done : Answer → Bool

@@ -1,5 +1,5 @@
 -- A pool that is made by name, given one volume, and whose status is told.
-use Rattle.std.proofs.Common.{◌≡◌, inl, inr, ℕ, ◌+◌, ◌≤◌, List, ◌++◌, Option, Result, Ok, Err, refl, sym, subst, ◌∙◌, arith}
+use Rattle.std.proofs.Common.{◌≡◌, inl, inr, ℕ, Bool, ◌+◌, ◌≤◌, List, ◌++◌, Option, Result, Ok, Err, refl, sym, subst, ◌∙◌, arith}
 use Rattle.std.specs.Prelude.{MatchResult, OnOk, codes}
 use Rattle.tp_model.specs.declared.refusal.Refusal.{Refusal}
 use Rattle.tp_model.specs.Geometry.{Geometry, fixed_part}
@@ -29,7 +29,7 @@ pub honest_before : {Does : DiskState → DiskState → Type 0} {way : Way} {nam
 honest_before on all = let both = subst AreHonest on.deeds all in both.1.1
 
 made_honest : (name : List ℕ) (old new : List Deed) → AreHonest new → IsMadeHonest name old new
-made_honest name old new all disk after e = let both = subst AreHonest e all in both.1.0
+made_honest name old new all way disk after e = let both = subst AreHonest e all in both.1.0
 
 -- before a message that was accepted
 honest_given : (name line : List ℕ) (old new : List Deed) (calls calls' : List StreamCall) → IsMessageGiven name line old new calls calls' (Ok (tt {0})) → AreHonest new → AreHonest old
@@ -42,7 +42,7 @@ honest_told name id old new calls calls' (inl (e, refused, same)) all = refused_
 honest_told name id old new calls calls' (inr on) all = honest_before on all
 
 abbrev MadeLaw : Type 0
-MadeLaw = (name : List ℕ) (sizes : Sizes) (old new : List Deed) (calls calls' : List StreamCall) → IsMadeHonest name old new → IsFormatted name sizes old new calls calls' (Ok (tt {0}))
+MadeLaw = (name : List ℕ) (sizes : Sizes) (overwrites : Bool) (old new : List Deed) (calls calls' : List StreamCall) → IsMadeHonest name old new → IsFormatted name sizes overwrites old new calls calls' (Ok (tt {0}))
     → IsAccepted name new (empty_pool (sizes_asked sizes)) Status calls calls'
 
 abbrev GivenLaw : Type 0
@@ -79,15 +79,15 @@ module _ (name : List ℕ) (g : Geometry) (mid new : List Deed) (calls between c
         subst (λ (p : PlainPool). KeepsPool name new (reopened p)) makes.is then.keeps,
       )
 
-pub first_made : MadeLaw → GivenLaw → (name : List ℕ) (sizes : Sizes) (old mid new : List Deed) (calls between calls' : List StreamCall) → IsFormatted name sizes old mid calls between (Ok (tt {0}))
+pub first_made : MadeLaw → GivenLaw → (name : List ℕ) (sizes : Sizes) (overwrites : Bool) (old mid new : List Deed) (calls between calls' : List StreamCall) → IsFormatted name sizes overwrites old mid calls between (Ok (tt {0}))
     → (result : Result (Unit {0}) Failure) → IsMessageGiven name (codes "create_thin 0") mid new between calls' (number_of result)
     → OnOk result (AreHonest new → (used : ℕ) × IsFirstMade (sizes_asked sizes) used calls calls' × KeepsPool name new (first_pool (sizes_asked sizes) used))
-first_made made given name sizes old mid new calls between calls' formatted (Ok done) gave = λ all.
+first_made made given name sizes overwrites old mid new calls between calls' formatted (Ok done) gave = λ all.
     let g = sizes_asked sizes in
-    let one = made name sizes old mid calls between (made_honest name old mid (honest_given name (codes "create_thin 0") mid new between calls' gave all)) formatted in
+    let one = made name sizes overwrites old mid calls between (made_honest name old mid (honest_given name (codes "create_thin 0") mid new between calls' gave all)) formatted in
     let two = given name (codes "create_thin 0") mid new between calls' (empty_pool g) (kept_empty name g mid new calls between calls' one) gave in
     first_so name g mid new calls between calls' one (called_first name new (empty_pool g) between calls' two.0 two.1 two.2)
-first_made made given name sizes old mid new calls between calls' formatted (Err why) gave = tt
+first_made made given name sizes overwrites old mid new calls between calls' formatted (Err why) gave = tt
 
 abbrev ToldLaw : Type 0
 ToldLaw = (name : List ℕ) (id : Option ℕ) (old new : List Deed) (calls calls' : List StreamCall) (s : PlainPool) → KeepsPool name old s → IsStatusTold name id old new calls calls' (Ok (tt {0}))

@@ -9,7 +9,7 @@ use Rattle.tp_model.specs.Sectors.{Sector}
 use Rattle.tp_model.specs.Geometry.{Geometry, IsWithinLimits}
 use Rattle.tp_model.specs.Pool.{PlainPool}
 use Rattle.tp_model.specs.Status.{pool_line, volume_line}
-use Rattle.tp_model.specs.Calls.{Answer, Call, CreateThin, Done, Line, Refused, Status, after_refusal, is_failed, reply}
+use Rattle.tp_model.specs.Calls.{Answer, Call, Done, Line, Refused, Status, after_refusal, is_failed, reply}
 use Rattle.tp_model.specs.PoolStops.{MayReopen, Nothing, keeps, reopened}
 use Rattle.tp_model.specs.Clauses.{Meets, OpensSince, View, found_now}
 use Rattle.tp_model.specs.Disk.{Cell, DiskState, seen}
@@ -30,9 +30,9 @@ use Rattle.tp_images.specs.declared.way.Way.TheVariants.{ToMake, ToRead, ToWrite
 use Rattle.tp_tasks.specs.declared.task.Sizes.{Sizes}
 use Rattle.tp_meta.specs.declared.whole.Meta.{Meta}
 use Rattle.tp_meta.specs.Standing.{StandsFor, changed_of, geometry_of, marks_of, room_of}
-use Rattle.tp_pool.specs.Held.{IsSomePool, shows}
+use Rattle.tp_pool.specs.Held.{IsSomePool}
 use Rattle.tp_served.specs.Served.{Cached, cached, disk_of}
-use Rattle.tp_program.specs.Images.{FormatsOn, GivesOn, IsFormatted, IsLetGo, IsMadeOn, IsMessageGiven, IsStatusTold, TellsOn, sizes_asked}
+use Rattle.tp_program.specs.Images.{FormatsOn, FormatsOver, GivesOn, IsFormatted, IsLetGo, IsMadeOn, IsMessageGiven, IsStatusTold, TellsOn, sizes_asked}
 use Rattle.tp_program.specs.Lives.{IsFoundAs, IsLifeOn, closing_of}
 use Rattle.tp_program.specs.Opening.{IsOpenedOn, IsRefusedOn}
 use Rattle.tp_program.specs.Printing.{IsTextOf, PrintsCall, status_call}
@@ -353,13 +353,26 @@ left_fresh fresh g before c limits made honest S found =
 
 made_on : FreshLaw → (name : List ℕ) (new : List Deed) (g : Geometry) (calls calls' : List StreamCall) (before after : DiskState) → IsWithinLimits g → IsTrue before.is_honest → left_at name new ≡ Some after
     → FormatsOn g calls calls' (Ok (tt {0})) before after → IsAccepted name new (empty_pool g) Status calls calls'
-made_on fresh name new g calls calls' before after limits honest last (inl (size, reason, e, refused, untouched, same, unprinted)) = refused_ok tt reason e
-made_on fresh name new g calls calls' before after limits honest last (inr (size, made, gone, is, prints, let_go)) =
+made_on fresh name new g calls calls' before after limits honest last (inl (reason, e, refused, untouched, same, unprinted)) = refused_ok tt reason e
+made_on fresh name new g calls calls' before after limits honest last (inr (made, gone, is, prints, let_go)) =
     printed_behind name new made gone (empty_pool g) Status calls calls' after refl (is.shows_it honest) (left_fresh fresh g before made limits is honest) (status_stays (empty_pool g) None) prints let_go last
 
-pub made_goes_on : FreshLaw → (name : List ℕ) (sizes : Sizes) (old new : List Deed) (calls calls' : List StreamCall) → IsMadeHonest name old new → IsFormatted name sizes old new calls calls' (Ok (tt {0}))
+-- of a device, whatever it held
+over_on : FreshLaw → (name : List ℕ) (new : List Deed) (overwrites : Bool) (g : Geometry) (calls calls' : List StreamCall) (before after : DiskState) → IsWithinLimits g → IsTrue before.is_honest
+    → left_at name new ≡ Some after → FormatsOver overwrites g calls calls' (Ok (tt {0})) before after → IsAccepted name new (empty_pool g) Status calls calls'
+over_on fresh name new overwrites g calls calls' before after limits honest last (inl (small, e, same, unprinted)) = refused_ok tt _ e
+over_on fresh name new overwrites g calls calls' before after limits honest last (inr (inl (large, not, inl (e, same, unprinted)))) = refused_ok tt _ e
+over_on fresh name new overwrites g calls calls' before after limits honest last (inr (inl (large, not, inr (e, other, same, unprinted)))) = refused_ok tt _ e
+over_on fresh name new overwrites g calls calls' before after limits honest last (inr (inr (large, may, on))) = made_on fresh name new g calls calls' before after limits honest last on
+
+pub made_goes_on : FreshLaw → (name : List ℕ) (sizes : Sizes) (overwrites : Bool) (old new : List Deed) (calls calls' : List StreamCall) → IsMadeHonest name old new → IsFormatted name sizes overwrites old new calls calls' (Ok (tt {0}))
     → IsAccepted name new (empty_pool (sizes_asked sizes)) Status calls calls'
-made_goes_on fresh name sizes old new calls calls' honest (inl (beyond, e, same, unprinted)) = refused_ok tt _ e
-made_goes_on fresh name sizes old new calls calls' honest (inr (limits, inl (e, refused, same))) = refused_ok tt _ refused
-made_goes_on fresh name sizes old new calls calls' honest (inr (limits, inr on)) =
-    made_on fresh name new (sizes_asked sizes) calls calls' on.before on.after limits (honest on.before on.after on.deeds) (left_closed name on.after (Opens ToMake name on.before ∷ old) new on.deeds) on.does
+made_goes_on fresh name sizes overwrites old new calls calls' honest (inl (beyond, e, same, unprinted)) = refused_ok tt _ e
+made_goes_on fresh name sizes overwrites old new calls calls' honest (inr (limits, inl (inl (e, refused, same)))) = refused_ok tt _ refused
+made_goes_on fresh name sizes overwrites old new calls calls' honest (inr (limits, inl (inr on))) =
+    made_on fresh name new (sizes_asked sizes) calls calls' on.before on.after limits (honest ToMake on.before on.after on.deeds)
+    (left_closed name on.after (Opens ToMake name on.before ∷ old) new on.deeds) on.does.1
+made_goes_on fresh name sizes overwrites old new calls calls' honest (inr (limits, inr (inl (e, refused, same)))) = refused_ok tt _ refused
+made_goes_on fresh name sizes overwrites old new calls calls' honest (inr (limits, inr (inr on))) =
+    over_on fresh name new overwrites (sizes_asked sizes) calls calls' on.before on.after limits (honest ToWrite on.before on.after on.deeds)
+    (left_closed name on.after (Opens ToWrite name on.before ∷ old) new on.deeds) on.does

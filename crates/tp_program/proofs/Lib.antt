@@ -4,8 +4,10 @@ mod Ending
 mod Living
 mod Asks
 mod Cleared
+mod Chosen
 mod Ends
 mod Playing
+mod Taking
 mod Tasks
 mod Formats
 mod Deeds

@@ -1,26 +1,24 @@
 -- The life of a pool that is open is that of each plain pool that it is just.
-use Rattle.std.proofs.Common.{◌≡◌, ◌⊎◌, inl, inr, ℕ, ◌+◌, ◌≤◌, Bool, true, false, List, [], ◌∷◌, Option, Some, None, Result, Ok, Err, refl, sym, ap, subst, ◌∙◌, arith}
+use Rattle.std.proofs.Common.{◌≡◌, inl, inr, ◌≤◌, false, List, [], Option, Some, None, refl, sym, ap, subst, ◌∙◌}
 use Rattle.std.specs.Prelude.{IsTrue}
 use Rattle.std.proofs.lemmas.Option.{none-some, same_Some}
 use Rattle.tp_model.specs.Sectors.{Sector}
-use Rattle.tp_model.specs.Pool.{Outline, PlainPool}
+use Rattle.tp_model.specs.Pool.{PlainPool}
 use Rattle.tp_model.specs.declared.mode.Mode.{Mode}
 use Rattle.tp_model.specs.declared.mode.Mode.TheVariants as mode
 use Rattle.std.proofs.lemmas.Bool.{false≢true}
 use Rattle.tp_cache.specs.Line.{IsLine}
-use Rattle.tp_model.specs.Calls.{Answer, Call, Close, Done, MayAnswer, Refused, is_failed, may_accept, mode_after}
-use Rattle.tp_model.specs.PoolStops.{MayBeLeftSince, MayReopen, Nothing, keeps, reopened}
-use Rattle.tp_model.specs.Clauses.{Called, Continues, Entry, HasTrace, IsAnswered, IsOpened, Traced, TracedCall, View, ViewLaws, events_of, failed_in, found_now, outline_of_traced, traced}
+use Rattle.tp_model.specs.Calls.{Answer, Close, Done, MayAnswer, is_failed, may_accept, mode_after}
+use Rattle.tp_model.specs.PoolStops.{MayBeLeftSince, keeps, reopened}
+use Rattle.tp_model.specs.Clauses.{Continues, Entry, HasTrace, IsAnswered, IsOpened, Traced, View, ViewLaws, events_of, found_now, traced}
 use Rattle.tp_model.specs.Disk.{Cell, DiskState, IsSettled, seen}
 use Rattle.tp_model.specs.DiskStops.{AfterStop, StoppedSince, moment}
 use Rattle.tp_model.proofs.DiskStopLaws.{AfterStop-seen, settled_keeps}
 use Rattle.tp_model.proofs.Moments.{stopped_at, stopped_longer}
 use Rattle.tp_model.proofs.Running.{goes_on, starts, stays}
 use Rattle.tp_model.proofs.PoolStopLaws.{MayBeLeftSince-settled}
-use Rattle.nbd_session.specs.Clauses.{GoesWithTrace}
 use Rattle.nbd_session.specs.Turns.{closed}
-use Rattle.tp_image.specs.Stands as images
-use Rattle.tp_hub.specs.Serving.{AllLeave, AllLeaveSo, HubState, Slots, sessions_of}
+use Rattle.tp_hub.specs.Serving.{HubState, Slots, sessions_of}
 use Rattle.tp_images.specs.Deeds.{IsLeftBy}
 use Rattle.tp_hub.specs.Desks.{AreAsked, Exchange}
 use Rattle.tp_hub.specs.Serve.{HubRuns}
@@ -28,12 +26,12 @@ use Rattle.tp_hub.proofs.Tracing.{asks_go}
 use Rattle.tp_meta.specs.declared.whole.Meta.{Meta}
 use Rattle.tp_meta.specs.Standing.{StandsFor, changed_of, geometry_of, marks_of, room_of}
 use Rattle.tp_meta.specs.Framing.{stands_bounded, stands_one, stands_trees, stands_within}
-use Rattle.tp_pool.specs.Held.{HasUse, IsSomePool, shows}
+use Rattle.tp_pool.specs.Held.{shows}
 use Rattle.tp_pool.proofs.Ranges.{law_within}
-use Rattle.tp_served.specs.Served.{Cached, IsClosed, cached, disk_of, laws, on_cache}
+use Rattle.tp_served.specs.Served.{Cached, cached, disk_of, laws, on_cache}
 use Rattle.tp_program.specs.First.{IsFirst}
 use Rattle.tp_program.specs.Opening.{IsOpenedOn}
-use Rattle.tp_program.specs.Lives.{EndsPlainly, HandsBack, IsFirstLife, IsFoundAs, IsKept, IsLife, IsLifeOn, IsPlainLife}
+use Rattle.tp_program.specs.Lives.{EndsPlainly, HandsBack, IsFirstLife, IsFoundAs, IsKept, IsLifeOn, IsPlainLife}
 use Rattle.tp_program.specs.Living.{IsJust, IsLived, IsOfClosing, IsOver}
 use Rattle.tp_program.proofs.Ending.{close_traced}
 

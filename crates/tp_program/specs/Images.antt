@@ -1,7 +1,7 @@
 -- Trusted reading: what the commands on an image do to its disk or find of it, and what they print (own).
-use Rattle.std.specs.Prelude.{◌≡◌, ◌≢◌, ◌⊎◌, ℕ, IsTrue, List, ◌++◌, ◌∷◌, false, not, Option, Result, Ok, Err, IfErr, MatchResult, OnOk, codes}
+use Rattle.std.specs.Prelude.{◌≡◌, ◌≢◌, ◌⊎◌, ◌<◌, ◌≤◌, ℕ, IsTrue, Bool, true, false, List, ◌++◌, ◌∷◌, not, Option, Result, Ok, Err, IfErr, MatchResult, OnOk, codes}
 use Rattle.tp_model.specs.declared.refusal.Refusal.{Refusal}
-use Rattle.tp_model.specs.declared.refusal.Refusal.TheVariants.{BadGeometry, Fault, Memory}
+use Rattle.tp_model.specs.declared.refusal.Refusal.TheVariants.{BadGeometry, Exists, Fault, Memory}
 use Rattle.tp_model.specs.Geometry.{Geometry, IsWithinLimits, sectors_of_image}
 use Rattle.tp_model.specs.Pool.{PlainPool}
 use Rattle.tp_model.specs.Calls.{Status, is_failed}
@@ -13,6 +13,7 @@ use Rattle.tp_hub.specs.Streams.{StreamCall}
 use Rattle.tp_images.specs.Deeds.{Deed, OnImage, Refuses}
 use Rattle.tp_images.specs.declared.way.Way.{Way}
 use Rattle.tp_images.specs.declared.way.Way.TheVariants.{ToWrite, ToRead, ToMake}
+use Rattle.tp_devices.specs.Heads.{IsForeign, IsFree}
 use Rattle.tp_image.specs.Clean.{IsClean}
 use Rattle.tp_image.specs.Fresh.{IsFreshOf, empty_pool}
 use Rattle.tp_image.specs.Stands as images
@@ -76,19 +77,45 @@ pub record IsMadeOn (g : Geometry) (before : DiskState) (c : Cached Meta) : Type
   pub shows_it : IsTrue before.is_honest → shows geometry_of StandsFor (on_cache c) (empty_pool g)
   pub opened : IsTrue before.is_honest → IsOpened (cached geometry_of StandsFor marks_of room_of changed_of) (seen (disk_of c).cells) c
 
--- An empty pool was made on a disk of the image's size, and its line is printed. Or the disk failed or memory was refused, and nothing was printed.
+-- An empty pool was made on a disk, and its line is printed. Or the disk failed or memory was refused, and nothing was printed.
 abbrev pub FormatsOn : Geometry → List StreamCall → List StreamCall → Result (Unit {0}) Refusal → DiskState → DiskState → Type 0
 FormatsOn g calls calls' result before after =
-    ((before.size ≡ sectors_of_image g) × (reason : Refusal) × (result ≡ Err reason) × ((reason ≡ Fault) ⊎ (reason ≡ Memory)) × (reason ≢ Fault → after ≡ before)
-    × IsSameDisk before after × (calls' ≡ calls))
-    ⊎ ((before.size ≡ sectors_of_image g) × (made : Cached Meta) × (last : Cached Meta) × IsMadeOn g before made
-    × PrintsCall (cached geometry_of StandsFor marks_of room_of changed_of) made last Status calls calls' result × IsLetGo last after)
+    ((reason : Refusal) × (result ≡ Err reason) × ((reason ≡ Fault) ⊎ (reason ≡ Memory)) × (reason ≢ Fault → after ≡ before) × IsSameDisk before after × (calls' ≡ calls))
+    ⊎ ((made : Cached Meta) × (last : Cached Meta) × IsMadeOn g before made × PrintsCall (cached geometry_of StandsFor marks_of room_of changed_of) made last Status calls calls' result
+    × IsLetGo last after)
+
+-- the same on a disk of the image's size
+abbrev pub FormatsWhole : Geometry → List StreamCall → List StreamCall → Result (Unit {0}) Refusal → DiskState → DiskState → Type 0
+FormatsWhole g calls calls' result before after = (before.size ≡ sectors_of_image g) × FormatsOn g calls calls' result before after
+
+-- A device is left as it is, and nothing was printed: a read of its head failed, or it is somebody else's.
+abbrev pub LeavesIt : List StreamCall → List StreamCall → Result (Unit {0}) Refusal → DiskState → DiskState → Type 0
+LeavesIt calls calls' result before after =
+    ((result ≡ Err Fault) × (after ≡ after_read false before) × (calls' ≡ calls))
+    ⊎ ((result ≡ Err Exists) × (IsTrue before.is_honest → IsForeign (seen before.cells)) × (after ≡ before) × (calls' ≡ calls))
+
+-- what a device holds may be lost: that was asked for, or it is nobody else's
+abbrev pub MayTake : Bool → DiskState → Type 0
+MayTake overwrites disk = IsTrue disk.is_honest → (overwrites ≡ true) ⊎ IsFree (seen disk.cells)
+
+-- An empty pool was made on a device that is as large as it is, which may be more than the image's size. Or that is less, and nothing was done; or the device is left as it is, where it was
+-- not asked to overwrite it.
+abbrev pub FormatsOver : Bool → Geometry → List StreamCall → List StreamCall → Result (Unit {0}) Refusal → DiskState → DiskState → Type 0
+FormatsOver overwrites g calls calls' result before after =
+    ((before.size < sectors_of_image g) × (result ≡ Err BadGeometry) × (after ≡ before) × (calls' ≡ calls))
+    ⊎ ((sectors_of_image g ≤ before.size) × (overwrites ≡ false) × LeavesIt calls calls' result before after)
+    ⊎ ((sectors_of_image g ≤ before.size) × MayTake overwrites before × FormatsOn g calls calls' result before after)
+
+-- the image of a name was made, or a device that stands under it was opened
+abbrev pub MakesPool : List ℕ → Bool → Geometry → List Deed → List Deed → List StreamCall → List StreamCall → Result (Unit {0}) Refusal → Type 0
+MakesPool name overwrites g old new calls calls' result =
+    OnName ToMake name old new calls calls' result (FormatsWhole g calls calls' result) ⊎ OnName ToWrite name old new calls calls' result (FormatsOver overwrites g calls calls' result)
 
 -- Sizes that are out of their limits are refused before any image is asked for.
-abbrev pub IsFormatted : List ℕ → Sizes → List Deed → List Deed → List StreamCall → List StreamCall → Result (Unit {0}) Refusal → Type 0
-IsFormatted name sizes old new calls calls' result =
+abbrev pub IsFormatted : List ℕ → Sizes → Bool → List Deed → List Deed → List StreamCall → List StreamCall → Result (Unit {0}) Refusal → Type 0
+IsFormatted name sizes overwrites old new calls calls' result =
     ((IsWithinLimits (sizes_asked sizes) → ⊥) × (result ≡ Err BadGeometry) × (new ≡ old) × (calls' ≡ calls))
-    ⊎ (IsWithinLimits (sizes_asked sizes) × OnName ToMake name old new calls calls' result (FormatsOn (sizes_asked sizes) calls calls' result))
+    ⊎ (IsWithinLimits (sizes_asked sizes) × MakesPool name overwrites (sizes_asked sizes) old new calls calls' result)
 
 -- ---- checks
 

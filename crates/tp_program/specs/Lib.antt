@@ -1,4 +1,6 @@
 pub mod Answered
+pub mod Asking
+pub mod Creating
 pub mod Failures
 pub mod First
 pub mod Images
@@ -7,6 +9,7 @@ pub mod Living
 pub mod Opening
 pub mod Playing
 pub mod Printing
+pub mod Reporting
 pub mod Scripts
 pub mod Serving
 pub mod Statuses

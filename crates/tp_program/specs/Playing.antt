@@ -1,5 +1,5 @@
 -- Internal: a script over an open pool, before it is known of which plain pools its life is one (own).
-use Rattle.std.specs.Prelude.{◌≡◌, ℕ, List, MatchBool, None, Some, Result, Ok, Err}
+use Rattle.std.specs.Prelude.{◌≡◌, ℕ, List, MatchBool, None, Some, Result, Err}
 use Rattle.tp_model.specs.declared.refusal.Refusal.{Refusal}
 use Rattle.tp_model.specs.Disk.{DiskState}
 use Rattle.nbd_session.specs.declared.phase.Profile.{Profile}

@@ -1,19 +1,15 @@
 -- Trusted reading: what a command prints of one call of a pool (own).
-use Rattle.std.specs.Prelude.{◌≡◌, ◌⊎◌, List, [], ◌∷◌, ◌++◌, ℕ, Option, None, Some, Result, Ok, Err, MatchResult, codes, false, true}
+use Rattle.std.specs.Prelude.{◌≡◌, ◌⊎◌, List, [], ◌∷◌, ◌++◌, ℕ, Option, None, Some, Result, Err, MatchResult, codes}
 use Rattle.tp_model.specs.declared.refusal.Refusal.{Refusal}
-use Rattle.tp_model.specs.declared.refusal.Refusal.TheVariants.{Fault}
 use Rattle.tp_model.specs.Calls.{Answer, Call, Done, Line, Refused, Status, ThinStatus}
 use Rattle.tp_model.specs.Clauses.{Meets, View}
 use Rattle.tp_msg.specs.Messages.{reading}
 use Rattle.tp_hub.specs.Runs.{call_of}
-use Rattle.tp_hub.specs.Streams.{IsSent, Makes, StreamCall}
+use Rattle.tp_hub.specs.Streams.{StreamCall}
+pub use Rattle.tp_reports.specs.Printing.{Prints}
 
 abbrev pub newline : List ℕ
 newline = 10 ∷ []
-
--- A text is written to the stream and flushed; or the stream failed, which is a fault.
-abbrev pub Prints : List StreamCall → List StreamCall → List ℕ → Result (Unit {0}) Refusal → Type 0
-Prints calls calls' text result = Makes calls calls' (λ did. MatchResult result (λ _. IsSent text did true) (λ reason. (reason ≡ Fault) × IsSent text did false))
 
 -- the text of an accepted call
 abbrev pub IsTextOf : Answer → List ℕ → Type 0

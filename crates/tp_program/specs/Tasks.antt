@@ -1,29 +1,28 @@
 -- Trusted reading: what is done where the words of a command line name a task (own).
-use Rattle.std.specs.Prelude.{◌≡◌, ◌⊎◌, ◌≤◌, ℕ, Bool, List, [], ◌∷◌, Option, Some, Result, Ok, Err, MatchBool, codes, if◌then◌else◌}
+use Rattle.std.specs.Prelude.{◌≡◌, ◌⊎◌, ◌≤◌, ℕ, Bool, List, [], Option, Some, Result, Ok, Err, MatchBool, if◌then◌else◌}
 use Rattle.std.specs.Io.KnownBytes.{Keeps}
 use Rattle.tp_model.specs.declared.refusal.Refusal.{Refusal}
-use Rattle.tp_model.specs.declared.refusal.Refusal.TheVariants.{BadDeviceId, BadGeometry, Exists, Fault}
-use Rattle.tp_model.specs.Geometry.{IsWithinLimits}
-use Rattle.tp_model.specs.DiskStops.{moment}
+use Rattle.tp_model.specs.declared.refusal.Refusal.TheVariants.{BadDeviceId, Fault}
 use Rattle.nbd_session.specs.declared.phase.Profile.{Profile}
 use Rattle.nbd_session.specs.declared.phase.Profile.TheVariants.{Strict, Extended}
-use Rattle.tp_hub.specs.Streams.{Gave, Makes, StreamCall}
-use Rattle.tp_images.specs.Deeds.{Deed, NotOpened, OnImage}
-use Rattle.tp_images.specs.declared.way.Way.TheVariants.{ToRead, ToMake}
+use Rattle.tp_hub.specs.Streams.{StreamCall}
+use Rattle.tp_images.specs.Deeds.{Deed}
 use Rattle.tp_lines.specs.Pipes.{IsPiped}
 use Rattle.tp_tasks.specs.CommandLine.{AreWrong, AskHelp, Name, Text, mistakes}
 use Rattle.tp_tasks.specs.declared.task.Image.{Image}
 use Rattle.tp_tasks.specs.declared.task.Image.TheVariants as kept
-use Rattle.tp_tasks.specs.declared.task.Sizes.{Sizes}
 use Rattle.tp_tasks.specs.declared.task.Task.{Task}
-use Rattle.tp_tasks.specs.declared.task.Task.TheVariants.{Format, Message, Status, Check, Feed, Serve, Play, Run, Ask}
+use Rattle.tp_tasks.specs.declared.task.Task.TheVariants.{Format, Create, Message, Status, Check, Report, Feed, Serve, Play, Run, Ask}
 use Rattle.tp_program.specs.declared.failure.Failure.{Failure}
 use Rattle.tp_program.specs.declared.programs.Status as ends
 use Rattle.tp_program.specs.declared.programs.Status.TheVariants as ending
 use Rattle.tp_program.specs.declared.scripts.Unplayed.{Unplayed}
 use Rattle.tp_program.specs.declared.scripts.Unplayed.TheVariants.{Refused}
 use Rattle.tp_program.specs.Failures.{number_of}
-use Rattle.tp_program.specs.Images.{FormatsOn, IsChecked, IsCleared, IsFormatted, IsMessageGiven, IsStatusTold, OnName, sizes_asked}
+use Rattle.tp_program.specs.Asking.{FormatsAsked}
+use Rattle.tp_program.specs.Creating.{Creates}
+use Rattle.tp_program.specs.Reporting.{AsksReport}
+use Rattle.tp_program.specs.Images.{IsChecked, IsCleared, IsFormatted, IsMessageGiven, IsStatusTold}
 use Rattle.tp_program.specs.Scripts.{PlaysFirst, PlaysImage}
 use Rattle.tp_program.specs.Serving.{FeedsFirst, FeedsImage, ServesImage}
 use Rattle.tp_program.specs.Statuses.{status_after}
@@ -36,34 +35,6 @@ abbrev pub AsksStatus : List ℕ → Option ℕ → List Deed → List Deed → 
 AsksStatus name id old new calls calls' result =
     ((number : ℕ) × (id ≡ Some number) × (16777216 ≤ number) × (result ≡ Err BadDeviceId) × (new ≡ old) × (calls' ≡ calls))
     ⊎ IsStatusTold name id old new calls calls' result
-
--- ---- a new pool in the place of what is there
-
--- What stands under a name is looked at: the image is refused, or opened and closed, and nothing is written to it.
-abbrev pub LooksInto : List ℕ → List Deed → List Deed → Type 0
-LooksInto name old new = NotOpened ToRead name old new ⊎ OnImage ToRead name old new (λ before after. moment after ≡ moment before)
-
-abbrev pub SaysYes : List ℕ → Type 0
-SaysYes line = (line ≡ codes "yes\n") ⊎ (line ≡ codes "yes") ⊎ (line ≡ codes "yes\r\n")
-
--- Nothing was seen that can be lost: the image was refused, as one that is not there is, or its disk had no sector.
-abbrev pub SeesNothing : List ℕ → List Deed → List Deed → Type 0
-SeesNothing name old new = NotOpened ToRead name old new ⊎ OnImage ToRead name old new (λ before after. (moment after ≡ moment before) × (before.size ≡ 0))
-
--- Who was asked said yes in the one line that was read.
-abbrev pub SaidYes : List StreamCall → Type 0
-SaidYes did = (line : List ℕ) × (did ≡ Gave line ∷ []) × SaysYes line
-
--- What stands under a name may be destroyed: it was looked at, and who was asked said yes. Nobody was asked where there is nothing to lose, and nowhere else.
-abbrev pub MayDestroy : List ℕ → List Deed → List Deed → List StreamCall → List StreamCall → Type 0
-MayDestroy name old new calls calls' = (SeesNothing name old new × (calls' ≡ calls)) ⊎ (LooksInto name old new × Makes calls calls' SaidYes)
-
--- Where one asks: sizes that are out of their limits are refused first, and then the image is looked at. That ends it, where who is asked does not say yes; else the pool is made.
-abbrev pub FormatsAsked : List ℕ → Sizes → List Deed → List Deed → List StreamCall → List StreamCall → Result (Unit {0}) Refusal → Type 0
-FormatsAsked name sizes old new calls calls' result =
-    ((IsWithinLimits (sizes_asked sizes) → ⊥) × (result ≡ Err BadGeometry) × (new ≡ old) × (calls' ≡ calls))
-    ⊎ ((result ≡ Err Exists) × LooksInto name old new)
-    ⊎ ((between : List Deed) × (read : List StreamCall) × MayDestroy name old between calls read × IsFormatted name sizes between new read calls' result)
 
 -- ---- a task
 
@@ -89,19 +60,23 @@ abbrev pub Plays : Profile → Image → List Deed → List Deed → List Stream
 Plays profile kept.Memory old new calls calls' result = (new ≡ old) × PlaysFirst profile calls calls' result
 Plays profile (kept.File name) old new calls calls' result = PlaysImage profile name.now old new calls calls' result
 
--- A task that reads and writes one stream, if any. asks: whether who wants to format is asked first.
+-- A task that has no script, by the number of its refusal. It reads and writes one stream, if any. asks: whether who wants to format is asked first.
+abbrev pub DoesPlain : Bool → Task → List Deed → List Deed → List StreamCall → List StreamCall → Result (Unit {0}) Refusal → Type 0
+DoesPlain asks (Format image sizes overwrites) old new calls calls' result =
+    MatchBool asks (FormatsAsked image.now sizes overwrites old new calls calls' result) (IsFormatted image.now sizes overwrites old new calls calls' result)
+DoesPlain asks (Create image wanted overwrites) old new calls calls' result = Creates asks image.now wanted overwrites old new calls calls' result
+DoesPlain asks (Message image line) old new calls calls' result = IsMessageGiven image.now line.now old new calls calls' result
+DoesPlain asks (Status image id) old new calls calls' result = AsksStatus image.now id old new calls calls' result
+DoesPlain asks (Check image clears) old new calls calls' result = MatchBool clears (IsCleared image.now old new calls calls' result) (IsChecked image.now old new calls calls' result)
+DoesPlain asks (Report image listing is_json) old new calls calls' result = AsksReport image.now listing is_json old new calls calls' result
+DoesPlain asks (Feed image is_extended) old new calls calls' result = Feeds (offered is_extended) image old new calls calls' result
+DoesPlain asks (Serve image address clients control) old new calls calls' result = (calls' ≡ calls) × ServesImage image.now clients old new result
+DoesPlain asks (Play image script is_extended) old new calls calls' result = ⊥
+DoesPlain asks (Run image service) old new calls calls' result = (calls' ≡ calls) × StaysImage image.now old new result
+DoesPlain asks (Ask place lines) old new calls calls' result = new ≡ old
+
 abbrev pub DoesOn : Bool → Task → List Deed → List Deed → List StreamCall → List StreamCall → Result (Unit {0}) Unplayed → Type 0
-DoesOn asks (Format image sizes) old new calls calls' result =
-    Plainly result (λ r. MatchBool asks (FormatsAsked image.now sizes old new calls calls' r) (IsFormatted image.now sizes old new calls calls' r))
-DoesOn asks (Message image line) old new calls calls' result = Plainly result (IsMessageGiven image.now line.now old new calls calls')
-DoesOn asks (Status image id) old new calls calls' result = Plainly result (AsksStatus image.now id old new calls calls')
-DoesOn asks (Check image clears) old new calls calls' result =
-    Plainly result (λ r. MatchBool clears (IsCleared image.now old new calls calls' r) (IsChecked image.now old new calls calls' r))
-DoesOn asks (Feed image is_extended) old new calls calls' result = Plainly result (Feeds (offered is_extended) image old new calls calls')
-DoesOn asks (Serve image address clients control) old new calls calls' result = (calls' ≡ calls) × Plainly result (ServesImage image.now clients old new)
-DoesOn asks (Play image script is_extended) old new calls calls' result = ⊥
-DoesOn asks (Run image service) old new calls calls' result = (calls' ≡ calls) × Plainly result (StaysImage image.now old new)
-DoesOn asks (Ask place lines) old new calls calls' result = (new ≡ old) × Plainly result (λ r. Unit {0})
+DoesOn asks task old new calls calls' result = Plainly result (DoesPlain asks task old new calls calls')
 
 -- The script was not opened, which is a fault, and nothing was done; or its lines were read from it, and their answers written to the output.
 abbrev pub PlaysFile : Profile → Image → List Deed → List Deed → Option (List ℕ) → Option (List ℕ) → Result (Unit {0}) Unplayed → Type 0

@@ -15,7 +15,7 @@ use Rattle.nbd_session.specs.Turns.{closed}
 use Rattle.tp_hub.specs.Serving.{Slots, sessions_of}
 use Rattle.tp_hub.specs.Streams.{StreamCall}
 use Rattle.tp_images.specs.Deeds.{Closes, Deed, Opens, left_at}
-use Rattle.tp_images.specs.declared.way.Way.TheVariants.{ToMake}
+use Rattle.tp_images.specs.declared.way.Way.{Way}
 use Rattle.tp_image.specs.Fresh.{empty_pool}
 use Rattle.tp_program.specs.First.{first_pool}
 use Rattle.tp_program.specs.Lives.{IsFoundAs, IsPlainLife}
@@ -28,9 +28,9 @@ pub record KeepsPool (name : List ℕ) (deeds : List Deed) (s : PlainPool) : Typ
   pub honest : IsTrue closed.is_honest
   pub found : (image : List Sector) → AfterStop closed.cells image → IsFoundAs (λ P. P ≡ s) image
 
--- the image was made as an honest disk, and closed
+-- the image was made as an honest disk, or a device opened as one, and closed
 abbrev pub IsMadeHonest : List ℕ → List Deed → List Deed → Type 0
-IsMadeHonest name old new = (disk after : DiskState) → new ≡ Closes name after ∷ Opens ToMake name disk ∷ old → IsTrue disk.is_honest
+IsMadeHonest name old new = (way : Way) (disk after : DiskState) → new ≡ Closes name after ∷ Opens way name disk ∷ old → IsTrue disk.is_honest
 
 -- A call of the pool for which an image stands: no test of the plain pool refuses it, its text is printed on a line, and the image stands for the pool that it makes, opened again.
 pub record IsAccepted (name : List ℕ) (new : List Deed) (s : PlainPool) (call : Call) (calls calls' : List StreamCall) : Type 0 where

@@ -5,7 +5,7 @@ ghost use Rattle.tp_model.specs.DiskStops.{moment};
 ghost use Rattle.tp_disk.specs.HandedOut.{IsHandedOut};
 ghost use Rattle.tp_hub.specs.Streams.{Makes};
 ghost use Rattle.tp_served.specs.Served.{disk_of};
-ghost use Rattle.tp_program.specs.Tasks.{LooksInto, MayDestroy, SaidYes, SaysYes, SeesNothing};
+ghost use Rattle.tp_program.specs.Asking.{LooksInto, MayDestroy, SaidYes, SaysYes, SeesNothing};
 
 use crate::opening::open_pool;
 use std::alloc::{AllocError, Global};

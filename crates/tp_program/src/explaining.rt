@@ -7,7 +7,10 @@ use std::fmt::{self, Display, Formatter};
 use std::io::{self, ErrorKind};
 use tp_disk::{OpenError, Trouble};
 use tp_model::Refusal;
+use tp_sizing::Unfit;
 use tp_words::{Image, Sizes, Task};
+
+const SECTOR: u64 = 512;
 
 /// The most bytes of a message.
 const LONGEST: usize = 256;
@@ -23,9 +26,11 @@ pub struct Explanation<'a> {
 fn image_of<'a>(task: &Task<'a>) -> &'a str {
     match *task {
         Task::Format { image, .. }
+        | Task::Create { image, .. }
         | Task::Message { image, .. }
         | Task::Status { image, .. }
         | Task::Check { image, .. }
+        | Task::Report { image, .. }
         | Task::Serve { image, .. }
         | Task::Run { image, .. } => image,
         Task::Ask { place, .. } => place,
@@ -81,16 +86,8 @@ impl Display for Explanation<'_> {
             Cause::Meaning => explain_number(&self.task, self.failure.refusal, image, f),
             Cause::Image(error) => explain_opening(&self.task, image, &error, f),
             Cause::Disk(trouble) => explain_disk(image, &trouble, f),
-            Cause::Script(error) => write!(
-                f,
-                "script {} cannot be opened: {error}",
-                script_of(&self.task)
-            ),
-            Cause::ScriptEnded => write!(
-                f,
-                "script {} cannot be read to its end: it is a directory, or its disk failed",
-                script_of(&self.task)
-            ),
+            Cause::Script(error) => explain_script(script_of(&self.task), &error, f),
+            Cause::ScriptEnded => explain_script_end(script_of(&self.task), f),
             Cause::Address(error) => explain_address(address, &error, f),
             Cause::Control(error) => explain_address(control, &error, f),
             Cause::Accept(came) => write!(
@@ -114,8 +111,34 @@ impl Display for Explanation<'_> {
                 "what is to be told cannot be written: the output is closed, or its disk is full; what was done is done",
             ),
             Cause::Declined => write!(f, "{image} was left as it is"),
+            Cause::Small { sectors, wanted } => explain_size(image, sectors, wanted, f),
+            Cause::Taken => explain_taken(image, f),
+            Cause::Unfit(unfit) => explain_unfit(&unfit, f),
         }
     }
+}
+
+fn explain_script<W: fmt::Write>(
+    script: &str,
+    error: &io::Error,
+    f: &mut Formatter<W>,
+) -> fmt::Result {
+    write!(f, "script {script} cannot be opened: {error}")
+}
+
+fn explain_script_end<W: fmt::Write>(script: &str, f: &mut Formatter<W>) -> fmt::Result {
+    write!(
+        f,
+        "script {script} cannot be read to its end: it is a directory, or its disk failed"
+    )
+}
+
+/// What stands on a device that is not to be lost unasked.
+fn explain_taken<W: fmt::Write>(image: &str, f: &mut Formatter<W>) -> fmt::Result {
+    write!(
+        f,
+        "{image} has other bytes than zeros or a pool's among its first 8192; with --overwrite they are lost"
+    )
 }
 
 /// Why an image was not opened.
@@ -136,7 +159,7 @@ fn explain_opening<W: fmt::Write>(
 /// What to do about an error of the system at opening.
 fn advise<W: fmt::Write>(task: &Task<'_>, error: &io::Error, f: &mut Formatter<W>) -> fmt::Result {
     match (error.kind(), task) {
-        (ErrorKind::NotFound, Task::Format { .. }) => Ok(()),
+        (ErrorKind::NotFound, Task::Format { .. } | Task::Create { .. }) => Ok(()),
         (ErrorKind::NotFound, _) => f.write_str("; `thinpool format` makes an image"),
         (ErrorKind::StorageFull | ErrorKind::QuotaExceeded, _) => {
             f.write_str("; make room on the host's disk, and then try again")
@@ -168,6 +191,34 @@ fn explain_address<W: fmt::Write>(
     f: &mut Formatter<W>,
 ) -> fmt::Result {
     write!(f, "cannot listen on {address}: {error}")
+}
+
+/// How large a device is, and how large the pool.
+fn explain_size<W: fmt::Write>(
+    image: &str,
+    sectors: u64,
+    wanted: u64,
+    f: &mut Formatter<W>,
+) -> fmt::Result {
+    let bytes = sectors.saturating_mul(SECTOR);
+    let wanted = wanted.saturating_mul(SECTOR);
+    write!(
+        f,
+        "{image} has {bytes} bytes, and a pool of these sizes takes {wanted}"
+    )
+}
+
+/// Why there is no pool that holds what is wanted.
+fn explain_unfit<W: fmt::Write>(unfit: &Unfit, f: &mut Formatter<W>) -> fmt::Result {
+    match *unfit {
+        Unfit::OutOfRange => f.write_str(
+            "a pool holds 1 byte to 1 TiB, and a volume 1 byte to 16 TiB; at least one volume is to be wanted",
+        ),
+        Unfit::TooMany { fit } => write!(
+            f,
+            "the metadata of so many volumes would take more than 65536 blocks: {fit} volumes fit"
+        ),
+    }
 }
 
 /// What a number means, of this task.

@@ -6,6 +6,7 @@ ghost use Rattle.tp_program.specs.Failures.{number_of};
 use std::io;
 use tp_disk::{OpenError, TellsTrouble, Trouble};
 use tp_model::Refusal;
+use tp_sizing::Unfit;
 
 /// Why a task was refused: by which number, and what is known of its cause.
 #[derive(Clone, Copy, Debug)]
@@ -49,6 +50,12 @@ pub enum Cause {
     Output,
     /// Who was asked did not say yes.
     Declined,
+    /// A device has so many sectors, and the pool wants so many.
+    Small { sectors: u64, wanted: u64 },
+    /// A device holds something else than a pool, and was not to be overwritten.
+    Taken,
+    /// There is no pool that holds what is wanted.
+    Unfit(Unfit),
 }
 
 impl Failure {
@@ -69,6 +76,44 @@ impl Failure {
         Failure {
             refusal: Refusal::Fault,
             cause,
+        }
+    }
+
+    /// A device has too few sectors for the sizes that are asked for.
+    pub(crate) fn too_small(sectors: u64, wanted: u64) -> Failure
+        ensures { result.refusal ≡ Refusal.BadGeometry }
+    {
+        Failure {
+            refusal: Refusal::BadGeometry,
+            cause: Cause::Small { sectors, wanted },
+        }
+    }
+
+    /// A device is somebody else's.
+    pub(crate) fn taken() -> Failure
+        ensures { result.refusal ≡ Refusal.Exists }
+    {
+        Failure {
+            refusal: Refusal::Exists,
+            cause: Cause::Taken,
+        }
+    }
+
+    /// No pool holds what is wanted.
+    pub(crate) fn unfit(unfit: Unfit) -> Failure
+        ensures { result.refusal ≡ Refusal.BadGeometry }
+    {
+        Failure {
+            refusal: Refusal::BadGeometry,
+            cause: Cause::Unfit(unfit),
+        }
+    }
+
+    /// Whether it says how many volumes fit.
+    pub(crate) fn tells_what_fits(&self) -> bool {
+        match self.cause {
+            Cause::Unfit(Unfit::TooMany { .. }) => true,
+            _ => false,
         }
     }
 

@@ -1,6 +1,6 @@
 //! The headline, for the pool that is stored on a disk, and for the one on caches that the program uses; and what joins one call of the program to the next.
 
-ghost use Rattle.std.specs.Prelude.{◌≡◌, ◌≢◌, ◌⊎◌, Err, List, [], Ok, Option, Result, ℕ};
+ghost use Rattle.std.specs.Prelude.{◌≡◌, ◌≢◌, ◌⊎◌, Bool, Err, List, [], Ok, Option, Result, ℕ};
 ghost use Rattle.tp_model.specs.Sectors.{Sector};
 ghost use Rattle.tp_model.specs.Pool.{PlainPool};
 ghost use Rattle.tp_model.specs.Calls.{Answer, Status};
@@ -80,9 +80,9 @@ pub fn images_go_on()
 /// From one command of the program on an image to the next: the plain pool for which the image stands. Between two of them the image may be stopped in any way, as
 /// often as one likes: it stands for that pool then, too.
 pub fn commands_go_on()
-    // An image that was made as an honest disk stands for the pool without volumes, whose line is told.
-    ensures made { (name : List ℕ) (sizes : Sizes) (old new : List Deed) (calls calls' : List StreamCall) → IsMadeHonest name old new
-        → IsFormatted name sizes old new calls calls' (Ok (tt {0})) → IsAccepted name new (empty_pool (sizes_asked sizes)) Status calls calls' }
+    // An image that was made as an honest disk, or a device that was opened as one, stands for the pool without volumes, whose line is told.
+    ensures made { (name : List ℕ) (sizes : Sizes) (overwrites : Bool) (old new : List Deed) (calls calls' : List StreamCall) → IsMadeHonest name old new
+        → IsFormatted name sizes overwrites old new calls calls' (Ok (tt {0})) → IsAccepted name new (empty_pool (sizes_asked sizes)) Status calls calls' }
     // A message that was accepted is that of its line, which no test of the plain pool refuses, and the image stands for the pool that it makes.
     ensures given { (name line : List ℕ) (old new : List Deed) (calls calls' : List StreamCall) (s : PlainPool) → KeepsPool name old s
         → IsMessageGiven name line old new calls calls' (Ok (tt {0})) → (m : Message) × (reading line ≡ Ok m) × IsAccepted name new s (call_of m) calls calls' }

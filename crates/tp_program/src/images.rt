@@ -5,10 +5,11 @@ ghost use Rattle.tp_model.specs.Geometry.{IsWithinLimits, sectors_of_image};
 ghost use Rattle.tp_disk.specs.HandedOut.{IsHandedOut};
 ghost use Rattle.tp_images.specs.declared.way.Way.TheVariants.{ToMake};
 ghost use Rattle.tp_program.specs.Failures.{number_of};
-ghost use Rattle.tp_program.specs.Images.{FormatsOn, GivesOn, IsChecked, IsCleared, IsFormatted, IsLetGo, IsMessageGiven, IsStatusTold, OnName, PrintsCheck, PrintsCleared, TellsOn, sizes_asked};
+ghost use Rattle.tp_program.specs.Images.{FormatsOn, FormatsWhole, GivesOn, IsChecked, IsCleared, IsFormatted, IsLetGo, IsMessageGiven, IsStatusTold, MakesPool, OnName, PrintsCheck, PrintsCleared, TellsOn, sizes_asked};
 
 use crate::caches::ROOM;
 use crate::clearing::tell_cleared;
+use crate::devices::format_device;
 use crate::failure::{Failure, because};
 use crate::opening::open_pool;
 use crate::telling::{give_line, print_status, tell_check, tell_status};
@@ -23,7 +24,7 @@ use tp_served::Served;
 use tp_words::Sizes;
 
 /// The disk of a pool that is let go as it is, and what is told, with the cause of a refusal.
-fn hand_back<D: Disk + TellsTrouble + Drop>(
+pub(crate) fn hand_back<D: Disk + TellsTrouble + Drop>(
     pool: Served<ReadCache<D>, Meta>,
     told: Result<(), Refusal>,
 ) -> (D, Result<(), Failure>)
@@ -129,13 +130,13 @@ pub(crate) fn geometry_of(sizes: &Sizes) -> Result<Geometry, Refusal>
 }
 
 /// Makes a disk that of an empty pool, and prints the pool's status line.
-fn format_on<D: Disk + TellsTrouble + Drop, S: Stream>(
+pub(crate) fn format_on<D: Disk + TellsTrouble + Drop, S: Stream>(
     alloc: Global,
     disk: D,
     geometry: Geometry,
     stream: &mut S,
 ) -> (D, Result<(), Failure>)
-    requires { (D.state disk).size ≡ sectors_of_image geometry }
+    requires { sectors_of_image geometry ≤ (D.state disk).size }
     ensures { FormatsOn geometry (S.calls stream.old) (S.calls stream.new) (number_of result.1) (D.state disk) (D.state result.0) }
 {
     match Served::format(alloc, disk, geometry, ROOM) {
@@ -159,7 +160,7 @@ fn format_sized<I: Images, S: Stream>(
     stream: &mut S,
 ) -> Result<(), Failure>
     ensures { OnName ToMake name.now (I.deeds images.old) (I.deeds images.new) (S.calls stream.old) (S.calls stream.new) (number_of result)
-        (FormatsOn geometry (S.calls stream.old) (S.calls stream.new) (number_of result)) }
+        (FormatsWhole geometry (S.calls stream.old) (S.calls stream.new) (number_of result)) }
 {
     match images.create(name, geometry.image_sectors()) {
         Ok(disk) => {
@@ -171,19 +172,40 @@ fn format_sized<I: Images, S: Stream>(
     }
 }
 
+/// Makes an image, or a device where one stands under the name, that of an empty pool, and prints the pool's status line.
+fn format_there<I: Images, S: Stream>(
+    images: &mut I,
+    alloc: Global,
+    name: &str,
+    geometry: Geometry,
+    overwrites: bool,
+    stream: &mut S,
+) -> Result<(), Failure>
+    ensures { MakesPool name.now overwrites geometry (I.deeds images.old) (I.deeds images.new) (S.calls stream.old) (S.calls stream.new) (number_of result) }
+{
+    if images.is_device(name) {
+        return format_device(images, alloc, name, geometry, overwrites, stream);
+    }
+    format_sized(images, alloc, name, geometry, stream)
+}
+
 /// Makes an image that of an empty pool, and prints the pool's status line. Sizes that are out of their limits are refused before the image is touched; it has the
 /// size that is asked for from then on, also where formatting is refused.
+///
+/// A device stays as large as it is, which has to be the pool's size at least, and else is refused by `BadGeometry`. Unless it is overwritten whatever it holds, it is
+/// refused by `Exists` where its first 8192 bytes are neither zeros nor a pool's, and nothing is written to it.
 pub fn format_image<I: Images, S: Stream>(
     images: &mut I,
     alloc: Global,
     name: &str,
     sizes: &Sizes,
+    overwrites: bool,
     stream: &mut S,
 ) -> Result<(), Failure>
-    ensures { IsFormatted name.now sizes.now (I.deeds images.old) (I.deeds images.new) (S.calls stream.old) (S.calls stream.new) (number_of result) }
+    ensures { IsFormatted name.now sizes.now overwrites (I.deeds images.old) (I.deeds images.new) (S.calls stream.old) (S.calls stream.new) (number_of result) }
 {
     match geometry_of(sizes) {
-        Ok(geometry) => format_sized(images, alloc, name, geometry, stream),
+        Ok(geometry) => format_there(images, alloc, name, geometry, overwrites, stream),
         Err(reason) => Err(Failure::from(reason)),
     }
 }

@@ -8,11 +8,13 @@ ghost use Rattle.tp_tasks.specs.declared.task.Task.TheVariants.{Play};
 ghost use Rattle.tp_program.specs.Failures.{number_of};
 ghost use Rattle.tp_program.specs.Images.{IsChecked, IsCleared, IsFormatted};
 ghost use Rattle.tp_program.specs.Statuses.{EndsBy, status_after, status_code, status_of, status_without};
-ghost use Rattle.tp_program.specs.Tasks.{AsksStatus, Does, DoesOn, Feeds, FormatsAsked, Performs, Plays, PlaysFile, offered, plain_of};
+ghost use Rattle.tp_program.specs.Asking.{FormatsAsked};
+ghost use Rattle.tp_program.specs.Tasks.{AsksStatus, Does, DoesOn, DoesPlain, Feeds, Performs, Plays, PlaysFile, offered, plain_of};
 
 use crate::asker::ask_place;
 use crate::asking::may_destroy;
 use crate::clients::serve_image;
+use crate::creating::create;
 use crate::explaining::Explanation;
 use crate::failure::{Cause, Failure};
 use crate::feeding::{feed_fresh, feed_image};
@@ -20,6 +22,7 @@ use crate::images::{
     check_image, clear_image, format_image, geometry_of, message_to_image, status_of_image,
     volume_asked,
 };
+use crate::reports::tell_listing;
 use crate::running::run_image;
 use crate::scripts::{Unplayed, play_fresh, play_image};
 use crate::streams::Terminals;
@@ -153,10 +156,10 @@ fn conclude<E: Write>(done: Result<(), Refusal>, errors: &mut E) -> Status
     }
 }
 
-/// Tells a refusal by its number and name, and where that is wanted what it means, each on a line.
+/// Tells a refusal by its number and name, and where that is wanted, or says how many volumes fit, what it means, each on a line.
 fn tell_failure<E: Write>(task: &Task<'_>, failure: Failure, explains: bool, errors: &mut E) {
     let told = writeln!(errors, "thinpool: {}", failure.refusal);
-    if explains && told.is_ok() {
+    if (explains || failure.tells_what_fits()) && told.is_ok() {
         let explanation = Explanation {
             task: *task,
             failure,
@@ -219,15 +222,16 @@ fn format_asked<I: Images, S: Stream, E: Write>(
     alloc: Global,
     image: &str,
     sizes: &Sizes,
+    overwrites: bool,
     stream: &mut S,
     errors: &mut E,
 ) -> Result<(), Failure>
-    ensures { FormatsAsked image.now sizes.now (I.deeds images.old) (I.deeds images.new) (S.calls stream.old) (S.calls stream.new) (number_of result) }
+    ensures { FormatsAsked image.now sizes.now overwrites (I.deeds images.old) (I.deeds images.new) (S.calls stream.old) (S.calls stream.new) (number_of result) }
 {
     match geometry_of(sizes) {
         Ok(_) => {
             if may_destroy(images, alloc, image, stream, errors) {
-                format_image(images, alloc, image, sizes, stream)
+                format_image(images, alloc, image, sizes, overwrites, stream)
             } else {
                 Err(Failure {
                     refusal: Refusal::Exists,
@@ -240,23 +244,24 @@ fn format_asked<I: Images, S: Stream, E: Write>(
 }
 
 /// Makes an image that of an empty pool. Where a terminal is there to answer, it is asked first.
-fn format<I: Images, S: Stream, E: Write>(
+pub(crate) fn format<I: Images, S: Stream, E: Write>(
     images: &mut I,
     alloc: Global,
     image: &str,
     sizes: &Sizes,
+    overwrites: bool,
     asks: bool,
     stream: &mut S,
     errors: &mut E,
 ) -> Result<(), Failure>
     ensures { MatchBool asks
-        (FormatsAsked image.now sizes.now (I.deeds images.old) (I.deeds images.new) (S.calls stream.old) (S.calls stream.new) (number_of result))
-        (IsFormatted image.now sizes.now (I.deeds images.old) (I.deeds images.new) (S.calls stream.old) (S.calls stream.new) (number_of result)) }
+        (FormatsAsked image.now sizes.now overwrites (I.deeds images.old) (I.deeds images.new) (S.calls stream.old) (S.calls stream.new) (number_of result))
+        (IsFormatted image.now sizes.now overwrites (I.deeds images.old) (I.deeds images.new) (S.calls stream.old) (S.calls stream.new) (number_of result)) }
 {
     if asks {
-        format_asked(images, alloc, image, sizes, stream, errors)
+        format_asked(images, alloc, image, sizes, overwrites, stream, errors)
     } else {
-        format_image(images, alloc, image, sizes, stream)
+        format_image(images, alloc, image, sizes, overwrites, stream)
     }
 }
 
@@ -389,7 +394,7 @@ fn perform_on<F, I: Images, S: Stream, E>(
     asks: bool,
     stream: &mut S,
     errors: &mut E,
-) -> Result<(), Unplayed>
+) -> Result<(), Failure>
 where
     F: Files<File = File>
         + Net<Listener = TcpListener, Stream = TcpStream>
@@ -399,33 +404,45 @@ where
         + Sync,
     E: Write + Send,
     requires { IsScript task → ⊥ }
-    ensures { DoesOn asks task.entry (I.deeds images.old) (I.deeds images.new) (S.calls stream.old) (S.calls stream.new) result }
+    ensures { DoesPlain asks task.entry (I.deeds images.old) (I.deeds images.new) (S.calls stream.old) (S.calls stream.new) (number_of result) }
 {
     match task {
-        Task::Format { image, sizes } => {
-            plain(format(images, alloc, image, &sizes, asks, stream, errors))
-        }
-        Task::Message { image, line } => {
-            plain(message_to_image(images, alloc, image, line, stream))
-        }
-        Task::Status { image, id } => plain(tell_status(images, alloc, image, id, stream)),
-        Task::Check { image, clears } => plain(check(images, alloc, image, clears, stream)),
+        Task::Format {
+            image,
+            sizes,
+            overwrites,
+        } => format(
+            images, alloc, image, &sizes, overwrites, asks, stream, errors,
+        ),
+        Task::Create {
+            image,
+            wanted,
+            overwrites,
+        } => create(
+            images, alloc, image, &wanted, overwrites, asks, stream, errors,
+        ),
+        Task::Message { image, line } => message_to_image(images, alloc, image, line, stream),
+        Task::Status { image, id } => tell_status(images, alloc, image, id, stream),
+        Task::Check { image, clears } => check(images, alloc, image, clears, stream),
+        Task::Report {
+            image,
+            listing,
+            is_json,
+        } => tell_listing(images, alloc, image, &listing, is_json, stream),
         Task::Feed { image, is_extended } => {
-            plain(feed(images, alloc, image, &offered(is_extended), stream))
+            feed(images, alloc, image, &offered(is_extended), stream)
         }
         Task::Serve {
             image,
             address,
             clients,
             control,
-        } => plain(serve_image(
+        } => serve_image(
             system, images, alloc, image, address, clients, control, errors,
-        )),
-        Task::Run { image, service } => {
-            plain(run_image(system, images, alloc, image, &service, errors))
-        }
-        Task::Ask { place, lines } => plain(ask_place(system, place, &lines, stream)),
-        Task::Play { .. } => Err(Unplayed::Refused(Failure::fault(Cause::Output))),
+        ),
+        Task::Run { image, service } => run_image(system, images, alloc, image, &service, errors),
+        Task::Ask { place, lines } => ask_place(system, place, &lines, stream),
+        Task::Play { .. } => Err(Failure::fault(Cause::Output)),
     }
 }
 
@@ -455,7 +472,7 @@ where
 {
     let mut piped = Piped::<R, W, K>::begin(ends);
     let done = perform_on(system, images, alloc, task, asks, &mut piped, errors);
-    (piped.end(), done)
+    (piped.end(), plain(done))
 }
 
 /// The same over a reader and a writer.

@@ -27,7 +27,7 @@ fn make_first<I: Images, S: Stream>(
         × KeepsPool name.now (I.deeds images.new) (first_pool (sizes_asked sizes.now) used)) }
 {
     commands_go_on();
-    format_image(images, alloc, name, sizes, stream)?;
+    format_image(images, alloc, name, sizes, false, stream)?;
     message_to_image(images, alloc, name, "create_thin 0", stream)
 }
 

@@ -5,7 +5,7 @@ use Rattle.std.specs.Borrow.{Bor}
 use Rattle.std.specs.Str.Parse.{digits_value, without_leading_plus}
 use Rattle.clap.specs.Words.{Row, Text, all_of, first_of}
 use Rattle.tp_tasks.specs.declared.task.Texts.{Texts}
-use Rattle.tp_tasks.specs.CommandLine.{HasClients, HasNoNumber, HasNoneUpTo, HasNumber, HasText, HasTexts, IsAbove, IsNumber, IsUpTo, LacksClients, LacksNumber, LacksText, LacksTexts, MayHaveNumber, MayHaveUpTo, texts_in}
+use Rattle.tp_tasks.specs.CommandLine.{HasClients, HasNoNumber, HasNoneUpTo, HasNumber, HasText, HasTexts, IsAbove, IsNumber, IsSize, IsUpTo, LacksClients, LacksNumber, LacksSize, LacksText, LacksTexts, MayHaveNumber, MayHaveUpTo, texts_in}
 
 -- a text is read exactly where there is one
 pub text_read : (id : Text) (rows : List Row) (r : Option (Bor Text)) → option_map (λ s. s.now) r ≡ first_of id rows
@@ -20,11 +20,18 @@ no_text id rows none text e n is =
     cc
 
 -- and where the one that there is reads as none
-pub no_number : (id : Text) (rows : List Row) (text : Text) → first_of id rows ≡ Some text → ((n : ℕ) → IsNumber text n → ⊥) → LacksNumber id rows
-no_number id rows text is_there bad other e n is = bad n (subst (λ (t : Text). IsNumber t n) (same (sym e ∙ is_there)) is)
+pub none_read : (Reads : Text → ℕ → Type 0) (id : Text) (rows : List Row) (text : Text) → first_of id rows ≡ Some text → ((n : ℕ) → Reads text n → ⊥)
+    → (other : Text) → first_of id rows ≡ Some other → (n : ℕ) → Reads other n → ⊥
+none_read Reads id rows text is_there bad other e n is = bad n (subst (λ (t : Text). Reads t n) (same (sym e ∙ is_there)) is)
   where
     same : {x y : Text} → Some x ≡ Some y → x ≡ y
     same e = cc
+
+pub no_number : (id : Text) (rows : List Row) (text : Text) → first_of id rows ≡ Some text → ((n : ℕ) → IsNumber text n → ⊥) → LacksNumber id rows
+no_number id rows text is_there bad = none_read IsNumber id rows text is_there bad
+
+pub no_size : (id : Text) (rows : List Row) (text : Text) → first_of id rows ≡ Some text → ((n : ℕ) → IsSize text n → ⊥) → LacksSize id rows
+no_size id rows text is_there bad = none_read IsSize id rows text is_there bad
 
 -- an argument is one number alone
 pub one_number : (id : Text) (rows : List Row) (n m : ℕ) → HasNumber id rows n → HasNumber id rows m → n ≡ m

@@ -1,1 +1,2 @@
 mod Arguments
+mod Letters

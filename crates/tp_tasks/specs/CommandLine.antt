@@ -1,5 +1,5 @@
 -- Trusted reading: the command line: what `clap` makes of the words, the task that they name, and whether it is to be explained.
-use Rattle.std.specs.Prelude.{◌≡◌, ◌≢◌, ◌⊎◌, ◌<◌, ◌≤◌, ◌^◌, ℕ, Bool, true, false, List, [], ◌∷◌, ◌++◌, Option, None, Some, codes, if◌then◌else◌, is_some, ⊤, IfSome}
+use Rattle.std.specs.Prelude.{◌≡◌, ◌≢◌, ◌⊎◌, ◌<◌, ◌≤◌, ◌^◌, ◌*◌, ◌-◌, ◌==◌, ◌||◌, ℕ, Bool, true, false, List, [], ◌∷◌, ◌++◌, Option, None, Some, codes, if◌then◌else◌, is_some, length, slice_index, take, ⊤, IfSome}
 use Rattle.std.specs.Bool.{MatchBool}
 use Rattle.std.specs.Borrow.{Bor}
 use Rattle.std.specs.Option.{option_map_or}
@@ -14,9 +14,11 @@ use Rattle.clap.specs.declared.error.kind.ErrorKind.{ErrorKind}
 use Rattle.clap.specs.declared.error.kind.ErrorKind.TheVariants.{DisplayHelp, DisplayVersion}
 use Rattle.tp_tasks.specs.declared.task.Asked.{Asked}
 use Rattle.tp_tasks.specs.declared.task.Task.{Task}
-use Rattle.tp_tasks.specs.declared.task.Task.TheVariants.{Format, Message, Status, Check, Feed, Serve, Play, Run, Ask}
+use Rattle.tp_tasks.specs.declared.task.Task.TheVariants.{Format, Create, Message, Status, Report, Check, Feed, Serve, Play, Run, Ask}
+use Rattle.tp_tasks.specs.declared.task.Listing.TheVariants.{Volumes, Map, Delta, Free}
 use Rattle.tp_tasks.specs.declared.task.Sizes.{Sizes}
 use Rattle.tp_tasks.specs.declared.task.Texts.{Texts}
+use Rattle.tp_tasks.specs.declared.task.Wanted.{Wanted}
 use Rattle.tp_tasks.specs.declared.task.Image.{Image}
 use Rattle.tp_tasks.specs.declared.task.Image.TheVariants.{Memory, File}
 use Rattle.tp_tasks.specs.declared.task.Unread.{Unread}
@@ -50,6 +52,14 @@ option_rule id name = record (new_rule id) { long = Some name; value_names = 1 }
 abbrev pub number_option_rule : Text → Text → Rule
 number_option_rule id name = record (option_rule id name) { parser = Some number_parser }
 
+-- an option `--name VALUE` that has to be there
+abbrev pub wanted_rule : Text → Text → Rule
+wanted_rule id name = record (option_rule id name) { required = true }
+
+-- the same of one that is a number of 64 bits
+abbrev pub wanted_number_rule : Text → Text → Rule
+wanted_number_rule id name = record (wanted_rule id name) { parser = Some number_parser }
+
 -- an option `--name VALUE` that has to be there, and may be there several times
 abbrev pub repeated_rule : Text → Text → Rule
 repeated_rule id name = record (option_rule id name) { required = true; action = Some Append }
@@ -62,11 +72,19 @@ optional_rule id = new_rule id
 abbrev pub image_app : Text → App
 image_app name = with_rule (new_app name) (text_rule (codes "IMAGE"))
 
--- `thinpool format IMAGE BLOCK_SECTORS VIRTUAL_BLOCKS METADATA_BLOCKS DATA_BLOCKS`
+-- `thinpool format IMAGE BLOCK_SECTORS VIRTUAL_BLOCKS METADATA_BLOCKS DATA_BLOCKS [--overwrite]`
 abbrev pub format_app : App
 format_app =
-    with_rule (with_rule (with_rule (with_rule (image_app (codes "format"))
-    (number_rule (codes "BLOCK_SECTORS"))) (number_rule (codes "VIRTUAL_BLOCKS"))) (number_rule (codes "METADATA_BLOCKS"))) (number_rule (codes "DATA_BLOCKS"))
+    with_rule (with_rule (with_rule (with_rule (with_rule (image_app (codes "format"))
+    (number_rule (codes "BLOCK_SECTORS"))) (number_rule (codes "VIRTUAL_BLOCKS"))) (number_rule (codes "METADATA_BLOCKS"))) (number_rule (codes "DATA_BLOCKS")))
+    (flag_rule (codes "OVERWRITE") (codes "overwrite"))
+
+-- `thinpool create IMAGE --size SIZE --volume-size SIZE --volumes N [--overwrite]`
+abbrev pub create_app : App
+create_app =
+    with_rule (with_rule (with_rule (with_rule (image_app (codes "create"))
+    (wanted_rule (codes "SIZE") (codes "size"))) (wanted_rule (codes "VOLUME_SIZE") (codes "volume-size"))) (wanted_number_rule (codes "VOLUMES") (codes "volumes")))
+    (flag_rule (codes "OVERWRITE") (codes "overwrite"))
 
 -- `thinpool message IMAGE LINE`
 abbrev pub message_app : App
@@ -75,6 +93,26 @@ message_app = with_rule (image_app (codes "message")) (text_rule (codes "LINE"))
 -- `thinpool status IMAGE [ID]`
 abbrev pub status_app : App
 status_app = with_rule (image_app (codes "status")) (optional_number_rule (codes "ID"))
+
+-- `--json`: what is listed is one line of JSON
+abbrev pub json_rule : Rule
+json_rule = flag_rule (codes "JSON") (codes "json")
+
+-- `thinpool ls IMAGE [--json]`
+abbrev pub list_app : App
+list_app = with_rule (image_app (codes "ls")) json_rule
+
+-- `thinpool map IMAGE ID [--json]`
+abbrev pub map_app : App
+map_app = with_rule (with_rule (image_app (codes "map")) (number_rule (codes "ID"))) json_rule
+
+-- `thinpool delta IMAGE OLD NEW [--json]`
+abbrev pub delta_app : App
+delta_app = with_rule (with_rule (with_rule (image_app (codes "delta")) (number_rule (codes "OLD"))) (number_rule (codes "NEW"))) json_rule
+
+-- `thinpool free IMAGE [--json]`
+abbrev pub free_app : App
+free_app = with_rule (image_app (codes "free")) json_rule
 
 -- `thinpool check IMAGE [--clear-needs-check-flag]`
 abbrev pub check_app : App
@@ -119,10 +157,18 @@ without_subcommands =
     let app = new_app (codes "thinpool") in
     record app { top = record app.top { has_version = true; subcommand_required = true; arg_required_else_help = true } }
 
+-- with the commands that make an image, tell it a message, or tell its status
+abbrev pub with_first : App → App
+with_first app = with_subcommand (with_subcommand (with_subcommand (with_subcommand app format_app.top) create_app.top) message_app.top) status_app.top
+
+-- with those that list what is in an image
+abbrev pub with_listings : App → App
+with_listings app = with_subcommand (with_subcommand (with_subcommand (with_subcommand app list_app.top) map_app.top) delta_app.top) free_app.top
+
 abbrev pub thinpool_app : App
 thinpool_app =
-    with_subcommand (with_subcommand (with_subcommand (with_subcommand (with_subcommand (with_subcommand (with_subcommand (with_subcommand (with_subcommand without_subcommands
-    format_app.top) message_app.top) status_app.top) check_app.top) feed_app.top) serve_app.top) play_app.top) run_app.top) ask_app.top
+    with_subcommand (with_subcommand (with_subcommand (with_subcommand (with_subcommand (with_subcommand (with_listings (with_first without_subcommands))
+    check_app.top) feed_app.top) serve_app.top) play_app.top) run_app.top) ask_app.top
 
 -- ---- the flag in front of the command
 
@@ -202,10 +248,50 @@ LacksSizes rows =
     ⊎ LacksNumber (codes "METADATA_BLOCKS") rows
     ⊎ LacksNumber (codes "DATA_BLOCKS") rows
 
--- the task of each command, from what was found of its arguments
+-- ---- a size
+
+-- how many bytes a letter behind a number makes of one: K or k, M or m, G or g, T or t; any other byte is no such letter, and makes 1
+abbrev pub unit_of : ℕ → ℕ
+unit_of letter =
+    if (letter == 75) || (letter == 107) then 2 ^ 10
+    else if (letter == 77) || (letter == 109) then 2 ^ 20
+    else if (letter == 71) || (letter == 103) then 2 ^ 30
+    else if (letter == 84) || (letter == 116) then 2 ^ 40
+    else 1
+
+abbrev pub last_byte : Text → ℕ
+last_byte text = slice_index text (length text - 1)
+
+-- the text in front of that letter, or all of it where there is none
+abbrev pub digits_of : Text → Text
+digits_of text = if unit_of (last_byte text) == 1 then text else take (length text - 1) text
+
+-- the text reads as this number of bytes, of 64 bits
+abbrev pub IsSize : Text → ℕ → Type 0
+IsSize text n = (count : ℕ) × IsNumber (digits_of text) count × (n ≡ count * unit_of (last_byte text)) × (n < 2 ^ 64)
+
+abbrev pub HasSize : Text → List Row → ℕ → Type 0
+HasSize id rows n = (text : Text) × (first_of id rows ≡ Some text) × IsSize text n
+
+abbrev pub LacksSize : Text → List Row → Type 0
+LacksSize id rows = (text : Text) → first_of id rows ≡ Some text → (n : ℕ) → IsSize text n → ⊥
+
+abbrev pub HasWanted : List Row → Wanted → Type 0
+HasWanted rows wanted =
+    HasSize (codes "SIZE") rows wanted.size × HasSize (codes "VOLUME_SIZE") rows wanted.volume_size × HasNumber (codes "VOLUMES") rows wanted.volumes
+
+abbrev pub LacksWanted : List Row → Type 0
+LacksWanted rows = LacksSize (codes "SIZE") rows ⊎ LacksSize (codes "VOLUME_SIZE") rows ⊎ LacksNumber (codes "VOLUMES") rows
+
+-- ---- the task of each command, from what was found of its arguments
+
 abbrev pub IsFormat : List Row → Task → Type 0
-IsFormat rows (Format image sizes) = HasText (codes "IMAGE") rows image × HasSizes rows sizes
+IsFormat rows (Format image sizes overwrites) = HasText (codes "IMAGE") rows image × HasSizes rows sizes × (overwrites ≡ is_used (codes "OVERWRITE") rows)
 IsFormat rows task = ⊥
+
+abbrev pub IsCreate : List Row → Task → Type 0
+IsCreate rows (Create image wanted overwrites) = HasText (codes "IMAGE") rows image × HasWanted rows wanted × (overwrites ≡ is_used (codes "OVERWRITE") rows)
+IsCreate rows task = ⊥
 
 abbrev pub IsMessage : List Row → Task → Type 0
 IsMessage rows (Message image line) = HasText (codes "IMAGE") rows image × HasText (codes "LINE") rows line
@@ -214,6 +300,23 @@ IsMessage rows task = ⊥
 abbrev pub IsStatus : List Row → Task → Type 0
 IsStatus rows (Status image id) = HasText (codes "IMAGE") rows image × MayHaveNumber (codes "ID") rows id
 IsStatus rows task = ⊥
+
+abbrev pub IsList : List Row → Task → Type 0
+IsList rows (Report image Volumes is_json) = HasText (codes "IMAGE") rows image × (is_json ≡ is_used (codes "JSON") rows)
+IsList rows task = ⊥
+
+abbrev pub IsMap : List Row → Task → Type 0
+IsMap rows (Report image (Map id) is_json) = HasText (codes "IMAGE") rows image × HasNumber (codes "ID") rows id × (is_json ≡ is_used (codes "JSON") rows)
+IsMap rows task = ⊥
+
+abbrev pub IsDelta : List Row → Task → Type 0
+IsDelta rows (Report image (Delta old new) is_json) =
+    HasText (codes "IMAGE") rows image × HasNumber (codes "OLD") rows old × HasNumber (codes "NEW") rows new × (is_json ≡ is_used (codes "JSON") rows)
+IsDelta rows task = ⊥
+
+abbrev pub IsFree : List Row → Task → Type 0
+IsFree rows (Report image Free is_json) = HasText (codes "IMAGE") rows image × (is_json ≡ is_used (codes "JSON") rows)
+IsFree rows task = ⊥
 
 abbrev pub IsCheck : List Row → Task → Type 0
 IsCheck rows (Check image clears) = HasText (codes "IMAGE") rows image × (clears ≡ is_used (codes "CLEAR") rows)
@@ -287,10 +390,11 @@ IsAsk rows (Ask place lines) =
     × MayHaveText (codes "LINE2") rows lines.second × MayHaveText (codes "LINE3") rows lines.third × MayHaveText (codes "LINE4") rows lines.fourth
 IsAsk rows task = ⊥
 
--- what holds where the command has one of the nine names, each its own, or none of them
-abbrev pub by_name : Text → (format message status check feed serve play run ask other : Type 0) → Type 0
-by_name name format message status check feed serve play run ask other =
+-- what holds where the command has one of these ten names, each its own, or none of them
+abbrev pub by_name : Text → (format create message status check feed serve play run ask other : Type 0) → Type 0
+by_name name format create message status check feed serve play run ask other =
     MatchBool (bytes_eq name (codes "format")) format
+    (MatchBool (bytes_eq name (codes "create")) create
     (MatchBool (bytes_eq name (codes "message")) message
     (MatchBool (bytes_eq name (codes "status")) status
     (MatchBool (bytes_eq name (codes "check")) check
@@ -298,17 +402,37 @@ by_name name format message status check feed serve play run ask other =
     (MatchBool (bytes_eq name (codes "serve")) serve
     (MatchBool (bytes_eq name (codes "play")) play
     (MatchBool (bytes_eq name (codes "run")) run
-    (MatchBool (bytes_eq name (codes "ask")) ask other))))))))
+    (MatchBool (bytes_eq name (codes "ask")) ask other)))))))))
+
+-- the same of the four names of what lists
+abbrev pub by_listing : Text → (list map delta free other : Type 0) → Type 0
+by_listing name list map delta free other =
+    MatchBool (bytes_eq name (codes "ls")) list
+    (MatchBool (bytes_eq name (codes "map")) map
+    (MatchBool (bytes_eq name (codes "delta")) delta
+    (MatchBool (bytes_eq name (codes "free")) free other)))
+
+abbrev pub IsListing : Text → List Row → Task → Type 0
+IsListing name rows task = by_listing name (IsList rows task) (IsMap rows task) (IsDelta rows task) (IsFree rows task) ⊥
 
 abbrev pub IsTask : Text → List Row → Task → Type 0
 IsTask name rows task =
-    by_name name (IsFormat rows task) (IsMessage rows task) (IsStatus rows task) (IsCheck rows task) (IsFeed rows task) (IsServe rows task) (IsPlay rows task)
-    (IsRun rows task) (IsAsk rows task) ⊥
+    by_name name (IsFormat rows task) (IsCreate rows task) (IsMessage rows task) (IsStatus rows task) (IsCheck rows task) (IsFeed rows task) (IsServe rows task)
+    (IsPlay rows task) (IsRun rows task) (IsAsk rows task) (IsListing name rows task)
 
 -- what the command wants is not there
+abbrev pub LacksListing : Text → List Row → Type 0
+LacksListing name rows = by_listing name
+    (LacksText (codes "IMAGE") rows)
+    (LacksText (codes "IMAGE") rows ⊎ LacksNumber (codes "ID") rows)
+    (LacksText (codes "IMAGE") rows ⊎ LacksNumber (codes "OLD") rows ⊎ LacksNumber (codes "NEW") rows)
+    (LacksText (codes "IMAGE") rows)
+    ⊤
+
 abbrev pub LacksTask : Text → List Row → Type 0
 LacksTask name rows = by_name name
     (LacksText (codes "IMAGE") rows ⊎ LacksSizes rows)
+    (LacksText (codes "IMAGE") rows ⊎ LacksWanted rows)
     (LacksText (codes "IMAGE") rows ⊎ LacksText (codes "LINE") rows)
     (LacksText (codes "IMAGE") rows ⊎ HasNoNumber (codes "ID") rows)
     (LacksText (codes "IMAGE") rows)
@@ -317,7 +441,7 @@ LacksTask name rows = by_name name
     (LacksText (codes "IMAGE") rows ⊎ LacksText (codes "SCRIPT") rows)
     (LacksText (codes "IMAGE") rows ⊎ LacksTexts (codes "LISTEN") rows ⊎ HasNoneUpTo 16777215 (codes "DEFAULT") rows ⊎ HasNoneUpTo 100 (codes "LOW_WATER") rows)
     (LacksText (codes "WHERE") rows ⊎ LacksText (codes "LINE") rows)
-    ⊤
+    (LacksListing name rows)
 
 -- of what was found of a subcommand
 abbrev pub IsTaskOf : Option (Text × List Row) → Task → Type 0

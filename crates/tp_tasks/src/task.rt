@@ -12,10 +12,17 @@ pub struct Asked<'a> {
 /// What a command asks for. Paths and lines are as the words give them.
 #[derive(Clone, Copy, Debug, PartialEq, Eq)]
 pub enum Task<'a> {
-    /// To make a file the image of an empty pool of these sizes.
+    /// To make a file, or a block device, the image of an empty pool of these sizes; a device whatever it holds, if `overwrites`.
     Format {
         image: &'a str,
         sizes: Sizes,
+        overwrites: bool,
+    },
+    /// To make a file, or a block device, the image of an empty pool that holds what is wanted; a device whatever it holds, if `overwrites`.
+    Create {
+        image: &'a str,
+        wanted: Wanted,
+        overwrites: bool,
     },
     /// To give the pool of an image one message.
     Message {
@@ -26,6 +33,12 @@ pub enum Task<'a> {
     Status {
         image: &'a str,
         id: Option<u64>,
+    },
+    /// To list what is asked of the pool of an image, as one line of JSON, if `is_json`.
+    Report {
+        image: &'a str,
+        listing: Listing,
+        is_json: bool,
     },
     /// To tell whether an image is clean; and where it is, also to clear the flag by which its pool wants a check, if `clears`.
     Check {
@@ -98,6 +111,30 @@ pub struct Sizes {
     pub metadata_blocks: u64,
     /// Of the data part, in data blocks.
     pub data_blocks: u64,
+}
+
+/// What a pool is to hold, as the words give it.
+#[derive(Clone, Copy, Debug, PartialEq, Eq)]
+pub struct Wanted {
+    /// What all volumes together can hold, in bytes.
+    pub size: u64,
+    /// The size of each volume, in bytes.
+    pub volume_size: u64,
+    /// How many volumes there can be.
+    pub volumes: u64,
+}
+
+/// What is listed of a pool. Ids are as the words give them.
+#[derive(Clone, Copy, Debug, PartialEq, Eq)]
+pub enum Listing {
+    /// What each volume has.
+    Volumes,
+    /// Which bytes of a volume are mapped.
+    Map(u64),
+    /// Where the second volume may differ from the first.
+    Delta(u64, u64),
+    /// Which bytes of the image are of data blocks that no volume has.
+    Free,
 }
 
 /// Where the pool of a client or of a script is.

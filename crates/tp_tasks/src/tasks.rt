@@ -4,6 +4,8 @@ ghost use Rattle.std.specs.Prelude.{◌≡◌, ◌⊎◌, ◌≤◌, ℕ, MatchO
 ghost use Rattle.clap.specs.Words.{found_of, rows_of, subcommand_rows_of};
 ghost use Rattle.tp_tasks.specs.CommandLine.{HasClients, HasNoNumber, HasNumber, HasSizes, HasText, IsCheck, IsFeed, IsFormat, IsImage, IsMessage, IsNumber, IsPlay, IsServe, IsStatus, IsTask, IsTaskOf, LacksClients, LacksNumber, LacksSizes, LacksTask, LacksTaskOf, LacksText, MayHaveNumber, MayHaveText, is_used};
 
+use crate::creating::create_task;
+use crate::listings::listing_named;
 use crate::services::{ask_task, run_task};
 use crate::task::{Image, Sizes, Task};
 use clap::ArgMatches;
@@ -22,6 +24,9 @@ fn task_named<'a>(name: &str, arguments: &ArgMatches<'a>) -> Option<Task<'a>>
 {
     if name == "format" {
         return format_task(arguments);
+    }
+    if name == "create" {
+        return create_task(arguments);
     }
     if name == "message" {
         return message_task(arguments);
@@ -47,7 +52,7 @@ fn task_named<'a>(name: &str, arguments: &ArgMatches<'a>) -> Option<Task<'a>>
     if name == "ask" {
         return ask_task(arguments);
     }
-    None
+    listing_named(name, arguments)
 }
 
 fn format_task<'a>(arguments: &ArgMatches<'a>) -> Option<Task<'a>>
@@ -56,7 +61,12 @@ fn format_task<'a>(arguments: &ArgMatches<'a>) -> Option<Task<'a>>
 {
     let image = text_of(arguments, "IMAGE")?;
     let sizes = sizes_of(arguments)?;
-    Some(Task::Format { image, sizes })
+    let overwrites = has_flag(arguments, "OVERWRITE");
+    Some(Task::Format {
+        image,
+        sizes,
+        overwrites,
+    })
 }
 
 fn message_task<'a>(arguments: &ArgMatches<'a>) -> Option<Task<'a>>
@@ -188,7 +198,7 @@ pub(crate) fn has_flag(arguments: &ArgMatches<'_>, id: &str) -> bool
 }
 
 /// A number among the arguments.
-fn number_of(arguments: &ArgMatches<'_>, id: &str) -> Option<u64>
+pub(crate) fn number_of(arguments: &ArgMatches<'_>, id: &str) -> Option<u64>
     ensures { MatchOption result (LacksNumber id.now (rows_of (found_of arguments.now))) (λ n. HasNumber id.now (rows_of (found_of arguments.now)) n) }
 {
     let text = text_of(arguments, id)?;
@@ -197,7 +207,7 @@ fn number_of(arguments: &ArgMatches<'_>, id: &str) -> Option<u64>
 }
 
 /// The number that a text is, of 64 bits.
-fn number_in(text: &str) -> Option<u64>
+pub(crate) fn number_in(text: &str) -> Option<u64>
     ensures { MatchOption result ((n : ℕ) → IsNumber text.now n → ⊥) (λ n. IsNumber text.now n) }
 {
     match text.parse::<u64>() {

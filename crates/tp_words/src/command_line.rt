@@ -3,16 +3,18 @@
 ghost use Rattle.std.specs.Prelude.{◌≡◌, [], IfOk, List, MatchResult, drop, false, map};
 ghost use Rattle.clap.specs.Words.{App, HasKind, Rule, Text, app_of, new_app, rule_of, subcommand_rows_of, with_rule, with_subcommand};
 ghost use Rattle.clap.specs.declared.builder.command.Command.TheViews.{out-Command};
-ghost use Rattle.tp_tasks.specs.CommandLine.{AskFor, IsUnread, NameNone, check_app, command_in, extended_rule, feed_app, flag_rule, format_app, image_app, is_explained, message_app, mistakes, number_rule, option_rule, optional_number_rule, optional_rule, play_app, repeated_rule, serve_app, status_app, text_rule, thinpool_app, without_flag, without_subcommands};
+ghost use Rattle.tp_tasks.specs.CommandLine.{AskFor, IsUnread, NameNone, check_app, command_in, extended_rule, feed_app, flag_rule, image_app, is_explained, message_app, mistakes, number_rule, option_rule, optional_number_rule, optional_rule, play_app, repeated_rule, serve_app, status_app, text_rule, thinpool_app, with_first, with_listings, without_flag, without_subcommands};
 ghost use Rattle.tp_words.specs.Commands.{IsMade, IsRuled};
 
+use crate::listing::{delta_command, free_command, list_command, map_command};
+use crate::making::{create_command, format_command};
 use crate::running::{ask_command, run_command};
 use clap::error::ErrorKind;
 use clap::{Arg, ArgAction, ArgMatches, Command};
 use std::alloc::{AllocError, Global};
 use std::convert::AsStr;
 use std::path::Path;
-use tp_tasks::{Asked, Unread, fault_of_run, task_of};
+use tp_tasks::{Asked, Unread, fault_of_create, fault_of_run, task_of};
 
 const VERSION: &str = "0.1.0 (rattle-kit-13f logic dac8208d650f15bf)";
 
@@ -20,23 +22,18 @@ const AFTER_HELP: &str = "\
 In front of the command:
       --explain  Behind a refusal, say what was refused and why, as in 'thinpool --explain status pool.img'
 
-An image is a regular file, as large as its pool, and sparse until it is written: it holds two parts, of metadata and of data.
-While a program works on an image it holds the file's lock, and every other one is refused.
+An image is a regular file, as large as its pool, and sparse until it is written, or a block device that is at least as large: it holds two
+parts, of metadata and of data.
+While a program works on an image it holds the file's lock, and every other one is refused; but status, ls, map, delta, free and check, without
+its flag, only read it, and share the lock with each other.
 
 A pool of 10 GiB with volumes of 100 GiB each, from nothing:
-  thinpool format pool.img 128 1638400 8192 163840
+  thinpool create pool.img --size 10G --volume-size 100G --volumes 4
   thinpool message pool.img 'create_thin 0'
   thinpool status pool.img
+  thinpool ls pool.img
   thinpool feed pool.img
   thinpool check pool.img";
-
-const FORMAT_HELP: &str = "\
-The file is made where it is absent, and set to the pool's exact size: what it held is lost, and a longer file is cut.
-IMAGE is a regular file, no block device; a new one is for its owner alone (mode 0600). It stays sparse unless `fallocate` takes its
-space on the host at once, before or after. A host disk that is full fails the pool. TRIM gives nothing back to the host.
-
-A pool of 10 GiB with blocks of 64 KiB, volumes of 100 GiB and 32 MiB of metadata, in a file of 10770972672 bytes:
-  thinpool format pool.img 128 1638400 8192 163840";
 
 const MESSAGE_HELP: &str = "\
 LINE is one word of the command line, so it stands in quotes:
@@ -65,16 +62,16 @@ Of a pool of 10 GiB with one volume in which nothing is written:
 
 const CHECK_HELP: &str = "\
 It prints 'clean', or one fault of the image on standard error, by number and name, and ends with 1. It wants no right to write, and
-shares the file's lock with other checks alone. It reads each node once, and takes 60 bytes of memory for each metadata block and 4
-for each data block.
+shares the file's lock with what else only reads it, as 'status' and other checks. It reads each node once, and takes 60 bytes of memory
+for each metadata block and 4 for each data block.
 
 A pool wants a check ('needs_check' in its status line) since there was no room for its metadata, and is read-only. With
 --clear-needs-check-flag it wants none where the image is clean: then it can be written again, and volumes deleted. That is on the disk
 before 'clean' is printed. It wants the right to write the file, and its lock alone. An image that is not clean is not written.
 
 The check was not made, and nothing is said of the image:
-   5 Fault       the file is missing, no regular file, not yours to read or in use by another program, or a read of it or standard
-                 output failed: see to that, and check again. With the flag also: not yours to write, or a write failed, and then the
+   5 Fault       the file is missing, neither a regular file nor a block device, not yours to read or in use by another program, or a
+                 read of it or standard output failed: see to that, and check again. With the flag also: not yours to write, or a write failed, and then the
                  pool wants a check still or none any more, as its status line says
   10 Memory      there is no memory for it: check where there is more
 
@@ -226,7 +223,7 @@ pub(crate) fn text<'a>(alloc: Global, id: &'a str, help: &'a str) -> Arg<'a>
 }
 
 /// One that is a number of 64 bits.
-fn number<'a>(alloc: Global, id: &'a str, help: &'a str) -> Arg<'a>
+pub(crate) fn number<'a>(alloc: Global, id: &'a str, help: &'a str) -> Arg<'a>
     ensures rule { rule_of result ≡ number_rule id.entry.now }
     ensures local { result.global ≡ false }
 {
@@ -334,24 +331,6 @@ pub(crate) fn named<'a>(alloc: Global, name: &'a str, about: &'a str, help: &'a 
     Command::new(alloc, name).about(about).after_help(help)
 }
 
-fn format_command<'a>(alloc: Global) -> Result<Command<'a>, AllocError>
-    ensures { IfOk result (IsMade format_app) }
-{
-    let about =
-        "Make a file the image of an empty pool, and print its status line. What the file held is lost";
-    let image = "The file that is to hold the pool";
-    let block = "Sectors of 512 bytes in a data block: 128 to 2048, a multiple of 128";
-    let volume = "Data blocks in each volume: 1 to 16777216";
-    let metadata =
-        "Metadata blocks of 4096 bytes: at least 1024 and the fixed part (2, and two for each 1024 blocks of either part), at most 65536";
-    let data = "Data blocks of the pool: 1 to 1048576";
-    let made = of_image(alloc, "format", about, image, FORMAT_HELP);
-    let made = with(made, number(alloc, "BLOCK_SECTORS", block));
-    let made = with(made, number(alloc, "VIRTUAL_BLOCKS", volume));
-    let made = with(made, number(alloc, "METADATA_BLOCKS", metadata));
-    with(made, number(alloc, "DATA_BLOCKS", data))
-}
-
 fn message_command<'a>(alloc: Global) -> Result<Command<'a>, AllocError>
     ensures { IfOk result (IsMade message_app) }
 {
@@ -450,15 +429,40 @@ fn program<'a>(alloc: Global) -> Command<'a>
 fn known_commands<'a>(alloc: Global) -> Result<Command<'a>, AllocError>
     ensures { IfOk result (λ known. app_of known ≡ thinpool_app) }
 {
-    let known = add_to_made(Ok(program(alloc)), format_command(alloc));
-    let known = add_to_made(known, message_command(alloc));
-    let known = add_to_made(known, status_command(alloc));
+    let known = with_first(alloc, Ok(program(alloc)));
+    let known = with_listings(alloc, known);
     let known = add_to_made(known, check_command(alloc));
     let known = add_to_made(known, feed_command(alloc));
     let known = add_to_made(known, serve_command(alloc));
     let known = add_to_made(known, play_command(alloc));
     let known = add_to_made(known, run_command(alloc));
     add_to_made(known, ask_command(alloc))
+}
+
+/// Commands with those that make an image, tell it a message, or tell its status.
+fn with_first<'a>(
+    alloc: Global,
+    known: Result<Command<'a>, AllocError>,
+) -> Result<Command<'a>, AllocError>
+    ensures { (before : App) → IfOk known.entry (λ commands. app_of commands ≡ before) → IfOk result (λ all. app_of all ≡ with_first before) }
+{
+    let known = add_to_made(known, format_command(alloc));
+    let known = add_to_made(known, create_command(alloc));
+    let known = add_to_made(known, message_command(alloc));
+    add_to_made(known, status_command(alloc))
+}
+
+/// Commands with those that list what is in an image.
+fn with_listings<'a>(
+    alloc: Global,
+    known: Result<Command<'a>, AllocError>,
+) -> Result<Command<'a>, AllocError>
+    ensures { (before : App) → IfOk known.entry (λ commands. app_of commands ≡ before) → IfOk result (λ all. app_of all ≡ with_listings before) }
+{
+    let known = add_to_made(known, list_command(alloc));
+    let known = add_to_made(known, map_command(alloc));
+    let known = add_to_made(known, delta_command(alloc));
+    add_to_made(known, free_command(alloc))
 }
 
 /// Commands with one more.
@@ -495,12 +499,13 @@ fn add_to_made<'a>(
     }
 }
 
-/// What is told of words that name no task: they are as the commands want them but for the number of clients, or the places or the percentage of a server.
+/// What is told of words that name no task: they are as the commands want them but for the number of clients, a size, or the places or the percentage of a server.
 fn misused(alloc: Global, matches: &ArgMatches<'_>) -> Unread
     ensures { (words : List Text) → mistakes words ≡ [] → NameNone words → IsUnread words result }
 {
     let text = match matches.subcommand() {
         Some(("run", arguments)) => fault_of_run(arguments),
+        Some(("create", arguments)) => fault_of_create(arguments),
         _ => {
             "error: COUNT is not from 1 to 64\n\nUsage: thinpool serve [OPTIONS] <IMAGE> <ADDR> <COUNT>\n"
         }

@@ -4,9 +4,11 @@
 #![tactic(auto)]
 
 mod command_line;
+mod listing;
+mod making;
 mod reading;
 mod running;
 
 pub use command_line::command;
 pub use reading::{NoWords, words};
-pub use tp_tasks::{Asked, Image, Service, Sizes, Task, Texts, Unread};
+pub use tp_tasks::{Asked, Image, Listing, Service, Sizes, Task, Texts, Unread, Wanted};

@@ -26,7 +26,8 @@ With --control it also answers lines, each by one: those of 'serve --control', a
   clients   how many clients are served, and the ids of the volumes that they have, ascending: '3 of 64: 0 7 7'
   flush     what was written is on the disk: 'ok'
   stop      nobody is let in any more, and it ends when the last client has gone: 'ok'
-  stop now  the clients' streams are ended too, behind the answers of what was read of them: 'ok'
+  stop now  the clients' streams are ended too, behind the answers of what was read of them: 'ok'. Who has not taken these within
+            some five seconds is let go without
 Whoever can connect there can delete volumes: take a socket file. 'thinpool ask' sends such lines.
 
   thinpool run pool.img --listen unix:/run/thinpool/nbd.sock --control unix:/run/thinpool/control.sock";

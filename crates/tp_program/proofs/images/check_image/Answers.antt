@@ -1,4 +1,4 @@
-use Rattle.std.proofs.Common.{◌≡◌, List, ◌∷◌, ap, inl, inr, refl, ◌∙◌, Err}
+use Rattle.std.proofs.Common.{List, ◌∷◌, ap, inl, inr, refl, ◌∙◌, Err}
 use Rattle.tp_images.specs.Deeds.{Closes, Deed}
 use Rattle.tp_program.proofs.images.check_image.Goals as goal
 

@@ -1,8 +1,7 @@
-use Rattle.std.proofs.Common.{◌≡◌, rules, inl, inr, refl, Result, subst, sym, ap, ◌∙◌, Err}
+use Rattle.std.proofs.Common.{rules, inl, inr, refl, subst, ap, ◌∙◌, Err}
 use Rattle.tp_model.specs.Geometry.{Geometry, IsWithinLimits}
-use Rattle.tp_images.specs.declared.way.Way.TheVariants.{ToMake}
 use Rattle.tp_program.specs.Failures.{number_of}
-use Rattle.tp_program.specs.Images.{FormatsOn, OnName, sizes_asked}
+use Rattle.tp_program.specs.Images.{MakesPool, sizes_asked}
 use Rattle.tp_program.proofs.images.format_image.Goals as goal
 
 pub returns-in-Ok : goal.returns-in-Ok
@@ -12,8 +11,8 @@ returns-in-Ok g c =
     let deeds = g.I.Images.deeds in
     inr (
       limits,
-      subst (λ (k : Geometry). OnName ToMake c.args.name.now (deeds c.args.images.now) (deeds c.format_sized.new.images) (calls c.args.stream.now) (calls c.format_sized.new.stream) (number_of c.format_sized.result)
-          (FormatsOn k (calls c.args.stream.now) (calls c.format_sized.new.stream) (number_of c.format_sized.result))) c.in-Ok.ensures.good c.format_sized.ensures,
+      subst (λ (k : Geometry). MakesPool c.args.name.now c.args.overwrites k (deeds c.args.images.now) (deeds c.format_there.new.images) (calls c.args.stream.now) (calls c.format_there.new.stream)
+          (number_of c.format_there.result)) c.in-Ok.ensures.good c.format_there.ensures,
     )
 
 pub returns-in-Err : goal.returns-in-Err

@@ -1,4 +1,4 @@
-use Rattle.std.proofs.Common.{◌≡◌, inl, inr, refl, Result, subst, sym}
+use Rattle.std.proofs.Common.{inr, Result, subst, sym}
 use Rattle.tp_model.specs.declared.refusal.Refusal.{Refusal}
 use Rattle.tp_program.specs.Images.{FormatsOn, IsMadeOn}
 use Rattle.tp_program.proofs.Formats.{unmade}
@@ -11,7 +11,7 @@ returns-in-Ok g c =
     let said = c.in-Ok.ensures in
     let made : IsMadeOn c.args.geometry (state c.args.disk) c.in-Ok.pool = record { same_disk = said.same; fresh = said.fresh; settled = said.settled; shows_it = said.shows; opened = said.opened } in
     subst (λ (r : Result (Unit {0}) Refusal). FormatsOn c.args.geometry (calls c.args.stream.now) (calls c.print_status-told.new.stream) r (state c.args.disk) (state c.hand_back.result.0)) (sym c.hand_back.ensures.told)
-    (inr (c.requires, c.in-Ok.pool, c.print_status-told.new.pool, made, c.print_status-told.ensures, c.hand_back.ensures.disk))
+    (inr (c.in-Ok.pool, c.print_status-told.new.pool, made, c.print_status-told.ensures, c.hand_back.ensures.disk))
 
 pub returns-in-Err : goal.returns-in-Err
 returns-in-Err g c =

@@ -1,4 +1,4 @@
-use Rattle.std.proofs.Common.{rules, subst, sym, map}
+use Rattle.std.proofs.Common.{subst, sym, map}
 use Rattle.std.specs.Prelude.{◌&&◌}
 use Rattle.tp_program.specs.Statuses.{EndsBy}
 use Rattle.tp_program.specs.declared.programs.Status as ends

@@ -1,4 +1,4 @@
-use Rattle.std.proofs.Common.{rules, inr}
+use Rattle.std.proofs.Common.{rules}
 use Rattle.tp_program.proofs.programs.tell_status.Goals as goal
 
 pub returns-in-Ok : goal.returns-in-Ok
