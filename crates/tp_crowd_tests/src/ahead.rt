@@ -19,13 +19,21 @@ const HEAD: &[u8] = b"\x25\x60\x95\x13\0\0\0\x01\0\0\0\0\0\0\0\x05\0\0\0\0\0\0\0
 /// A read is long enough for such a write.
 const ROOM: usize = 1_048_604;
 
-/// The flags, and a long write of each of these letters.
-fn long_writes(alloc: Global, letters: &[u8]) -> Result<Vec<u8>, AllocError> {
-    let mut text = Vec::from_slice(alloc, FLAGS)?;
+/// Adds the flags, a long write of each of these letters, and this behind them.
+fn add_long_writes(text: &mut Vec<u8>, letters: &[u8], behind: &[u8]) -> Result<(), AllocError> {
+    text.extend_from_slice(FLAGS)?;
     for letter in letters {
         text.extend_from_slice(HEAD)?;
-        text.extend_from_slice(&Vec::from_elem(alloc, *letter, 524_288)?)?;
+        let len = text.len().saturating_add(524_288);
+        text.resize(len, *letter)?;
     }
+    text.extend_from_slice(behind)
+}
+
+/// All that.
+fn long_writes(alloc: Global, letters: &[u8], behind: &[u8]) -> Result<Vec<u8>, AllocError> {
+    let mut text = Vec::new(alloc);
+    add_long_writes(&mut text, letters, behind)?;
     Ok(text)
 }
 
@@ -44,8 +52,13 @@ fn send_until_closed(
     client.read_to_end(&mut sent)
 }
 
-/// A client that does that.
-fn send_and_wait<H>(rt: &H, address: SocketAddr, text: &[u8], ends_there: bool) -> io::Result<usize>
+/// A client that does that: how many bytes it is sent.
+pub(crate) fn send_and_wait<H>(
+    rt: &H,
+    address: SocketAddr,
+    text: &[u8],
+    ends_there: bool,
+) -> io::Result<usize>
 where
     H: Net<Listener = TcpListener, Stream = TcpStream> + Alloc<A = Global>,
 {
@@ -73,15 +86,25 @@ fn add_until<R: Threads>(
     Ok(())
 }
 
+/// The same by way of a new buffer.
+fn add_by_new_buffer<R: Threads>(
+    alloc: Global,
+    socket: &mut Socket<'_, R>,
+    read: &mut Vec<u8>,
+    count: usize,
+) -> Result<(), AllocError> {
+    let mut buffer = Vec::from_elem(alloc, 0u8, ROOM)?;
+    add_until(socket, &mut buffer, read, count)
+}
+
 /// The same, and tells them.
 fn read_until<R: Threads>(
     alloc: Global,
     socket: &mut Socket<'_, R>,
     count: usize,
 ) -> Result<Vec<u8>, AllocError> {
-    let mut buffer = Vec::from_elem(alloc, 0u8, ROOM)?;
     let mut read = Vec::new(alloc);
-    add_until(socket, &mut buffer, &mut read, count)?;
+    add_by_new_buffer(alloc, socket, &mut read, count)?;
     Ok(read)
 }
 
@@ -111,7 +134,35 @@ fn comes_to_its_end(stream: &TcpStream) -> bool {
     false
 }
 
-/// Accepts a client, reads until so many bytes came, and tells whether what follows them is read without being asked for, and then given behind them.
+/// Reads until so many bytes came, and tells whether what follows them is read without being asked for, and then given behind them.
+fn is_given_in_order<R: Threads>(
+    alloc: Global,
+    socket: &mut Socket<'_, R>,
+    other: &TcpStream,
+    read: &mut Vec<u8>,
+    text: &[u8],
+    count: usize,
+) -> Result<bool, AllocError> {
+    add_by_new_buffer(alloc, socket, read, count)?;
+    let is_first = read.len() == count;
+    let is_read_ahead = comes_to_its_end(other);
+    add_by_new_buffer(alloc, socket, read, usize::MAX)?;
+    Ok(is_first && is_read_ahead && read.as_slice() == text)
+}
+
+/// The same of what nothing was read of.
+fn look<R: Threads>(
+    alloc: Global,
+    socket: &mut Socket<'_, R>,
+    other: &TcpStream,
+    text: &[u8],
+    count: usize,
+) -> Result<bool, AllocError> {
+    let mut read = Vec::new(alloc);
+    is_given_in_order(alloc, socket, other, &mut read, text, count)
+}
+
+/// Accepts a client, and tells that.
 fn accept_and_look<R: Threads>(
     rt: &R,
     alloc: Global,
@@ -123,14 +174,9 @@ fn accept_and_look<R: Threads>(
     let (stream, _) = listener.accept()?;
     let other = stream.try_clone()?;
     let mut socket = Socket::new(rt, alloc, crew, stream);
-    let first = read_until(alloc, &mut socket, count);
-    let is_read_ahead = comes_to_its_end(&other);
-    let rest = read_until(alloc, &mut socket, text.len());
+    let told = look(alloc, &mut socket, &other, text, count);
     socket.close();
-    let mut read = first?;
-    let is_first = read.len() == count;
-    read.extend_from_slice(&rest?)?;
-    Ok(is_first && is_read_ahead && read.as_slice() == text)
+    Ok(told?)
 }
 
 /// The same of the second of two clients, of which the first one is gone by then.
@@ -174,7 +220,7 @@ where
 #[test]
 fn what_follows_a_long_write_is_read_ahead(rt: HostRuntime) -> Result<(), Fail> {
     let count = FLAGS.len() + HEAD.len() + 524_288;
-    let told = told_of_what_follows(&rt, &long_writes(rt.alloc(), b"ab")?, count)?;
+    let told = told_of_what_follows(&rt, &long_writes(rt.alloc(), b"ab", b"")?, count)?;
     assert_eq!(rt; told, (true, true));
     Ok(())
 }
@@ -189,12 +235,13 @@ fn is_read<R: Threads>(
     Ok(accept_and_read(rt, alloc, listener, wanted.len())?.as_slice() == wanted)
 }
 
-/// Whether all of this is sent, and read in order as far as it is wanted.
-fn told_of_order<H>(rt: &H, text: &[u8], wanted: &[u8]) -> io::Result<(bool, bool)>
+/// Whether all of this is sent, and so much of it read in order.
+fn told_of_order<H>(rt: &H, text: &[u8], len: usize) -> io::Result<(bool, bool)>
 where
     H: Net<Listener = TcpListener, Stream = TcpStream> + Threads + Sync + Alloc<A = Global>,
 {
     let (listener, address) = listening(rt)?;
+    let (wanted, _) = text.split_at(len.min(text.len()));
     let (sent, is_read) = join(
         rt,
         || send_and_wait(rt, address, text, false),
@@ -203,21 +250,14 @@ where
     Ok((sent.is_ok(), is_read?))
 }
 
-/// Such long writes, and this behind them.
-fn text_of(alloc: Global, letters: &[u8], behind: &[u8]) -> Result<Vec<u8>, AllocError> {
-    let mut text = long_writes(alloc, letters)?;
-    text.extend_from_slice(behind)?;
-    Ok(text)
-}
-
 /// The same of long writes of each of these letters, and this behind them, which is not wanted.
 fn told_of_letters<H>(rt: &H, letters: &[u8], behind: &[u8]) -> io::Result<(bool, bool)>
 where
     H: Net<Listener = TcpListener, Stream = TcpStream> + Threads + Sync + Alloc<A = Global>,
 {
-    let wanted = long_writes(rt.alloc(), letters)?;
-    let text = text_of(rt.alloc(), letters, behind)?;
-    told_of_order(rt, &text, &wanted)
+    let text = long_writes(rt.alloc(), letters, behind)?;
+    let len = text.len().saturating_sub(behind.len());
+    told_of_order(rt, &text, len)
 }
 
 /// What is read ahead is handed out once, and in the order in which it was sent.

@@ -21,19 +21,78 @@ fn written_to(first: &Seen, second: &Seen) -> Written {
     )
 }
 
+/// What one of two clients does that go to a volume: what it sends then, before which of its reads it waits for the other one, or that it waits before each write
+/// and nowhere else, and how many bytes the other one is to be written by then.
+#[derive(Clone, Copy)]
+struct Plan<'a> {
+    text: &'a [u8],
+    waits_before: usize,
+    is_slow: bool,
+    wanted: u64,
+}
+
+/// A client that does that.
+fn client<'a>(plan: &Plan<'a>, mine: &'a Seen, other: &'a Seen) -> Waiting<'a> {
+    if plan.is_slow {
+        return Waiting::slow([GO, plan.text], mine, other, plan.wanted);
+    }
+    Waiting::new([GO, plan.text], plan.waits_before, mine, other, plan.wanted)
+}
+
+/// Serves two clients that do that.
+fn served_two<'a, H>(
+    rt: &H,
+    readers: u64,
+    plans: (&Plan<'a>, &Plan<'a>),
+    first: &'a Seen,
+    second: &'a Seen,
+) -> Result<(Left, Kept), Fail>
+where
+    H: Threads + Wait + Sync + Alloc<A = Global>,
+{
+    let (one, other) = plans;
+    let clients = vec![in rt.alloc(); client(one, first, second), client(other, second, first)]?;
+    Ok(served_all(rt, readers, clients)?)
+}
+
+/// What is told of them, over a shelf whose shared reads each wait until so many have come.
+fn told_of_two<H>(
+    rt: &H,
+    readers: u64,
+    one: &Plan<'_>,
+    other: &Plan<'_>,
+) -> Result<((Left, Kept), Written), Fail>
+where
+    H: Threads + Wait + Sync + Alloc<A = Global>,
+{
+    let (first, second) = (Seen::nothing(), Seen::nothing());
+    let told = served_two(rt, readers, (one, other), &first, &second)?;
+    Ok((told, written_to(&first, &second)))
+}
+
 /// A client that writes, and ends when another one was read to, which reads when the first one was answered.
 fn told_of_both<H>(rt: &H) -> Result<((Left, Kept), Written), Fail>
 where
     H: Threads + Wait + Sync + Alloc<A = Global>,
 {
     let write = write(rt.alloc())?;
-    let (first, second) = (Seen::nothing(), Seen::nothing());
-    let clients = vec![in rt.alloc();
-        Waiting::new([GO, &write], 2, &first, &second, ANSWERED_READ),
-        Waiting::new([GO, READ], 1, &second, &first, ANSWERED_WRITE),
-    ]?;
-    let told = served_all(rt, 0, clients)?;
-    Ok((told, written_to(&first, &second)))
+    let one = Plan {
+        text: write.as_slice(),
+        waits_before: 2,
+        is_slow: false,
+        wanted: ANSWERED_READ,
+    };
+    told_of_two(rt, 0, &one, &reads_behind(1, ANSWERED_WRITE))
+}
+
+/// A client that reads, and waits before that read until the other one was written so much.
+fn reads_behind(waits_before: usize, wanted: u64) -> Plan<'static> {
+    Plan {
+        text: READ,
+        waits_before,
+        is_slow: false,
+        wanted,
+    }
 }
 
 /// The first client writes and ends when the second was read to; the second reads when the first was answered. So neither ends where one is served after
@@ -59,13 +118,13 @@ where
     H: Threads + Wait + Sync + Alloc<A = Global>,
 {
     let write = write(rt.alloc())?;
-    let (first, second) = (Seen::nothing(), Seen::nothing());
-    let clients = vec![in rt.alloc();
-        Waiting::slow([GO, &write], &first, &second, ANSWERED_READ),
-        Waiting::new([GO, READ], 2, &second, &first, 0),
-    ]?;
-    let told = served_all(rt, 0, clients)?;
-    Ok((told, written_to(&first, &second)))
+    let one = Plan {
+        text: write.as_slice(),
+        waits_before: 0,
+        is_slow: true,
+        wanted: ANSWERED_READ,
+    };
+    told_of_two(rt, 0, &one, &reads_behind(2, 0))
 }
 
 /// The first client does not read what it is sent until the second one has all its answers. So neither ends where a client that reads nothing holds up others.
@@ -88,13 +147,8 @@ fn told_of_readers<H>(rt: &H) -> Result<((Left, Kept), Written), Fail>
 where
     H: Threads + Wait + Sync + Alloc<A = Global>,
 {
-    let (first, second) = (Seen::nothing(), Seen::nothing());
-    let clients = vec![in rt.alloc();
-        Waiting::new([GO, READ], 1, &first, &second, ANSWERED_GO),
-        Waiting::new([GO, READ], 1, &second, &first, ANSWERED_GO),
-    ]?;
-    let told = served_all(rt, 2, clients)?;
-    Ok((told, written_to(&first, &second)))
+    let one = reads_behind(1, ANSWERED_GO);
+    told_of_two(rt, 2, &one, &reads_behind(1, ANSWERED_GO))
 }
 
 /// Each of two reads stays in the pool until the other one has come. So they do not meet where a lock lets one in at a time, nor where they are not shared.
@@ -113,13 +167,13 @@ fn told_of_reader_and_flusher<H>(rt: &H) -> Result<((Left, Kept), Written), Fail
 where
     H: Threads + Wait + Sync + Alloc<A = Global>,
 {
-    let (first, second) = (Seen::nothing(), Seen::nothing());
-    let clients = vec![in rt.alloc();
-        Waiting::new([GO, FLUSH], 1, &first, &second, ANSWERED_GO),
-        Waiting::new([GO, READ], 1, &second, &first, ANSWERED_GO),
-    ]?;
-    let told = served_all(rt, 2, clients)?;
-    Ok((told, written_to(&first, &second)))
+    let flushes = Plan {
+        text: FLUSH,
+        waits_before: 1,
+        is_slow: false,
+        wanted: ANSWERED_GO,
+    };
+    told_of_two(rt, 2, &flushes, &reads_behind(1, ANSWERED_GO))
 }
 
 /// The read stays in the pool until what was written is being brought to the device, and that goes on until the read has come. So they do not meet where a flush has

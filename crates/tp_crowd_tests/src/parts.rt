@@ -1,7 +1,8 @@
 //! Clients over a loopback address whose requests come in parts.
 
+use crate::ahead::send_and_wait;
 use crate::served::{Left, listening, served};
-use crate::talk::{ANSWERED_READ, GO, READ};
+use crate::talk::{ANSWERED_READ, GO, LETTERS, READ, joined};
 use std::alloc::{AllocError, Global};
 use std::io;
 use std::io::{Read, Write};
@@ -13,8 +14,14 @@ use std::thread::{Threads, join};
 /// The head of a write of the first 131,072 bytes.
 const LONG_WRITE: &[u8] = b"\x25\x60\x95\x13\0\0\0\x01\0\0\0\0\0\0\0\x05\0\0\0\0\0\0\0\0\0\x02\0\0";
 
-/// What is sent behind it, in three parts.
-const PARTS: [usize; 3] = [100, 130_962, 10];
+/// The first of three parts that are sent behind it.
+const FIRST: &[u8] = &[0x61; 100];
+
+/// How many bytes the second one has.
+const SECOND: usize = 130_962;
+
+/// The last one.
+const LAST: &[u8] = &[0x61; 10];
 
 /// So many bytes of a payload.
 fn letters(alloc: Global, count: usize) -> Result<Vec<u8>, AllocError> {
@@ -36,21 +43,18 @@ pub(crate) fn exchange(
 
 /// GO and a read, behind them the head of a long write and the first part of its payload.
 fn read_and_begin(alloc: Global) -> Result<Vec<u8>, AllocError> {
-    let mut text = Vec::from_slice(alloc, GO)?;
-    text.extend_from_slice(READ)?;
-    text.extend_from_slice(LONG_WRITE)?;
-    text.extend_from_slice(&letters(alloc, PARTS[0])?)?;
-    Ok(text)
+    joined(alloc, &[GO, READ, LONG_WRITE, FIRST])
 }
 
 /// What a write is answered.
 const WRITTEN: &[u8] = b"\x67\x44\x66\x98\0\0\0\0\0\0\0\0\0\0\0\x05";
 
+/// The head of what a read is answered.
+const READ_HEAD: &[u8] = b"\x67\x44\x66\x98\0\0\0\0\0\0\0\0\0\0\0\x02";
+
 /// What a read of that is answered.
 fn read_answer(alloc: Global) -> Result<Vec<u8>, AllocError> {
-    let mut text = Vec::from_slice(alloc, b"\x67\x44\x66\x98\0\0\0\0\0\0\0\0\0\0\0\x02")?;
-    text.extend_from_slice(&[0x61; 512])?;
-    Ok(text)
+    joined(alloc, &[READ_HEAD, LETTERS])
 }
 
 /// Waits for the answer to a read, behind which the beginning of a write was sent.
@@ -63,8 +67,7 @@ fn begin(alloc: Global, client: &mut TcpStream) -> io::Result<()> {
 
 /// What that write is answered, behind which the beginning of another read is sent.
 fn end_write(alloc: Global, client: &mut TcpStream) -> io::Result<Vec<u8>> {
-    let mut text = letters(alloc, PARTS[2])?;
-    text.extend_from_slice(READ.split_at(5).0)?;
+    let text = joined(alloc, &[LAST, READ.split_at(5).0])?;
     exchange(alloc, client, &text, 16)
 }
 
@@ -74,10 +77,16 @@ fn is_read(alloc: Global, client: &mut TcpStream) -> io::Result<bool> {
     Ok(exchange(alloc, client, READ.split_at(5).1, 528)? == wanted)
 }
 
+/// Sends the second part.
+fn go_on(alloc: Global, client: &mut TcpStream) -> io::Result<()> {
+    let part = letters(alloc, SECOND)?;
+    client.write_all(&part)
+}
+
 /// Whether both the write and this read are answered so.
 fn are_answered(alloc: Global, client: &mut TcpStream) -> io::Result<(bool, bool)> {
     begin(alloc, client)?;
-    client.write_all(&letters(alloc, PARTS[1])?)?;
+    go_on(alloc, client)?;
     let is_written = end_write(alloc, client)?.as_slice() == WRITTEN;
     Ok((is_written, is_read(alloc, client)?))
 }
@@ -113,18 +122,6 @@ fn requests_in_parts(rt: HostRuntime) -> Result<(), Fail> {
     Ok(())
 }
 
-/// Reads until the server closes, and tells how many bytes came.
-fn sent_until_closed<H>(rt: &H, address: SocketAddr, text: &[u8]) -> io::Result<usize>
-where
-    H: Net<Listener = TcpListener, Stream = TcpStream> + Alloc<A = Global>,
-{
-    let mut client = TcpStream::connect(rt, address)?;
-    client.write_all(text)?;
-    let mut sent = Vec::new(rt.alloc());
-    client.read_to_end(&mut sent)?;
-    Ok(sent.len())
-}
-
 /// Flags, an option and a request that are none: their fixed parts are as long as those of others.
 const WRONG: [&[u8]; 3] = [
     b"\0\0\0\x04",
@@ -138,9 +135,9 @@ where
     H: Net<Listener = TcpListener, Stream = TcpStream> + Alloc<A = Global>,
 {
     Ok((
-        sent_until_closed(rt, address, WRONG[0])?,
-        sent_until_closed(rt, address, WRONG[1])?,
-        sent_until_closed(rt, address, WRONG[2])?,
+        send_and_wait(rt, address, WRONG[0], false)?,
+        send_and_wait(rt, address, WRONG[1], false)?,
+        send_and_wait(rt, address, WRONG[2], false)?,
     ))
 }
 

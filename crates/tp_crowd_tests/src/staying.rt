@@ -21,15 +21,32 @@ use tp_shelf::{Shelf, blank_shelf};
 /// So many clients come one after the other: more than are served at a time.
 const CLIENTS: u32 = 70;
 
-/// A client that was told of its volume. It waits 10 seconds at most for what it reads.
+/// Has a client be told of its volume. It waits 10 seconds at most for what it reads.
+fn go(alloc: Global, client: &mut TcpStream) -> io::Result<()> {
+    client.set_read_timeout(Some(Duration::from_millis(10_000)))?;
+    exchange(alloc, client, GO, ANSWERED_GO as usize)?;
+    Ok(())
+}
+
+/// A client that was told of its volume.
 fn told_client<H>(rt: &H, clients: SocketAddr) -> io::Result<TcpStream>
 where
     H: Net<Listener = TcpListener, Stream = TcpStream> + Alloc<A = Global>,
 {
     let mut client = TcpStream::connect(rt, clients)?;
-    client.set_read_timeout(Some(Duration::from_millis(10_000)))?;
-    exchange(rt.alloc(), &mut client, GO, ANSWERED_GO as usize)?;
+    go(rt.alloc(), &mut client)?;
     Ok(client)
+}
+
+/// Sends a line: whether it is answered so.
+fn is_line_answered(
+    alloc: Global,
+    ruler: &mut TcpStream,
+    line: &[u8],
+    answer: &[u8],
+) -> io::Result<bool> {
+    ruler.set_read_timeout(Some(Duration::from_millis(10_000)))?;
+    Ok(exchange(alloc, ruler, line, answer.len())?.as_slice() == answer)
 }
 
 /// Says a line to those who serve: whether it is answered so.
@@ -38,8 +55,7 @@ where
     H: Net<Listener = TcpListener, Stream = TcpStream> + Alloc<A = Global>,
 {
     let mut ruler = TcpStream::connect(rt, control)?;
-    ruler.set_read_timeout(Some(Duration::from_millis(10_000)))?;
-    Ok(exchange(rt.alloc(), &mut ruler, line, answer.len())?.as_slice() == answer)
+    is_line_answered(rt.alloc(), &mut ruler, line, answer)
 }
 
 /// Whether it is answered that it is done.
@@ -84,20 +100,38 @@ where
     Ok((count as u32, done))
 }
 
-/// What is told while one client has a volume and another has none: how many of three lines are answered so, and whether all is stopped then.
-fn ask_beside<H>(rt: &H, clients: SocketAddr, control: SocketAddr) -> io::Result<(u32, bool)>
+/// How many of three lines are answered so.
+fn told_lines<H>(rt: &H, control: SocketAddr) -> io::Result<u32>
 where
     H: Net<Listener = TcpListener, Stream = TcpStream> + Alloc<A = Global>,
 {
-    let stays = told_client(rt, clients)?;
-    let other = greeted_client(rt, clients)?;
     let told = [
         is_answered(rt, control, b"clients\n", b"2 of 64: 0\n")?,
         is_answered(rt, control, b"flush\n", b"ok\n")?,
         is_answered(rt, control, b"flush now\n", b"refused 12\n")?,
     ];
+    Ok(count_so(&told))
+}
+
+/// The same while one client has a volume and another has none.
+fn told_lines_beside<H>(rt: &H, clients: SocketAddr, control: SocketAddr) -> io::Result<u32>
+where
+    H: Net<Listener = TcpListener, Stream = TcpStream> + Alloc<A = Global>,
+{
+    let stays = told_client(rt, clients)?;
+    let other = greeted_client(rt, clients)?;
+    let told = told_lines(rt, control);
     drop((stays, other));
-    Ok((count_so(&told), is_done(rt, control, b"stop now\n")?))
+    told
+}
+
+/// The same, and whether all is stopped then.
+fn ask_beside<H>(rt: &H, clients: SocketAddr, control: SocketAddr) -> io::Result<(u32, bool)>
+where
+    H: Net<Listener = TcpListener, Stream = TcpStream> + Alloc<A = Global>,
+{
+    let told = told_lines_beside(rt, clients, control)?;
+    Ok((told, is_done(rt, control, b"stop now\n")?))
 }
 
 /// A read of the first MiB.
@@ -112,19 +146,40 @@ fn many_reads(alloc: Global) -> Result<Vec<u8>, AllocError> {
     Ok(text)
 }
 
+/// Makes many reads, and takes only the head of what they are answered.
+fn take_a_head(alloc: Global, client: &mut TcpStream) -> io::Result<()> {
+    let reads = many_reads(alloc)?;
+    exchange(alloc, client, &reads, 16)?;
+    Ok(())
+}
+
+/// Tells those who serve to stop now: whether they end within 20 seconds, and whether that is done.
+fn stop_now(alloc: Global, ruler: &mut TcpStream) -> io::Result<(u32, bool)> {
+    ruler.set_read_timeout(Some(Duration::from_millis(20_000)))?;
+    let done = exchange(alloc, ruler, b"stop now\n", 3)?.as_slice() == b"ok\n".as_slice();
+    let is_over = matches!(ruler.read(&mut [0]), Ok(0));
+    Ok((u32::from(is_over), done))
+}
+
+/// The same by a new control client.
+fn stopped_now<H>(rt: &H, control: SocketAddr) -> io::Result<(u32, bool)>
+where
+    H: Net<Listener = TcpListener, Stream = TcpStream> + Alloc<A = Global>,
+{
+    let mut ruler = TcpStream::connect(rt, control)?;
+    stop_now(rt.alloc(), &mut ruler)
+}
+
 /// A client that takes only the head of what it is answered: whether those who serve end while it stays, and whether it is done that they are to stop now.
 fn take_nothing<H>(rt: &H, clients: SocketAddr, control: SocketAddr) -> io::Result<(u32, bool)>
 where
     H: Net<Listener = TcpListener, Stream = TcpStream> + Alloc<A = Global>,
 {
     let mut client = told_client(rt, clients)?;
-    exchange(rt.alloc(), &mut client, &many_reads(rt.alloc())?, 16)?;
-    let mut ruler = TcpStream::connect(rt, control)?;
-    ruler.set_read_timeout(Some(Duration::from_millis(20_000)))?;
-    let done = exchange(rt.alloc(), &mut ruler, b"stop now\n", 3)?.as_slice() == b"ok\n".as_slice();
-    let is_over = matches!(ruler.read(&mut [0]), Ok(0));
+    take_a_head(rt.alloc(), &mut client)?;
+    let told = stopped_now(rt, control);
     drop(client);
-    Ok((u32::from(is_over), done))
+    told
 }
 
 /// How many of these are so.
@@ -136,15 +191,36 @@ fn count_so(are: &[bool]) -> u32 {
     count
 }
 
-/// A client that was greeted. It waits 10 seconds at most for what it reads.
+/// Has a client be greeted. It waits 10 seconds at most for what it reads.
+fn be_greeted(client: &mut TcpStream) -> io::Result<()> {
+    client.set_read_timeout(Some(Duration::from_millis(10_000)))?;
+    client.read_exact(&mut [0; 18])
+}
+
+/// A client that was greeted.
 fn greeted_client<H>(rt: &H, clients: SocketAddr) -> io::Result<TcpStream>
 where
     H: Net<Listener = TcpListener, Stream = TcpStream>,
 {
     let mut client = TcpStream::connect(rt, clients)?;
-    client.set_read_timeout(Some(Duration::from_millis(10_000)))?;
-    client.read_exact(&mut [0; 18])?;
+    be_greeted(&mut client)?;
     Ok(client)
+}
+
+/// Adds so many of them.
+fn add_greeted<H>(
+    rt: &H,
+    clients: SocketAddr,
+    count: u32,
+    all: &mut Vec<TcpStream>,
+) -> io::Result<()>
+where
+    H: Net<Listener = TcpListener, Stream = TcpStream> + Alloc<A = Global>,
+{
+    for _ in 0..count {
+        all.push(greeted_client(rt, clients)?)?;
+    }
+    Ok(())
 }
 
 /// So many of them.
@@ -153,9 +229,7 @@ where
     H: Net<Listener = TcpListener, Stream = TcpStream> + Alloc<A = Global>,
 {
     let mut all = Vec::new(rt.alloc());
-    for _ in 0..count {
-        all.push(greeted_client(rt, clients)?)?;
-    }
+    add_greeted(rt, clients, count, &mut all)?;
     Ok(all)
 }
 
@@ -171,20 +245,33 @@ fn is_greeted(client: &mut TcpStream) -> io::Result<bool> {
     Ok(client.read_exact(&mut [0; 18]).is_ok())
 }
 
-/// One more client than are served at a time: whether it waits, and is greeted when another one has gone; and whether all is stopped then.
+/// Whether a client waits, and is greeted when one of these has gone; and whether all is stopped then.
+fn wait_for_one<H>(
+    rt: &H,
+    control: SocketAddr,
+    within: &mut Vec<TcpStream>,
+    more: &mut TcpStream,
+) -> io::Result<(u32, bool)>
+where
+    H: Net<Listener = TcpListener, Stream = TcpStream> + Alloc<A = Global>,
+{
+    let waits = is_kept_waiting(more)?;
+    drop(within.pop());
+    let greeted = is_greeted(more)?;
+    Ok((
+        count_so(&[waits, greeted]),
+        is_done(rt, control, b"stop now\n")?,
+    ))
+}
+
+/// The same of one more client than are served at a time.
 fn come_as_one_more<H>(rt: &H, clients: SocketAddr, control: SocketAddr) -> io::Result<(u32, bool)>
 where
     H: Net<Listener = TcpListener, Stream = TcpStream> + Alloc<A = Global>,
 {
     let mut within = greeted_clients(rt, clients, 64)?;
     let mut more = TcpStream::connect(rt, clients)?;
-    let waits = is_kept_waiting(&mut more)?;
-    drop(within.pop());
-    let greeted = is_greeted(&mut more)?;
-    Ok((
-        count_so(&[waits, greeted]),
-        is_done(rt, control, b"stop now\n")?,
-    ))
+    wait_for_one(rt, control, &mut within, &mut more)
 }
 
 /// Who comes while it is served.
@@ -276,6 +363,15 @@ where
     Ok((told?, left?))
 }
 
+/// A door of loopback, and its address.
+fn door_of_loopback<H>(rt: &H) -> io::Result<(Door, SocketAddr)>
+where
+    H: Net<Listener = TcpListener, Stream = TcpStream>,
+{
+    let (listener, address) = listening(rt)?;
+    Ok((Door::tcp(listener)?, address))
+}
+
 /// The same at doors of loopback.
 fn told_at_doors<H>(rt: &H, guests: Guests) -> Result<Told, Fail>
 where
@@ -286,10 +382,9 @@ where
         + Sync
         + Alloc<A = Global>,
 {
-    let (control, lines) = listening(rt)?;
-    let (listener, clients) = listening(rt)?;
-    let control = Door::tcp(control)?;
-    let doors = [Door::tcp(listener)?];
+    let (control, lines) = door_of_loopback(rt)?;
+    let (door, clients) = door_of_loopback(rt)?;
+    let doors = [door];
     told_beside(rt, guests, &doors, &control, (clients, lines))
 }
 

@@ -1,6 +1,6 @@
 //! How much of what a client sent is asked in one turn of it.
 
-use crate::talk::{FLUSH, GO, READ};
+use crate::talk::{FLUSH, GO, READ, joined};
 use crate::waiting::Seen;
 use nbd_session::Profile;
 use std::alloc::{AllocError, Global};
@@ -26,11 +26,7 @@ fn reads(alloc: Global) -> Result<Vec<u8>, AllocError> {
 
 /// Two flushes, each behind a read.
 fn reads_and_flushes(alloc: Global) -> Result<Vec<u8>, AllocError> {
-    let mut text = Vec::new(alloc);
-    for part in [READ, FLUSH, READ, FLUSH] {
-        text.extend_from_slice(part)?;
-    }
-    Ok(text)
+    joined(alloc, &[READ, FLUSH, READ, FLUSH])
 }
 
 /// Asks a piece from this byte on.

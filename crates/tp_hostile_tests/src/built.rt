@@ -1,14 +1,14 @@
 //! Images with trees that are built by hand: a volume's tree of three levels, and a tree of as many devices as there may be, and of one more.
 
 use crate::images::{
-    block_at, number_at, put_block, put_number, put_short, set_number, set_short, sizes,
+    block_at, closed, number_at, put_block, put_number, put_short, set_number, set_short, sizes,
 };
 use crate::told::{Answers, number_of, told_by_check, told_of};
 use std::alloc::Global;
 use std::test::Fail;
 use tp_disk::{Fault, MemDisk};
 use tp_model::{DevId, Geometry, Refusal};
-use tp_samples::{MemPool, close, create_snap, create_thin, empty, opened};
+use tp_samples::{MemPool, create_snap, create_thin, delete, empty, opened};
 
 /// The kinds of trees.
 const DEVICE: u32 = 1;
@@ -72,9 +72,7 @@ fn create_two(pool: &mut MemPool) -> Result<(), Refusal> {
 fn two_volumes(alloc: Global) -> Result<MemDisk, Fail> {
     let mut pool = empty(alloc, Geometry::new(128, 40_000, 1032, 4)?)?;
     create_two(&mut pool)?;
-    let (answer, disk) = close(pool);
-    answer?;
-    Ok(disk)
+    Ok(closed(pool)?)
 }
 
 /// The leaf in a block that maps 126 virtual blocks from one on, each to data block 0.
@@ -134,19 +132,29 @@ fn give(disk: &mut MemDisk, volume: usize, root: u64, mapped: u64) -> Result<(),
     set_short(disk, 2, 4 * (leaf % 1024) as usize, 0)
 }
 
+/// Gives volume 1 the tall tree.
+fn give_tall_tree(disk: &mut MemDisk) -> Result<(), Fault> {
+    put_tall_tree(disk)?;
+    give(disk, 1, TALL_ROOT, 31_752)
+}
+
 /// An image whose volume 1 has the tall tree.
 fn tall(alloc: Global) -> Result<MemDisk, Fail> {
     let mut disk = two_volumes(alloc)?;
-    put_tall_tree(&mut disk)?;
-    give(&mut disk, 1, TALL_ROOT, 31_752)?;
+    give_tall_tree(&mut disk)?;
     Ok(disk)
+}
+
+/// Gives volume 0 this root, so many mapped blocks, and then the root this count.
+fn give_counted(disk: &mut MemDisk, root: u64, mapped: u64, count: u32) -> Result<(), Fault> {
+    give(disk, 0, root, mapped)?;
+    set_short(disk, 2, 4 * (root % 1024) as usize, count)
 }
 
 /// What is told of that image where volume 0 has this root, so many mapped blocks, and where the root has this count then.
 fn told_of_root(alloc: Global, root: u64, mapped: u64, count: u32) -> Result<Answers, Fail> {
     let mut disk = tall(alloc)?;
-    give(&mut disk, 0, root, mapped)?;
-    set_short(&mut disk, 2, 4 * (root % 1024) as usize, count)?;
+    give_counted(&mut disk, root, mapped, count)?;
     Ok(told_of(alloc, disk))
 }
 
@@ -179,9 +187,7 @@ fn inner_nodes_of_others_are_told(rt: HostRuntime) -> Result<(), Fail> {
 fn one_volume(alloc: Global) -> Result<MemDisk, Fail> {
     let mut pool = empty(alloc, sizes()?)?;
     create_thin(&mut pool, DevId::new(0))?;
-    let (answer, disk) = close(pool);
-    answer?;
-    Ok(disk)
+    Ok(closed(pool)?)
 }
 
 /// The leaf in a block of so many devices from one on, each of which has this root.
@@ -243,22 +249,30 @@ fn put_devices(disk: &mut MemDisk, last: u32) -> Result<(), Fault> {
     set_number(disk, 1, 48, 703)
 }
 
-/// What a check tells of 65,466 devices and so many more, and what such a pool answers to a snapshot and a removal.
-fn told_of_devices(alloc: Global, last: u32) -> Result<[u8; 3], Fail> {
+/// The image of a pool with 65,466 devices and so many more.
+fn many_devices(alloc: Global, last: u32) -> Result<MemDisk, Fail> {
     let mut disk = one_volume(alloc)?;
     put_devices(&mut disk, last)?;
+    Ok(disk)
+}
+
+/// What a check tells of it, and what the pool answers to a snapshot and a removal.
+fn told_of_devices(alloc: Global, last: u32) -> Result<[u8; 3], Fail> {
+    let mut disk = many_devices(alloc, last)?;
     let checked = told_by_check(alloc, &mut disk);
-    let mut pool = opened(alloc, disk)?;
-    let (made, removed) = make_and_remove(&mut pool);
+    let (made, removed) = told_of_pool(alloc, disk)?;
     Ok([checked, made, removed])
+}
+
+fn told_of_pool(alloc: Global, disk: MemDisk) -> Result<(u8, u8), Refusal> {
+    let mut pool = opened(alloc, disk)?;
+    Ok(make_and_remove(&mut pool))
 }
 
 fn make_and_remove(pool: &mut MemPool) -> (u8, u8) {
     let made = create_snap(pool, DevId::new(16_777_215), DevId::new(0));
-    (
-        number_of(made),
-        number_of(tp_samples::delete(pool, DevId::new(0))),
-    )
+    let removed = delete(pool, DevId::new(0));
+    (number_of(made), number_of(removed))
 }
 
 #[test]

@@ -1,6 +1,6 @@
 //! Files whose length is no image's.
 
-use crate::images::{SECTORS, all_of, image};
+use crate::images::{SECTORS, bytes_of_image};
 use std::alloc::Global;
 use std::fs::{File, OpenOptions, remove_file};
 use std::rt::Files;
@@ -63,17 +63,31 @@ fn told_of_length<R: Files<File = File>>(
     }
 }
 
-/// The image as a file, with a byte more, whole, with a byte less; then with one byte, and with none.
+/// The same of a file that has a byte more than the image, is whole, has a byte less; then has one byte, and none.
+fn told_of_each<R: Files<File = File>>(
+    rt: &R,
+    alloc: Global,
+    name: &str,
+) -> Result<[Told; 5], Fail> {
+    Ok([
+        told_of_length(rt, alloc, name, 512 * SECTORS + 1)?,
+        told_of_length(rt, alloc, name, 512 * SECTORS)?,
+        told_of_length(rt, alloc, name, 512 * SECTORS - 1)?,
+        told_of_length(rt, alloc, name, 1)?,
+        told_of_length(rt, alloc, name, 0)?,
+    ])
+}
+
+/// Makes the image a file.
+fn make_image<R: Files<File = File>>(rt: &R, alloc: Global, name: &str) -> Result<(), Fail> {
+    let bytes = bytes_of_image(alloc)?;
+    Ok(make_file(rt, name, &bytes)?)
+}
+
+/// What is told of the image as a file of these lengths.
 fn told_of_lengths<R: Files<File = File>>(rt: &R, alloc: Global) -> Result<[Told; 5], Fail> {
-    let bytes = all_of(alloc, &mut image(alloc)?)?;
-    make_file(rt, "odd.img", &bytes)?;
-    let told = [
-        told_of_length(rt, alloc, "odd.img", 512 * SECTORS + 1)?,
-        told_of_length(rt, alloc, "odd.img", 512 * SECTORS)?,
-        told_of_length(rt, alloc, "odd.img", 512 * SECTORS - 1)?,
-        told_of_length(rt, alloc, "odd.img", 1)?,
-        told_of_length(rt, alloc, "odd.img", 0)?,
-    ];
+    make_image(rt, alloc, "odd.img")?;
+    let told = told_of_each(rt, alloc, "odd.img")?;
     remove_file(rt, "odd.img")?;
     Ok(told)
 }

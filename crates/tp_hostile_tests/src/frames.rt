@@ -24,10 +24,10 @@ pub(crate) struct Asked {
     pub(crate) len: u32,
 }
 
+/// Adds a request: the magic, the flags and the kind are one number of eight bytes.
 pub(crate) fn add_request(text: &mut Vec<u8>, asked: &Asked) -> Result<(), AllocError> {
-    text.extend_from_slice(b"\x25\x60\x95\x13")?;
-    text.extend_from_slice(&asked.flags.to_be_bytes())?;
-    text.extend_from_slice(&asked.kind.to_be_bytes())?;
+    let head = 0x2560_9513_0000_0000 | 0x1_0000 * asked.flags as u64 | asked.kind as u64;
+    text.extend_from_slice(&head.to_be_bytes())?;
     text.extend_from_slice(&asked.cookie.to_be_bytes())?;
     text.extend_from_slice(&asked.offset.to_be_bytes())?;
     text.extend_from_slice(&asked.len.to_be_bytes())
@@ -43,9 +43,9 @@ pub(crate) fn add_option(
     option: u32,
     payload: &[u8],
 ) -> Result<(), AllocError> {
+    let head = 0x1_0000_0000 * option as u64 | (payload.len() % 65_536) as u64;
     text.extend_from_slice(b"IHAVEOPT")?;
-    text.extend_from_slice(&option.to_be_bytes())?;
-    text.extend_from_slice(&((payload.len() % 65_536) as u32).to_be_bytes())?;
+    text.extend_from_slice(&head.to_be_bytes())?;
     text.extend_from_slice(payload)
 }
 

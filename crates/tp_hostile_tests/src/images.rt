@@ -40,11 +40,16 @@ pub(crate) fn filled(alloc: Global) -> Result<MemPool, Fail> {
     Ok(pool)
 }
 
-/// Its image.
-pub(crate) fn image(alloc: Global) -> Result<MemDisk, Fail> {
-    let (answer, disk) = close(filled(alloc)?);
+/// The disk of a pool whose closing is answered.
+pub(crate) fn closed(pool: MemPool) -> Result<MemDisk, Refusal> {
+    let (answer, disk) = close(pool);
     answer?;
     Ok(disk)
+}
+
+/// Its image.
+pub(crate) fn image(alloc: Global) -> Result<MemDisk, Fail> {
+    Ok(closed(filled(alloc)?)?)
 }
 
 /// Turns these bits of a byte of a metadata block the other way round.
@@ -63,28 +68,20 @@ pub(crate) fn flip(disk: &mut MemDisk, block: u64, place: usize, bits: u8) -> Re
 /// So many sectors of metadata are put back behind calls, which write no node behind these; and those of all data blocks.
 const HEAD: u64 = 320;
 
-/// What these sectors have.
-#[derive(Drop)]
-pub(crate) struct Kept {
-    head: Vec<u8>,
-    data: Vec<u8>,
-}
-
-/// So many sectors of a disk from one on.
-fn sectors_of(alloc: Global, disk: &mut MemDisk, at: u64, count: u64) -> Result<Vec<u8>, Fail> {
-    if count > SECTORS || at > SECTORS - count || disk.sectors() < SECTORS {
+/// The bytes of all sectors.
+pub(crate) fn all_of(alloc: Global, disk: &mut MemDisk) -> Result<Vec<u8>, Fail> {
+    if disk.sectors() < SECTORS {
         return Err(Fail::from(Refusal::BadGeometry));
     }
-    let mut bytes = Vec::from_elem(alloc, 0, SECTOR * count as usize)?;
-    disk.read(at, &mut bytes)?;
+    let mut bytes = Vec::from_elem(alloc, 0, SECTOR * SECTORS as usize)?;
+    disk.read(0, &mut bytes)?;
     Ok(bytes)
 }
 
-pub(crate) fn keep(alloc: Global, disk: &mut MemDisk) -> Result<Kept, Fail> {
-    Ok(Kept {
-        head: sectors_of(alloc, disk, 0, HEAD)?,
-        data: sectors_of(alloc, disk, DATA, SECTORS - DATA)?,
-    })
+/// Those of the image.
+pub(crate) fn bytes_of_image(alloc: Global) -> Result<Vec<u8>, Fail> {
+    let mut disk = image(alloc)?;
+    all_of(alloc, &mut disk)
 }
 
 /// Writes whole sectors, where the disk has them.
@@ -96,16 +93,15 @@ fn put(disk: &mut MemDisk, at: u64, bytes: &[u8]) -> Result<(), Fault> {
     disk.write(at, bytes)
 }
 
-/// Puts them back.
-pub(crate) fn put_back(disk: &mut MemDisk, kept: &Kept) -> Result<(), Fault> {
-    put(disk, 0, &kept.head)?;
-    put(disk, DATA, &kept.data)?;
+/// Puts them back, of these bytes of all sectors.
+pub(crate) fn put_back(disk: &mut MemDisk, bytes: &[u8]) -> Result<(), Fault> {
+    put(disk, 0, bytes.get(..SECTOR * HEAD as usize).unwrap_or(b""))?;
+    put(
+        disk,
+        DATA,
+        bytes.get(SECTOR * DATA as usize..).unwrap_or(b""),
+    )?;
     disk.flush()
-}
-
-/// The bytes of all sectors.
-pub(crate) fn all_of(alloc: Global, disk: &mut MemDisk) -> Result<Vec<u8>, Fail> {
-    sectors_of(alloc, disk, 0, SECTORS)
 }
 
 /// The bytes of a metadata block.

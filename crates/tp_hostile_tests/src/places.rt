@@ -1,31 +1,40 @@
 //! Images in which any one byte is another: what opening, a check and each call tell of them, and whether one that is clean shows what it did.
 
-use crate::images::{Kept, all_of, filled, flip, image, keep, put_back};
+use crate::images::{all_of, filled, flip, image, put_back};
 use crate::shown::{Shown, look, nothing};
-use crate::told::{Answers, CALLS, are_own, open_and_call, told_by_check};
+use crate::told::{Answers, CALLS, are_own, open_and_call, open_read_only, told_by_check};
 use std::alloc::Global;
 use std::test::Fail;
 use tp_disk::{Fault, MemDisk};
-use tp_meta::Meta;
-use tp_pool::Pool;
+use tp_samples::close;
 
-/// An image: what is put back of it, what it showed, and room for what it shows.
+/// An image: its bytes, what it showed, and room for what it shows.
 #[derive(Drop)]
 struct Sample {
-    kept: Kept,
+    bytes: Vec<u8>,
     before: Shown,
     now: Shown,
 }
 
+/// Looks at the pool of the image.
+fn look_at_filled(alloc: Global, shown: &mut Shown) -> Result<(), Fail> {
+    let mut pool = filled(alloc)?;
+    look(&mut pool, shown);
+    Ok(())
+}
+
+/// What the image shows.
+fn shown_before(alloc: Global) -> Result<Shown, Fail> {
+    let mut shown = nothing(alloc)?;
+    look_at_filled(alloc, &mut shown)?;
+    Ok(shown)
+}
+
 fn taken(alloc: Global, disk: &mut MemDisk) -> Result<Sample, Fail> {
-    let kept = keep(alloc, disk)?;
-    let mut before = nothing(alloc)?;
-    look(&mut filled(alloc)?, &mut before);
-    Ok(Sample {
-        kept,
-        before,
-        now: nothing(alloc)?,
-    })
+    let bytes = all_of(alloc, disk)?;
+    let before = shown_before(alloc)?;
+    let now = nothing(alloc)?;
+    Ok(Sample { bytes, before, now })
 }
 
 /// A byte that is another: its metadata block, its place there, and which bits of it are the other way round.
@@ -37,7 +46,7 @@ struct Change {
 }
 
 /// What is told of many images.
-#[derive(Drop)]
+#[derive(Clone, Copy)]
 struct Tally {
     /// How many are opened, and how many are refused by each number; the same of a check.
     opened: [u64; 40],
@@ -95,21 +104,45 @@ fn open_and_look(
     sample: &mut Sample,
     tally: &mut Tally,
 ) -> MemDisk {
-    match Pool::<MemDisk, Meta>::open_read_only(alloc, disk) {
+    match open_read_only(alloc, disk) {
         Ok(pool) => {
             let mut pool = pool;
             if answers[2] == 0 {
                 look(&mut pool, &mut sample.now);
                 tally.compare(&sample.before, &sample.now);
             }
-            let (_, disk) = pool.close();
-            disk
+            close(pool).1
         }
         Err((refusal, disk)) => {
             answers[1] = refusal.number();
             disk
         }
     }
+}
+
+/// Makes a byte another, and tells what a check tells then.
+fn change_and_check(alloc: Global, disk: &mut MemDisk, change: &Change) -> Result<u8, Fault> {
+    flip(disk, change.block, change.place, change.bits)?;
+    Ok(told_by_check(alloc, disk))
+}
+
+/// The image in which one byte is another.
+fn changed(
+    alloc: Global,
+    disk: MemDisk,
+    change: &Change,
+    answers: &mut Answers,
+) -> Result<MemDisk, Fault> {
+    let mut disk = disk;
+    answers[2] = change_and_check(alloc, &mut disk, change)?;
+    Ok(disk)
+}
+
+/// The image as it was.
+fn mended(disk: MemDisk, bytes: &[u8]) -> Result<MemDisk, Fault> {
+    let mut disk = disk;
+    put_back(&mut disk, bytes)?;
+    Ok(disk)
 }
 
 /// Tells of an image in which one byte is another, and puts all back.
@@ -121,14 +154,11 @@ fn try_change(
     tally: &mut Tally,
 ) -> Result<MemDisk, Fault> {
     let mut answers = [0; CALLS];
-    let mut disk = disk;
-    flip(&mut disk, change.block, change.place, change.bits)?;
-    answers[2] = told_by_check(alloc, &mut disk);
+    let disk = changed(alloc, disk, change, &mut answers)?;
     let disk = open_and_look(alloc, disk, &mut answers, sample, tally);
-    let mut disk = open_and_call(alloc, disk, &mut answers);
-    put_back(&mut disk, &sample.kept)?;
+    let disk = open_and_call(alloc, disk, &mut answers);
     tally.count(change, &answers);
-    Ok(disk)
+    mended(disk, &sample.bytes)
 }
 
 /// The same of each place of a block.
@@ -165,15 +195,29 @@ fn try_blocks(
     Ok(disk)
 }
 
-/// What is told of these images, and whether the disk is as before then.
+/// Whether a disk has these bytes.
+fn has_bytes(alloc: Global, disk: MemDisk, wanted: &[u8]) -> Result<bool, Fail> {
+    let mut disk = disk;
+    let bytes = all_of(alloc, &mut disk)?;
+    Ok(bytes.as_slice() == wanted)
+}
+
+/// What is told of these images of a disk, and whether it is as before then.
+fn told_of_disk(
+    alloc: Global,
+    disk: MemDisk,
+    blocks: &[u64],
+    sample: &mut Sample,
+) -> Result<(Tally, bool), Fail> {
+    let mut tally = Tally::new();
+    let disk = try_blocks(alloc, disk, blocks, sample, &mut tally)?;
+    Ok((tally, has_bytes(alloc, disk, &sample.bytes)?))
+}
+
 fn told_of_blocks(alloc: Global, blocks: &[u64]) -> Result<(Tally, bool), Fail> {
     let mut disk = image(alloc)?;
-    let before = all_of(alloc, &mut disk)?;
     let mut sample = taken(alloc, &mut disk)?;
-    let mut tally = Tally::new();
-    let mut disk = try_blocks(alloc, disk, blocks, &mut sample, &mut tally)?;
-    let behind = all_of(alloc, &mut disk)?;
-    Ok((tally, before.as_slice() == behind.as_slice()))
+    told_of_disk(alloc, disk, blocks, &mut sample)
 }
 
 /// What is told of images: how many are opened, and refused by 2, 3 and 4; how many are clean, and refused by 30 to 37; how many clean ones

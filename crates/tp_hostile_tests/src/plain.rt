@@ -58,13 +58,13 @@ struct Request {
     volume: u64,
 }
 
-/// The big-endian number of so many bytes at a place, where they are there.
-fn number(text: &[u8], at: usize, width: usize) -> Option<u64> {
+/// The big-endian number of so many bytes at a place, or of those that are there.
+fn number(text: &[u8], at: usize, width: usize) -> u64 {
     let mut value: u64 = 0;
-    for byte in text.get(at..at.checked_add(width)?)? {
+    for byte in text.get(at..).unwrap_or(b"").iter().take(width) {
         value = value.wrapping_mul(256) | *byte as u64;
     }
-    Some(value)
+    value
 }
 
 impl Request {
@@ -132,7 +132,7 @@ impl Request {
 }
 
 /// Writes from a place on, as far as there is one.
-fn copy_in(bytes: &mut [u8], at: usize, from: &[u8]) {
+pub(crate) fn copy_in(bytes: &mut [u8], at: usize, from: &[u8]) {
     if let Some(to) = bytes.get_mut(at..) {
         let count = to.len().min(from.len());
         to[..count].copy_from_slice(&from[..count]);
@@ -248,22 +248,13 @@ fn send_reply(
 ) -> Result<(), AllocError> {
     pool.options = pool.options.wrapping_add(1);
     send(out, 8, 0x3_e889_0455_65a9)?;
-    send(out, 4, option)?;
-    send(out, 4, kind)?;
+    send(out, 8, option.wrapping_mul(0x1_0000_0000) | kind)?;
     send(out, 4, payload.len() as u64)?;
     out.extend_from_slice(payload)
 }
 
-fn send_acknowledged(
-    pool: &mut PlainPool,
-    out: &mut Vec<u8>,
-    option: u64,
-) -> Result<(), AllocError> {
-    send_reply(pool, out, option, 1, b"")
-}
-
-/// Sends that an option failed in this way, which leaves a client where it is.
-fn send_failed(
+/// Sends a reply of this kind without data, by which no volume is chosen.
+fn send_none(
     pool: &mut PlainPool,
     out: &mut Vec<u8>,
     option: u64,
@@ -284,15 +275,13 @@ fn volume_of(name: &[u8]) -> Option<u64> {
 
 /// The name in the data of INFO and GO, where they have their form.
 fn name_in(payload: &[u8]) -> Option<&[u8]> {
-    let len = number(payload, 0, 4)? as usize;
-    let behind = len.checked_add(4)?;
-    let types = number(payload, behind, 2)? as usize;
-    let name = payload.get(4..behind)?;
-    let is_whole = payload.len()
-        == behind
-            .saturating_add(2)
-            .saturating_add(types.saturating_mul(2));
-    if is_whole { Some(name) } else { None }
+    let behind = (number(payload, 0, 4) as usize).saturating_add(4);
+    let types = (number(payload, behind, 2) as usize).saturating_mul(2);
+    if payload.len() == behind.saturating_add(2).saturating_add(types) {
+        payload.get(4..behind)
+    } else {
+        None
+    }
 }
 
 fn transmission_flags(pool: &PlainPool) -> u64 {
@@ -318,13 +307,39 @@ fn export(
     Ok(volume)
 }
 
-fn list(pool: &mut PlainPool, payload: &[u8], out: &mut Vec<u8>) -> Result<(), AllocError> {
+/// Answers LIST, by which no volume is chosen.
+fn list(
+    pool: &mut PlainPool,
+    payload: &[u8],
+    out: &mut Vec<u8>,
+) -> Result<Option<u64>, AllocError> {
     if payload.len() > 0 {
-        return send_reply(pool, out, 3, 0x8000_0003, b"");
+        return send_none(pool, out, 3, 0x8000_0003);
     }
     send_reply(pool, out, 3, 2, b"\0\0\0\x010")?;
     send_reply(pool, out, 3, 2, b"\0\0\0\x015")?;
-    send_acknowledged(pool, out, 3)
+    send_none(pool, out, 3, 1)
+}
+
+/// The volume that INFO and GO name, or the kind of the reply that none has this name.
+fn named_in(payload: &[u8]) -> Result<u64, u64> {
+    match name_in(payload) {
+        Some(name) => match volume_of(name) {
+            Some(volume) => Ok(volume),
+            None => Err(0x8000_0006),
+        },
+        None => Err(0x8000_0003),
+    }
+}
+
+/// Sends all that is told of a volume.
+fn send_infos(pool: &mut PlainPool, out: &mut Vec<u8>, option: u64) -> Result<(), AllocError> {
+    let flags = if pool.is_read_only { 0x6f } else { 0x6d };
+    let size = [0, 0, 0, 0, 0, 0, 0, 4, 0, 0, 0, flags];
+    let block: &[u8] = b"\0\x03\0\0\x02\0\0\0\x10\0\0\x10\0\0";
+    send_reply(pool, out, option, 3, &size)?;
+    send_reply(pool, out, option, 3, block)?;
+    send_reply(pool, out, option, 1, b"")
 }
 
 /// Answers INFO and GO: the volume, if one is named.
@@ -334,29 +349,39 @@ fn inform(
     payload: &[u8],
     out: &mut Vec<u8>,
 ) -> Result<Option<u64>, AllocError> {
-    let Some(name) = name_in(payload) else {
-        return send_failed(pool, out, option, 0x8000_0003);
-    };
-    let Some(volume) = volume_of(name) else {
-        return send_failed(pool, out, option, 0x8000_0006);
-    };
-    let flags = if pool.is_read_only { 0x6f } else { 0x6d };
-    send_reply(
-        pool,
-        out,
-        option,
-        3,
-        &[0, 0, 0, 0, 0, 0, 0, 4, 0, 0, 0, flags],
-    )?;
-    send_reply(
-        pool,
-        out,
-        option,
-        3,
-        b"\0\x03\0\0\x02\0\0\0\x10\0\0\x10\0\0",
-    )?;
-    send_acknowledged(pool, out, option)?;
-    Ok(Some(volume))
+    match named_in(payload) {
+        Ok(volume) => {
+            send_infos(pool, out, option)?;
+            Ok(Some(volume))
+        }
+        Err(kind) => send_none(pool, out, option, kind),
+    }
+}
+
+/// Answers an option: the volume, if it names one.
+fn answer(
+    pool: &mut PlainPool,
+    option: u64,
+    payload: &[u8],
+    no_zeroes: bool,
+    out: &mut Vec<u8>,
+) -> Result<Option<u64>, AllocError> {
+    match option {
+        1 => export(pool, payload, no_zeroes, out),
+        2 => send_none(pool, out, option, 1),
+        3 => list(pool, payload, out),
+        6 | 7 => inform(pool, option, payload, out),
+        _ => send_none(pool, out, option, 0x8000_0001),
+    }
+}
+
+/// What a client is at behind an option that named this volume, or none.
+fn phase_behind(option: u64, volume: Option<u64>, no_zeroes: bool) -> Phase {
+    match volume {
+        Some(volume) if option != 6 => Phase::Requests { volume },
+        None if option == 1 || option == 2 => Phase::Over,
+        _ => Phase::Options { no_zeroes },
+    }
 }
 
 /// Answers an option: what the client is at then.
@@ -367,29 +392,8 @@ fn answer_option(
     no_zeroes: bool,
     out: &mut Vec<u8>,
 ) -> Result<Phase, AllocError> {
-    let stays = Phase::Options { no_zeroes };
-    match option {
-        1 => match export(pool, payload, no_zeroes, out)? {
-            Some(volume) => Ok(Phase::Requests { volume }),
-            None => Ok(Phase::Over),
-        },
-        2 => {
-            send_acknowledged(pool, out, option)?;
-            Ok(Phase::Over)
-        }
-        3 => {
-            list(pool, payload, out)?;
-            Ok(stays)
-        }
-        6 | 7 => match inform(pool, option, payload, out)? {
-            Some(volume) if option == 7 => Ok(Phase::Requests { volume }),
-            _ => Ok(stays),
-        },
-        _ => {
-            send_reply(pool, out, option, 0x8000_0001, b"")?;
-            Ok(stays)
-        }
-    }
+    let volume = answer(pool, option, payload, no_zeroes, out)?;
+    Ok(phase_behind(option, volume, no_zeroes))
 }
 
 /// The end of a client at its so many first bytes.
@@ -401,7 +405,10 @@ fn over(taken: usize) -> Option<Heard> {
 }
 
 fn hear_flags(text: &[u8]) -> Option<Heard> {
-    let flags = number(text, 0, 4)?;
+    if text.len() < 4 {
+        return None;
+    }
+    let flags = number(text, 0, 4);
     if flags % 2 == 0 || flags > 3 {
         return over(4);
     }
@@ -415,8 +422,11 @@ fn hear_flags(text: &[u8]) -> Option<Heard> {
 
 /// The magic, the number and the length of an option.
 fn option_in(text: &[u8]) -> Option<(u64, u64, usize)> {
-    let len = number(text, 12, 4)? as usize;
-    Some((number(text, 0, 8)?, number(text, 8, 4)?, len))
+    if text.len() < 16 {
+        return None;
+    }
+    let len = number(text, 12, 4) as usize;
+    Some((number(text, 0, 8), number(text, 8, 4), len))
 }
 
 fn hear_option(
@@ -441,14 +451,31 @@ fn hear_option(
 
 /// The magic and the cookie of a request, and what it asks for.
 fn request_in(text: &[u8], volume: u64) -> Option<(u64, u64, Request)> {
+    if text.len() < 28 {
+        return None;
+    }
     let request = Request {
-        flags: number(text, 4, 2)?,
-        kind: number(text, 6, 2)?,
-        offset: number(text, 16, 8)?,
-        len: number(text, 24, 4)?,
+        flags: number(text, 4, 2),
+        kind: number(text, 6, 2),
+        offset: number(text, 16, 8),
+        len: number(text, 24, 4),
         volume,
     };
-    Some((number(text, 0, 4)?, number(text, 8, 8)?, request))
+    Some((number(text, 0, 4), number(text, 8, 8), request))
+}
+
+/// Does what a request asks for: the error, which is counted.
+fn error_of(pool: &mut PlainPool, request: &Request, payload: &[u8]) -> u32 {
+    let form = request.form_error();
+    let is_nothing = request.len == 0 && request.kind != 3;
+    let error = if form > 0 || is_nothing {
+        form
+    } else {
+        pool.perform(request, payload)
+    };
+    let place = error as usize % 40;
+    pool.errors[place] = pool.errors[place].wrapping_add(1);
+    error
 }
 
 /// Answers a request.
@@ -459,26 +486,14 @@ fn answer_request(
     payload: &[u8],
     out: &mut Vec<u8>,
 ) -> Result<(), AllocError> {
-    let form = request.form_error();
-    let is_nothing = request.len == 0 && request.kind != 3;
-    let error = if form > 0 || is_nothing {
-        form
-    } else {
-        pool.perform(request, payload)
-    };
-    let place = error as usize % 40;
-    pool.errors[place] = pool.errors[place].wrapping_add(1);
-    send(out, 4, 0x6744_6698)?;
-    send(out, 4, error as u64)?;
+    let error = error_of(pool, request, payload);
+    send(out, 8, 0x6744_6698_0000_0000 | error as u64)?;
     send(out, 8, cookie)?;
     if error > 0 || request.kind > 0 {
         return Ok(());
     }
     let (begin, end) = request.range();
-    match pool.bytes.get(begin..end) {
-        Some(part) => out.extend_from_slice(part),
-        None => Ok(()),
-    }
+    out.extend_from_slice(pool.bytes.get(begin..end).unwrap_or(b""))
 }
 
 fn hear_request(

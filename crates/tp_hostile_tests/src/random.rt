@@ -70,61 +70,72 @@ fn name_of(random: &mut Random) -> &'static [u8] {
     }
 }
 
+/// A number below this one now and then, and else the one that is right.
+fn mostly(random: &mut Random, end: u32, right: u32) -> u32
+    requires { 0 < end }
+{
+    if random.happens(12) {
+        random.below(end as u64) as u32
+    } else {
+        right
+    }
+}
+
 /// Data of INFO and GO, mostly in their form.
 fn add_name(random: &mut Random, text: &mut Vec<u8>) -> Result<(), AllocError> {
     let name = name_of(random);
     let types = random.below(4) as u16;
-    let len = if random.happens(12) {
-        random.below(20) as u32
-    } else {
-        (name.len() % 100) as u32
-    };
+    let len = mostly(random, 20, (name.len() % 100) as u32);
+    let bytes = mostly(random, 9, 2 * types as u32);
     text.extend_from_slice(&len.to_be_bytes())?;
     text.extend_from_slice(name)?;
     text.extend_from_slice(&types.to_be_bytes())?;
-    let bytes = if random.happens(12) {
-        random.below(9)
-    } else {
-        2 * types as u64
-    };
     add_fill(text, 3, bytes as usize)
+}
+
+/// The byte that fills the data of an option of this choice, and how many there are.
+fn filling_of(random: &mut Random, choice: u64) -> (u8, u64) {
+    match choice {
+        0 => (0x30, random.below(3)),
+        1..=3 | 17 => (0, 0),
+        4 => (1, random.below(5)),
+        16 => (7, 8100 + random.below(200)),
+        _ => (random.byte(), random.below(40)),
+    }
+}
+
+/// Its number.
+fn option_of(random: &mut Random, choice: u64) -> u32 {
+    match choice {
+        0 => 2,
+        1..=4 => 3,
+        5..=9 => 6,
+        10..=14 => 7,
+        15 => 1,
+        16 => 9,
+        17 => random.below(4_000_000) as u32,
+        _ => 4 + random.below(8) as u32,
+    }
+}
+
+/// The data of an option of this choice.
+fn add_data(random: &mut Random, payload: &mut Vec<u8>, choice: u64) -> Result<(), AllocError> {
+    match choice {
+        5..=14 => add_name(random, payload),
+        15 => payload.extend_from_slice(name_of(random)),
+        _ => {
+            let (byte, count) = filling_of(random, choice);
+            add_fill(payload, byte, count as usize)
+        }
+    }
 }
 
 /// The number of an option and its data, which come into `payload`.
 fn choose_option(random: &mut Random, payload: &mut Vec<u8>) -> Result<u32, AllocError> {
     payload.clear();
-    match random.below(24) {
-        0 => {
-            add_fill(payload, 0x30, random.below(3) as usize)?;
-            Ok(2)
-        }
-        1..=3 => Ok(3),
-        4 => {
-            add_fill(payload, 1, random.below(5) as usize)?;
-            Ok(3)
-        }
-        5..=9 => {
-            add_name(random, payload)?;
-            Ok(6)
-        }
-        10..=14 => {
-            add_name(random, payload)?;
-            Ok(7)
-        }
-        15 => {
-            payload.extend_from_slice(name_of(random))?;
-            Ok(1)
-        }
-        16 => {
-            add_fill(payload, 7, 8100 + random.below(200) as usize)?;
-            Ok(9)
-        }
-        17 => Ok(random.below(4_000_000) as u32),
-        _ => {
-            add_fill(payload, random.byte(), random.below(40) as usize)?;
-            Ok(4 + random.below(8) as u32)
-        }
-    }
+    let choice = random.below(24);
+    add_data(random, payload, choice)?;
+    Ok(option_of(random, choice))
 }
 
 /// A length, mostly of whole sectors.
@@ -223,29 +234,46 @@ fn add_random_request(random: &mut Random, text: &mut Vec<u8>) -> Result<(), All
     Ok(())
 }
 
+fn add_random_option(
+    random: &mut Random,
+    text: &mut Vec<u8>,
+    payload: &mut Vec<u8>,
+) -> Result<(), AllocError> {
+    let option = choose_option(random, payload)?;
+    add_option(text, option, payload)
+}
+
+/// The data of EXPORT_NAME, or of GO, of either volume.
+fn data_of(is_export: bool, is_first: bool) -> &'static [u8] {
+    match (is_export, is_first) {
+        (true, true) => b"0",
+        (true, false) => b"5",
+        (false, true) => b"\0\0\0\x010\0\0",
+        (false, false) => b"\0\0\0\x015\0\0",
+    }
+}
+
+/// Adds an option by which a volume is chosen.
+fn add_choice(random: &mut Random, text: &mut Vec<u8>) -> Result<(), AllocError> {
+    let is_export = random.happens(4);
+    let is_first = random.happens(2);
+    let option = if is_export { 1 } else { 7 };
+    add_option(text, option, data_of(is_export, is_first))
+}
+
 fn add_options(
     random: &mut Random,
     text: &mut Vec<u8>,
     payload: &mut Vec<u8>,
 ) -> Result<(), AllocError> {
     for _ in 0..random.below(4) {
-        let option = choose_option(random, payload)?;
-        add_option(text, option, payload)?;
+        add_random_option(random, text, payload)?;
     }
     if random.happens(16) {
-        return Ok(());
-    }
-    payload.clear();
-    if random.happens(4) {
-        let name: &[u8] = if random.happens(2) { b"0" } else { b"5" };
-        return add_option(text, 1, name);
-    }
-    let name: &[u8] = if random.happens(2) {
-        b"\0\0\0\x010\0\0"
+        Ok(())
     } else {
-        b"\0\0\0\x015\0\0"
-    };
-    add_option(text, 7, name)
+        add_choice(random, text)
+    }
 }
 
 /// Breaks a text: a byte becomes another, or the end is cut off, or something stands behind it.
@@ -266,6 +294,24 @@ fn break_text(random: &mut Random, text: &mut Vec<u8>) -> Result<(), AllocError>
     }
 }
 
+fn add_requests(random: &mut Random, text: &mut Vec<u8>) -> Result<(), AllocError> {
+    for _ in 0..random.below(14) {
+        add_random_request(random, text)?;
+    }
+    Ok(())
+}
+
+/// Adds what one client sends, whole.
+fn add_whole(
+    random: &mut Random,
+    text: &mut Vec<u8>,
+    payload: &mut Vec<u8>,
+) -> Result<(), AllocError> {
+    text.extend_from_slice(&flags_of(random).to_be_bytes())?;
+    add_options(random, text, payload)?;
+    add_requests(random, text)
+}
+
 /// Puts what one client sends into `text`; `payload` is room for the data of options.
 pub(crate) fn make_text(
     random: &mut Random,
@@ -273,15 +319,12 @@ pub(crate) fn make_text(
     payload: &mut Vec<u8>,
 ) -> Result<(), AllocError> {
     text.clear();
-    text.extend_from_slice(&flags_of(random).to_be_bytes())?;
-    add_options(random, text, payload)?;
-    for _ in 0..random.below(14) {
-        add_random_request(random, text)?;
-    }
+    add_whole(random, text, payload)?;
     if random.happens(3) {
-        break_text(random, text)?;
+        break_text(random, text)
+    } else {
+        Ok(())
     }
-    Ok(())
 }
 
 /// The length of the next piece of a text.

@@ -1,11 +1,12 @@
 //! Images that are changed at a few chosen places, or as a whole.
 
-use crate::images::{DATA, SECTORS, all_of, block_at, image, put_block, set_number, set_short};
+use crate::images::{
+    DATA, SECTORS, block_at, bytes_of_image, image, put_block, set_number, set_short,
+};
 use crate::told::{Answers, told_of};
 use std::alloc::Global;
 use std::test::Fail;
 use tp_disk::{Disk, Fault, MemDisk};
-use tp_model::Refusal;
 
 /// What is made of the image of `images`.
 #[derive(Clone, Copy)]
@@ -307,17 +308,28 @@ fn greatest_numbers_are_told(rt: HostRuntime) -> Result<(), Fail> {
     Ok(())
 }
 
+/// Fills a disk of so many sectors with the first of these bytes.
+fn put_first(disk: &mut MemDisk, sectors: u64, bytes: &[u8]) -> Result<(), Fault> {
+    let Some(first) = bytes.get(..sectors.min(SECTORS) as usize * 512) else {
+        return Err(Fault);
+    };
+    if first.len() % 512 != 0 || first.len() as u64 / 512 != disk.sectors() {
+        return Err(Fault);
+    }
+    disk.write(0, first)
+}
+
+/// A disk of so many sectors, filled so.
+fn disk_of(alloc: Global, sectors: u64, bytes: &[u8]) -> Result<MemDisk, Fail> {
+    let mut disk = MemDisk::new(alloc, sectors)?;
+    put_first(&mut disk, sectors, bytes)?;
+    Ok(disk)
+}
+
 /// What is told of the first sectors of the image, so many of them.
 fn told_of_first(alloc: Global, sectors: u64) -> Result<Answers, Fail> {
-    let bytes = all_of(alloc, &mut image(alloc)?)?;
-    let mut disk = MemDisk::new(alloc, sectors)?;
-    let Some(first) = bytes.get(..sectors.min(SECTORS) as usize * 512) else {
-        return Err(Fail::from(Refusal::BadGeometry));
-    };
-    if first.len() as u64 != 512 * disk.sectors() {
-        return Err(Fail::from(Refusal::BadGeometry));
-    }
-    disk.write(0, first)?;
+    let bytes = bytes_of_image(alloc)?;
+    let disk = disk_of(alloc, sectors, &bytes)?;
     Ok(told_of(alloc, disk))
 }
 

@@ -3,7 +3,7 @@
 use std::alloc::Global;
 use std::test::Fail;
 use tp_model::DevId;
-use tp_samples::{MemPool, read};
+use tp_samples::{MemPool, read, volume_blocks};
 
 /// Bytes of a volume, and of three.
 const VOLUME: usize = 131_072;
@@ -52,7 +52,7 @@ fn read_to(pool: &mut MemPool, id: DevId, bytes: &mut [u8], at: usize) {
 }
 
 fn size_of(pool: &mut MemPool, id: DevId) -> u32 {
-    match pool.volume_blocks(id) {
+    match volume_blocks(pool, id) {
         Ok(blocks) => blocks,
         Err(_) => 0,
     }

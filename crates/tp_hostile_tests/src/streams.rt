@@ -3,7 +3,8 @@
 ghost use Rattle.std.specs.Prelude.{◌≡◌, [], IfOk};
 
 use crate::frames::{Asked, READ, add_first, add_option, add_request};
-use crate::plain::{PlainPool, VOLUME, serve};
+use crate::images::closed;
+use crate::plain::{PlainPool, VOLUME, copy_in, serve};
 use crate::random::{Random, make_text, piece_of};
 use crate::told::told_by_check;
 use nbd_session::Profile;
@@ -168,11 +169,10 @@ fn is_served<V: Managed>(
     Ok(heard.is_over == is_over && heard.sent.as_slice() == heard.wanted.as_slice())
 }
 
-/// A client that reads the volume of a name of one digit.
-fn reader(alloc: Global, name: u8) -> Result<Vec<u8>, AllocError> {
-    let mut text = Vec::new(alloc);
+/// Adds what a client sends that reads the volume of a name of one digit.
+fn add_reader(text: &mut Vec<u8>, name: u8) -> Result<(), AllocError> {
     text.extend_from_slice(b"\0\0\0\x03")?;
-    add_option(&mut text, 7, &[0, 0, 0, 1, name, 0, 0])?;
+    add_option(text, 7, &[0, 0, 0, 1, name, 0, 0])?;
     let asked = Asked {
         flags: 0,
         kind: READ,
@@ -180,7 +180,12 @@ fn reader(alloc: Global, name: u8) -> Result<Vec<u8>, AllocError> {
         offset: 0,
         len: VOLUME as u32,
     };
-    add_request(&mut text, &asked)?;
+    add_request(text, &asked)
+}
+
+fn reader(alloc: Global, name: u8) -> Result<Vec<u8>, AllocError> {
+    let mut text = Vec::new(alloc);
+    add_reader(&mut text, name)?;
     Ok(text)
 }
 
@@ -230,10 +235,12 @@ fn first_unserved<V: Managed>(
 }
 
 fn no_texts(alloc: Global) -> Result<Texts, AllocError> {
+    let first = reader(alloc, b'0')?;
+    let second = reader(alloc, b'5')?;
     Ok(Texts {
         text: Vec::new(alloc),
         payload: Vec::new(alloc),
-        readers: [reader(alloc, b'0')?, reader(alloc, b'5')?],
+        readers: [first, second],
         bytes: 0,
     })
 }
@@ -242,25 +249,17 @@ fn no_texts(alloc: Global) -> Result<Texts, AllocError> {
 /// answered, and requests without an error and with 1, 5, 22 and 28; and how many sessions were ended.
 type Told = (Option<u64>, [u64; 2], u64, [u64; 5], u64);
 
-fn told_of_clients<V: Managed>(
+fn told_of_heard<V: Managed>(
     alloc: Global,
     hub: &mut Hub<V>,
     plain: &mut PlainPool,
     seed: u64,
+    texts: &mut Texts,
+    heard: &mut Heard,
     clients: u64,
 ) -> Result<Told, AllocError> {
-    let mut heard = Heard::new(alloc);
-    let mut texts = no_texts(alloc)?;
     let mut random = Random::from(seed);
-    let first = first_unserved(
-        alloc,
-        hub,
-        plain,
-        &mut random,
-        &mut texts,
-        &mut heard,
-        clients,
-    )?;
+    let first = first_unserved(alloc, hub, plain, &mut random, texts, heard, clients)?;
     let errors = [
         plain.errors[0],
         plain.errors[1],
@@ -277,9 +276,38 @@ fn told_of_clients<V: Managed>(
     ))
 }
 
+fn told_of_texts<V: Managed>(
+    alloc: Global,
+    hub: &mut Hub<V>,
+    plain: &mut PlainPool,
+    seed: u64,
+    texts: &mut Texts,
+    clients: u64,
+) -> Result<Told, AllocError> {
+    let mut heard = Heard::new(alloc);
+    told_of_heard(alloc, hub, plain, seed, texts, &mut heard, clients)
+}
+
+fn told_of_clients<V: Managed>(
+    alloc: Global,
+    hub: &mut Hub<V>,
+    plain: &mut PlainPool,
+    seed: u64,
+    clients: u64,
+) -> Result<Told, AllocError> {
+    let mut texts = no_texts(alloc)?;
+    told_of_texts(alloc, hub, plain, seed, &mut texts, clients)
+}
+
 /// Whether a volume holds what it should.
 fn holds(pool: &mut MemPool, id: DevId, wanted: &[u8], room: &mut [u8]) -> bool {
     read(pool, id, 0, room).is_ok() && *room == *wanted
+}
+
+/// Whether volume 0 of a pool does that is not used any more.
+fn held(pool: MemPool, wanted: &[u8], room: &mut [u8]) -> bool {
+    let mut pool = pool;
+    holds(&mut pool, DevId::new(0), wanted, room)
 }
 
 /// Whether both volumes do.
@@ -289,14 +317,23 @@ fn hold_both(pool: &mut MemPool, plain: &PlainPool, room: &mut [u8]) -> bool {
     holds(pool, DevId::new(0), first, room) && holds(pool, DevId::new(5), second, room)
 }
 
-/// Whether both do behind all clients, and the number that a check tells of the image once the pool is closed.
-fn told_behind(alloc: Global, pool: MemPool, plain: &PlainPool) -> Result<(bool, u8), Fail> {
+fn are_held(alloc: Global, pool: &mut MemPool, plain: &PlainPool) -> Result<bool, AllocError> {
     let mut room = Vec::from_elem(alloc, 0, VOLUME as usize)?;
-    let mut pool = pool;
-    let are_held = hold_both(&mut pool, plain, &mut room);
+    Ok(hold_both(pool, plain, &mut room))
+}
+
+/// The number that a check tells of the image of a pool that is closed.
+fn told_of_closed(alloc: Global, pool: MemPool) -> u8 {
     let (_, disk) = close(pool);
     let mut disk = disk;
-    Ok((are_held, told_by_check(alloc, &mut disk)))
+    told_by_check(alloc, &mut disk)
+}
+
+/// Whether both do behind all clients, and the number that a check tells of the image once the pool is closed.
+fn told_behind(alloc: Global, pool: MemPool, plain: &PlainPool) -> Result<(bool, u8), Fail> {
+    let mut pool = pool;
+    let are_held = are_held(alloc, &mut pool, plain)?;
+    Ok((are_held, told_of_closed(alloc, pool)))
 }
 
 /// What is told of so many clients of a pool, and behind them.
@@ -329,25 +366,39 @@ fn random_clients(rt: HostRuntime) -> Result<(), Fail> {
     Ok(())
 }
 
-/// A pool whose first sector is written, closed and opened to read only.
+/// The disk of a pool whose first sector is written.
+fn disk_written(alloc: Global) -> Result<MemDisk, Refusal> {
+    let mut pool = two_volumes(alloc)?;
+    write(&mut pool, DevId::new(0), 0, &[0x61; 512])?;
+    closed(pool)
+}
+
+/// The pool of that, opened to read only.
 fn read_only(alloc: Global) -> Result<MemPool, Refusal>
     ensures { IfOk result (λ pool. pool.holders ≡ []) }
 {
-    let mut pool = two_volumes(alloc)?;
-    write(&mut pool, DevId::new(0), 0, &[0x61; 512])?;
-    let (answer, disk) = close(pool);
-    answer?;
-    match Pool::<MemDisk, Meta>::open_read_only(alloc, disk) {
+    match Pool::<MemDisk, Meta>::open_read_only(alloc, disk_written(alloc)?) {
         Ok(pool) => Ok(pool),
         Err((refusal, _)) => Err(refusal),
     }
 }
 
+/// Serves a client that sends this.
+fn serve_text(alloc: Global, plain: &mut PlainPool, text: &[u8]) -> Result<(), AllocError> {
+    let mut out = Vec::new(alloc);
+    serve(plain, text, &mut out)
+}
+
+/// Serves the first client.
+fn serve_first(alloc: Global, plain: &mut PlainPool) -> Result<(), AllocError> {
+    let text = first_text(alloc)?;
+    serve_text(alloc, plain, &text)
+}
+
 /// The plain pool with the same.
 fn plain_written(alloc: Global) -> Result<PlainPool, AllocError> {
     let mut plain = PlainPool::new(alloc)?;
-    let mut out = Vec::new(alloc);
-    serve(&mut plain, &first_text(alloc)?, &mut out)?;
+    serve_first(alloc, &mut plain)?;
     plain.is_read_only = true;
     Ok(plain)
 }
@@ -468,6 +519,23 @@ fn names_longer_than_the_option_are_invalid(rt: HostRuntime) -> Result<(), Fail>
 const WRITTEN: usize = 567;
 
 /// How many bytes a client is sent that sends this and goes, where they are a beginning of all that the whole text is answered.
+fn begun_so<V: Managed>(
+    alloc: Global,
+    hub: &mut Hub<V>,
+    text: &[u8],
+    all: &[u8],
+    heard: &mut Heard,
+) -> Result<Option<usize>, AllocError> {
+    let mut cuts = Random::from(text.len() as u64);
+    visit(alloc, hub, text, &mut cuts, heard)?;
+    let is_begun = all.starts_with(heard.sent.as_slice());
+    Ok(if is_begun {
+        Some(heard.sent.len())
+    } else {
+        None
+    })
+}
+
 fn begun<V: Managed>(
     alloc: Global,
     hub: &mut Hub<V>,
@@ -475,14 +543,7 @@ fn begun<V: Managed>(
     all: &[u8],
 ) -> Result<Option<usize>, AllocError> {
     let mut heard = Heard::new(alloc);
-    let mut cuts = Random::from(text.len() as u64);
-    visit(alloc, hub, text, &mut cuts, &mut heard)?;
-    let is_begun = all.starts_with(heard.sent.as_slice());
-    Ok(if is_begun {
-        Some(heard.sent.len())
-    } else {
-        None
-    })
+    begun_so(alloc, hub, text, all, &mut heard)
 }
 
 /// The same where volume 0 holds what it should then.
@@ -495,30 +556,53 @@ fn beginning(
 ) -> Result<Option<usize>, Fail> {
     let mut hub = hub_of(two_volumes(alloc)?);
     let begun = begun(alloc, &mut hub, text, all)?;
-    let mut pool = hub.into_pool();
-    Ok(if holds(&mut pool, DevId::new(0), wanted, room) {
+    Ok(if held(hub.into_pool(), wanted, room) {
         begun
     } else {
         None
     })
 }
 
-/// How many bytes are sent of all beginnings of a text, together; or the first beginning, by its length, of which that is not so.
-fn told_of_beginnings(alloc: Global, text: &[u8]) -> Result<Result<usize, usize>, Fail> {
+/// How many bytes are sent of all beginnings of a text, together; or the first beginning, by its length, of which that is not so. In the bytes that
+/// volume 0 should hold nothing is written yet.
+fn sent_of_beginnings(
+    alloc: Global,
+    text: &[u8],
+    all: &[u8],
+    wanted: &mut [u8],
+    room: &mut [u8],
+) -> Result<Result<usize, usize>, Fail> {
     let mut sent = 0usize;
-    let all = told_at_once(alloc, text)?;
-    let zeros = Vec::from_elem(alloc, 0, VOLUME as usize)?;
-    let mut written = Vec::from_elem(alloc, 0x61, 512)?;
-    written.resize(VOLUME as usize, 0)?;
-    let mut room = Vec::from_elem(alloc, 0, VOLUME as usize)?;
     for end in 0..text.len() + 1 {
-        let wanted = if end < WRITTEN { &zeros } else { &written };
-        let Some(more) = beginning(alloc, &text[..end], &all, wanted, &mut room)? else {
+        if end == WRITTEN {
+            copy_in(wanted, 0, &[0x61; 512]);
+        }
+        let Some(more) = beginning(alloc, &text[..end], all, wanted, room)? else {
             return Ok(Err(end));
         };
         sent = sent.wrapping_add(more);
     }
     Ok(Ok(sent))
+}
+
+fn told_with_room(
+    alloc: Global,
+    text: &[u8],
+    all: &[u8],
+    room: &mut [u8],
+) -> Result<Result<usize, usize>, Fail> {
+    let mut wanted = Vec::from_elem(alloc, 0, VOLUME as usize)?;
+    sent_of_beginnings(alloc, text, all, &mut wanted, room)
+}
+
+fn told_of_all(alloc: Global, text: &[u8], all: &[u8]) -> Result<Result<usize, usize>, Fail> {
+    let mut room = Vec::from_elem(alloc, 0, VOLUME as usize)?;
+    told_with_room(alloc, text, all, &mut room)
+}
+
+fn told_of_beginnings(alloc: Global, text: &[u8]) -> Result<Result<usize, usize>, Fail> {
+    let all = told_at_once(alloc, text)?;
+    told_of_all(alloc, text, &all)
 }
 
 fn first_text(alloc: Global) -> Result<Vec<u8>, AllocError> {
@@ -527,10 +611,16 @@ fn first_text(alloc: Global) -> Result<Vec<u8>, AllocError> {
     Ok(text)
 }
 
+/// How long the first text is, and what is told of its beginnings.
+fn told_of_first(alloc: Global) -> Result<(usize, Result<usize, usize>), Fail> {
+    let text = first_text(alloc)?;
+    let sent = told_of_beginnings(alloc, &text)?;
+    Ok((text.len(), sent))
+}
+
 #[test]
 fn every_beginning_of_the_first_session(rt: HostRuntime) -> Result<(), Fail> {
-    let text = first_text(rt.alloc())?;
-    let sent = told_of_beginnings(rt.alloc(), &text)?;
-    assert_eq!(rt; (text.len(), sent), (651, Ok(97_406)));
+    let told = told_of_first(rt.alloc())?;
+    assert_eq!(rt; told, (651, Ok(97_406)));
     Ok(())
 }

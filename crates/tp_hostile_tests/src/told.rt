@@ -6,7 +6,7 @@ use tp_disk::MemDisk;
 use tp_meta::Meta;
 use tp_model::{DevId, Refusal};
 use tp_pool::Pool;
-use tp_samples::{MemPool, SECTOR, create_snap, delete, flush, read, write};
+use tp_samples::{MemPool, SECTOR, close, create_snap, delete, flush, read, write};
 
 /// The calls that are made of an image, and of a pool that is opened of it.
 pub(crate) const CALLS: usize = 10;
@@ -92,8 +92,7 @@ pub(crate) fn open_and_call(alloc: Global, disk: MemDisk, answers: &mut Answers)
         Ok(pool) => {
             let mut pool = pool;
             call_each(&mut pool, answers);
-            let (_, disk) = pool.close();
-            disk
+            close(pool).1
         }
         Err((refusal, disk)) => {
             answers[0] = refusal.number();
@@ -102,13 +101,15 @@ pub(crate) fn open_and_call(alloc: Global, disk: MemDisk, answers: &mut Answers)
     }
 }
 
+/// The pool of an image, opened to read only.
+pub(crate) fn open_read_only(alloc: Global, disk: MemDisk) -> Result<MemPool, (Refusal, MemDisk)> {
+    Pool::<MemDisk, Meta>::open_read_only(alloc, disk)
+}
+
 /// Opens an image to read only, and gives the disk back.
 pub(crate) fn open_to_read(alloc: Global, disk: MemDisk, answers: &mut Answers) -> MemDisk {
-    match Pool::<MemDisk, Meta>::open_read_only(alloc, disk) {
-        Ok(pool) => {
-            let (_, disk) = pool.close();
-            disk
-        }
+    match open_read_only(alloc, disk) {
+        Ok(pool) => close(pool).1,
         Err((refusal, disk)) => {
             answers[1] = refusal.number();
             disk

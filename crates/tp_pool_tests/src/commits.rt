@@ -18,28 +18,16 @@ const BLOCK: usize = 128 * SECTOR;
 const OPENING: u64 = 6;
 
 /// What fills each of the first three blocks of volume 0, where one byte does, and how many data blocks are in use.
-#[derive(Clone, Copy, Debug, PartialEq, Eq)]
-struct Found {
-    fills: [Option<u8>; 3],
-    used: u64,
-}
+type Found = ([Option<u8>; 3], u64);
 
-impl Found {
-    /// Block 0 is filled with 1.
-    const FIRST: Found = Found {
-        fills: [Some(1), Some(0), Some(0)],
-        used: 1,
-    };
+/// Block 0 is filled with 1.
+const FIRST: Found = ([Some(1), Some(0), Some(0)], 1);
 
-    /// With a block that had no data block filled with a value.
-    fn with(self, block: usize, value: u8) -> Found {
-        let mut fills = self.fills;
-        fills[block % 3] = Some(value);
-        Found {
-            fills,
-            used: self.used.wrapping_add(1),
-        }
-    }
+/// The same with a block that had no data block filled with a value.
+fn with(found: Found, block: usize, value: u8) -> Found {
+    let (mut fills, used) = found;
+    fills[block % 3] = Some(value);
+    (fills, used.wrapping_add(1))
 }
 
 /// What fills a block of volume 0, if one byte does.
@@ -76,7 +64,7 @@ fn found_on(alloc: Global, disk: &MemDisk) -> Result<Found, Fail> {
     let mut copy = disk.stop(alloc, &[])?;
     let used = used_on(alloc, &mut copy)?;
     let fills = fills_on(alloc, copy)?;
-    Ok(Found { fills, used })
+    Ok((fills, used))
 }
 
 /// Fills a block of volume 0 and flushes.
@@ -125,11 +113,10 @@ fn value_of(block: u64) -> u8 {
 fn is_right(alloc: Global, begin: &MemDisk, left: &MemDisk, block: u64) -> Result<bool, Fail> {
     let before = found_on(alloc, begin)?;
     let after = found_on(alloc, left)?;
-    Ok(after == before || after == before.with(block as usize, value_of(block)))
+    Ok(after == before || after == with(before, block as usize, value_of(block)))
 }
 
-/// What a stop leaves of filling a block while this call fails, and whether that is clean and what was found before, or that with
-/// the block filled.
+/// What a stop leaves of filling a block while this call fails, and whether that was told.
 fn stopped_in(
     alloc: Global,
     begin: &MemDisk,
@@ -137,19 +124,38 @@ fn stopped_in(
     block: u64,
     stop: &Stop,
 ) -> Result<(bool, MemDisk), Fail> {
-    let value = value_of(block);
-    let (answer, disk) = filled(alloc, begin, call, block, value)?;
-    let mut left = stopped(alloc, &disk, stop)?;
-    let is_clean = check(alloc, &mut left).is_ok();
-    let is_right = is_right(alloc, begin, &left, block)?;
-    Ok((answer.is_err() && is_clean && is_right, left))
+    let (answer, disk) = filled(alloc, begin, call, block, value_of(block))?;
+    Ok((answer.is_err(), stopped(alloc, &disk, stop)?))
+}
+
+/// Whether what is left is clean and what was found before, or that with the block filled.
+fn is_left(alloc: Global, begin: &MemDisk, left: &mut MemDisk, block: u64) -> Result<bool, Fail> {
+    Ok(check(alloc, left).is_ok() && is_right(alloc, begin, left, block)?)
+}
+
+/// Whether the second commit leaves what it may.
+fn is_second_right(alloc: Global, begin: &MemDisk, call: u64, stop: &Stop) -> Result<bool, Fail> {
+    let (is_told, left) = stopped_in(alloc, begin, call, 2, stop)?;
+    let mut left = left;
+    Ok(is_left(alloc, begin, &mut left, 2)? && is_told)
+}
+
+/// Whether the first one left what it may, and the second one does.
+fn are_left(
+    alloc: Global,
+    begin: &MemDisk,
+    left: &mut MemDisk,
+    call: u64,
+    stop: &Stop,
+) -> Result<bool, Fail> {
+    Ok(is_left(alloc, begin, left, 1)? && is_second_right(alloc, left, call, stop)?)
 }
 
 /// Whether both commits leave what they may, stopped at the same place.
 fn are_right(alloc: Global, begin: &MemDisk, call: u64, stop: &Stop) -> Result<bool, Fail> {
-    let (first, left) = stopped_in(alloc, begin, call, 1, stop)?;
-    let (second, _) = stopped_in(alloc, &left, call, 2, stop)?;
-    Ok(first && second)
+    let (is_told, left) = stopped_in(alloc, begin, call, 1, stop)?;
+    let mut left = left;
+    Ok(are_left(alloc, begin, &mut left, call, stop)? && is_told)
 }
 
 /// The first stop of these in a commit, at this call, that leaves what it may not.
@@ -189,7 +195,7 @@ fn first_wrong(
 #[test]
 fn the_first_block_is_kept(rt: HostRuntime) -> Result<(), Fail> {
     let found = found_on(rt.alloc(), &begun(rt.alloc())?)?;
-    assert_eq!(rt; found, Found::FIRST);
+    assert_eq!(rt; found, FIRST);
     Ok(())
 }
 

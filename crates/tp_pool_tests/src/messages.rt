@@ -349,10 +349,12 @@ fn grow_all(pool: &mut MemPool) -> [Result<(), Refusal>; 5] {
 }
 
 /// The same behind a snapshot of before, with the sizes that are left by a stop with the oldest sectors.
-fn told_of_growing(alloc: Global) -> Result<([Result<(), Refusal>; 5], Sizes), Fail> {
-    let mut pool = example(alloc)?;
-    create_snap(&mut pool, DevId::new(1), DevId::new(0))?;
-    let answers = grow_all(&mut pool);
+fn told_of_growing(
+    alloc: Global,
+    pool: &mut MemPool,
+) -> Result<([Result<(), Refusal>; 5], Sizes), Fail> {
+    create_snap(pool, DevId::new(1), DevId::new(0))?;
+    let answers = grow_all(pool);
     let sizes = told_of_restarted(alloc, pool.disk(), &Stop::Oldest, sizes_of)?;
     Ok((answers, sizes))
 }
@@ -367,7 +369,9 @@ fn a_volume_grows_alone(rt: HostRuntime) -> Result<(), Fail> {
         Err(Refusal::NoSuchDevice),
     ];
     let sizes = [Ok(32), Ok(16), Err(Refusal::NoSuchDevice)];
-    assert_eq!(rt; told_of_growing(rt.alloc())?, (answers, sizes));
+    let alloc = rt.alloc();
+    let told = told_of_example(alloc, |pool| told_of_growing(alloc, pool))??;
+    assert_eq!(rt; told, (answers, sizes));
     Ok(())
 }
 

@@ -101,11 +101,17 @@ fn other_on(alloc: Global, disk: MemDisk) -> Result<Other, Refusal> {
     first_other(&mut pool, DevId::new(0), &[(129, 0), (130, 3), (131, 0)])
 }
 
+/// Whether each of three rounds finds what the one before wrote, and the first sector that is not as it should be then.
+fn told_of_rounds(alloc: Global) -> Result<(bool, Result<Other, Refusal>), Refusal> {
+    let (_, disk) = close(example(alloc)?);
+    let (found, disk) = rounds(alloc, disk, 3)?;
+    Ok((found, other_on(alloc, disk)))
+}
+
 #[test]
 fn a_closed_pool_is_opened_with_what_was_written(rt: HostRuntime) -> Result<(), Fail> {
-    let (_, disk) = close(example(rt.alloc())?);
-    let (found, disk) = rounds(rt.alloc(), disk, 3)?;
-    assert_eq!(rt; (found, other_on(rt.alloc(), disk)), (true, Ok(None)));
+    let told = told_of_rounds(rt.alloc())?;
+    assert_eq!(rt; told, (true, Ok(None)));
     Ok(())
 }
 
@@ -142,12 +148,12 @@ fn changed_by_refused(pool: &mut MemPool) -> (Result<Other, Refusal>, Result<Opt
 #[test]
 fn a_refused_write_changes_nothing(rt: HostRuntime) -> Result<(), Fail> {
     let alloc = rt.alloc();
-    let (answers, changed) = told_of_example(alloc, |pool| {
+    let told = told_of_example(alloc, |pool| {
         (refused(alloc, pool), changed_by_refused(pool))
     })?;
     let refusals = [Err(Refusal::NoDataSpace), Err(Refusal::NoSuchDevice)];
-    assert_eq!(rt; answers, Ok(refusals));
-    assert_eq!(rt; changed, (Ok(None), Err(Refusal::NoSuchDevice)));
+    let changed = (Ok(None), Err(Refusal::NoSuchDevice));
+    assert_eq!(rt; told, (Ok(refusals), changed));
     Ok(())
 }
 
@@ -184,23 +190,29 @@ fn answers(pool: &mut MemPool, byte: u8) -> Answers {
     (written, read, flush(pool))
 }
 
-#[test]
-fn a_fault_of_a_write_fails_the_pool(rt: HostRuntime) -> Result<(), Fail> {
-    let failed = Err(Refusal::Failed);
-    // The last call of the write, that of the data.
-    let mut pool = example_failing(rt.alloc(), 35, 35)?;
-    let told = told_of_two_writes(&mut pool);
-    let (answer, disk) = close(pool);
-    let first = (Err(Refusal::Fault), Err(Refusal::Failed), failed);
-    let second = (failed, Err(Refusal::Failed), failed);
-    assert_eq!(rt; told, (first, second, Mode::Failed));
-    assert_eq!(rt; (answer, disk.calls()), (failed, 35));
-    Ok(())
-}
-
 /// What is answered about two writes, and what the pool lets its users do then.
 fn told_of_two_writes(pool: &mut MemPool) -> (Answers, Answers, Mode) {
     (answers(pool, 1), answers(pool, 2), pool.mode())
+}
+
+/// The same where the last call of the first write fails, that of the data; what closing answers, and how many disk calls there were.
+fn told_of_a_failed_write(
+    alloc: Global,
+) -> Result<((Answers, Answers, Mode), (Result<(), Refusal>, u64)), Refusal> {
+    let mut pool = example_failing(alloc, 35, 35)?;
+    let told = told_of_two_writes(&mut pool);
+    let (answer, disk) = close(pool);
+    Ok((told, (answer, disk.calls())))
+}
+
+#[test]
+fn a_fault_of_a_write_fails_the_pool(rt: HostRuntime) -> Result<(), Fail> {
+    let told = told_of_a_failed_write(rt.alloc())?;
+    let failed = Err(Refusal::Failed);
+    let first = (Err(Refusal::Fault), Err(Refusal::Failed), failed);
+    let second = (failed, Err(Refusal::Failed), failed);
+    assert_eq!(rt; told, ((first, second, Mode::Failed), (failed, 35)));
+    Ok(())
 }
 
 #[test]
@@ -270,11 +282,11 @@ fn others_of_two_volumes(pool: &mut MemPool) -> [Result<Other, Refusal>; 2] {
 
 #[test]
 fn volumes_are_apart(rt: HostRuntime) -> Result<(), Fail> {
-    let (made, others) = told_of_example(rt.alloc(), |pool| {
+    let told = told_of_example(rt.alloc(), |pool| {
         (write_two_volumes(pool), others_of_two_volumes(pool))
     })?;
-    assert_eq!(rt; made, Ok([Ok(()), Err(Refusal::Exists)]));
-    assert_eq!(rt; others, [Ok(None), Ok(None)]);
+    let made = [Ok(()), Err(Refusal::Exists)];
+    assert_eq!(rt; told, (Ok(made), [Ok(None), Ok(None)]));
     Ok(())
 }
 
@@ -301,13 +313,18 @@ fn write_and_rewrite(alloc: Global, pool: &mut MemPool) -> Result<(), Refusal> {
     write(pool, DevId::new(0), 130, &[6; SECTOR])
 }
 
+/// The disk of a pool that is closed.
+fn closed(pool: MemPool) -> Result<MemDisk, Refusal> {
+    let (answer, disk) = close(pool);
+    answer?;
+    Ok(disk)
+}
+
 /// The disk of a session that does that and is closed.
 fn first_session(alloc: Global) -> Result<MemDisk, Refusal> {
     let mut pool = example(alloc)?;
     write_and_rewrite(alloc, &mut pool)?;
-    let (answer, disk) = close(pool);
-    answer?;
-    Ok(disk)
+    closed(pool)
 }
 
 /// The first of some sectors that another session reads otherwise than they should be.
@@ -505,15 +522,17 @@ fn told_of_eight_blocks(pool: &mut MemPool, bytes: &[u8]) -> Result<(u64, Other,
     Ok((calls, other, beside))
 }
 
-/// Each two of them follow one another on the disk.
+/// The same, where eight blocks are free and each two of them follow one another on the disk.
+fn told_of_gaps(alloc: Global, pool: &mut MemPool) -> Result<(u64, Other, Other), Fail> {
+    make_gaps(alloc, pool)?;
+    let bytes = numbered(alloc, 8)?;
+    Ok(told_of_eight_blocks(pool, &bytes)?)
+}
+
 #[test]
 fn new_blocks_that_stand_apart_are_written_apart(rt: HostRuntime) -> Result<(), Fail> {
     let alloc = rt.alloc();
-    let bytes = numbered(alloc, 8)?;
-    let told = told_of_empty(alloc, large()?, |pool| {
-        make_gaps(alloc, pool)?;
-        told_of_eight_blocks(pool, &bytes)
-    });
-    assert_eq!(rt; told, Ok(Ok((4, None, None))));
+    let told = told_of_empty(alloc, large()?, |pool| told_of_gaps(alloc, pool))??;
+    assert_eq!(rt; told, (4, None, None));
     Ok(())
 }

@@ -261,16 +261,26 @@ fn is_volume_left(alloc: Global, pool: &mut MemPool, expected: &Expected, volume
     }
 }
 
+/// Whether both volumes of it are.
+fn are_volumes_left(alloc: Global, pool: &mut MemPool, expected: &Expected) -> bool {
+    let first = is_volume_left(alloc, pool, expected, DevId::new(0));
+    let second = is_volume_left(alloc, pool, expected, DevId::new(1));
+    first && second
+}
+
+/// Whether what is left is opened, with volumes as they may be.
+fn is_opened_so(alloc: Global, left: MemDisk, expected: &Expected) -> bool {
+    match opened(alloc, left) {
+        Ok(mut pool) => are_volumes_left(alloc, &mut pool, expected),
+        Err(_) => false,
+    }
+}
+
 /// Whether what a stop leaves is clean and is opened, with volumes as they may be.
 fn is_left(alloc: Global, run: &Run, stop: &Stop) -> Result<bool, Fail> {
     let mut left = stopped(alloc, &run.disk, stop)?;
     let is_clean = check(alloc, &mut left).is_ok();
-    let Ok(mut pool) = opened(alloc, left) else {
-        return Ok(false);
-    };
-    let first = is_volume_left(alloc, &mut pool, &run.expected, DevId::new(0));
-    let second = is_volume_left(alloc, &mut pool, &run.expected, DevId::new(1));
-    Ok(is_clean && first && second)
+    Ok(is_opened_so(alloc, left, &run.expected) && is_clean)
 }
 
 /// The first of the stops that leaves what it may not leave.
@@ -375,11 +385,16 @@ fn calls_of(alloc: Global, begin: &Run, steps: &[Step]) -> Result<Option<u64>, F
     })
 }
 
-/// Whether a fault of this call is told, and a stop that leaves the oldest sectors gives what the last answered flush kept.
+/// Whether a run was refused, and a stop that leaves the oldest sectors gives what the last answered flush kept.
+fn is_kept_by(alloc: Global, run: &mut Run) -> Result<bool, Fail> {
+    run.expected.allow_kept();
+    Ok(is_left(alloc, run, &Stop::Oldest)? && run.refused)
+}
+
+/// The same of a run in which this call fails: its fault is told.
 fn is_kept(alloc: Global, begin: &Run, steps: &[Step], call: u64) -> Result<bool, Fail> {
     let mut run = run_steps(alloc, begin, steps, call)?;
-    run.expected.allow_kept();
-    Ok(run.refused && is_left(alloc, &run, &Stop::Oldest)?)
+    is_kept_by(alloc, &mut run)
 }
 
 /// The first call whose fault and a stop that leaves the oldest sectors give other than the last answered flush kept; or 0,
@@ -545,11 +560,21 @@ fn random_writes_are_read(rt: HostRuntime) -> Result<(), Fail> {
     Ok(())
 }
 
+/// What is wrong about sixty random steps from this seed.
+fn first_wrong_of(
+    alloc: Global,
+    begin: &Run,
+    seed: u64,
+    stops: &[Stop],
+) -> Result<Option<Wrong>, Fail> {
+    let steps = random_steps(alloc, seed, 60)?;
+    first_wrong(alloc, begin, &steps, stops)
+}
+
 #[test]
 fn a_stop_among_random_writes(rt: HostRuntime) -> Result<(), Fail> {
-    let steps = random_steps(rt.alloc(), 1, 60)?;
     let stops = [Stop::Oldest, Stop::Newest, Stop::Mixed(5)];
-    let wrong = first_wrong(rt.alloc(), &empty(rt.alloc())?, &steps, &stops)?;
+    let wrong = first_wrong_of(rt.alloc(), &empty(rt.alloc())?, 1, &stops)?;
     assert_eq!(rt; wrong, None);
     Ok(())
 }

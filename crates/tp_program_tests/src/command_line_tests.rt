@@ -5,6 +5,7 @@ use std::alloc::Global;
 use std::env::FillError;
 use std::fs::File;
 use std::net::{Net, TcpListener, TcpStream};
+use std::process::Abort;
 use std::rt::{Env, Files};
 use std::sync::Wait;
 use std::thread::Threads;
@@ -102,7 +103,7 @@ const BAD_VALUES: &[(&[&str], &str)] = &[
     ),
     (
         &["thinpool", "format", "bad.img", "128", "-16", "2048", "4"],
-        "error: unexpected argument '-1' found\n\nUsage: thinpool format <IMAGE> ",
+        "error: unexpected argument '-1' found\n\nUsage: thinpool format [OPTIONS] <IMAGE> ",
     ),
     (
         &["thinpool", "--explain", "status", "bad.img", "-1"],
@@ -133,16 +134,30 @@ where
     None
 }
 
-#[test]
-fn bad_command_lines(rt: HostRuntime) {
-    let good = first_good(&rt, BAD_LINES);
+/// Asserts that each of these is a bad one, and its text is said of it.
+fn misuse<H>(rt: &H, lines: &[(&[&str], &str)])
+where
+    H: Files<File = File>
+        + Net<Listener = TcpListener, Stream = TcpStream>
+        + Threads
+        + Wait
+        + Clock
+        + Sync
+        + Alloc<A = Global>
+        + Abort,
+{
+    let good = first_good(rt, lines);
     assert_eq!(rt; good, None);
 }
 
 #[test]
+fn bad_command_lines(rt: HostRuntime) {
+    misuse(&rt, BAD_LINES);
+}
+
+#[test]
 fn values_that_look_like_flags(rt: HostRuntime) {
-    let good = first_good(&rt, BAD_VALUES);
-    assert_eq!(rt; good, None);
+    misuse(&rt, BAD_VALUES);
 }
 
 #[test]

@@ -1,9 +1,8 @@
 //! A test of control lines over the system's sockets: a snapshot of a volume that a client writes.
 
-use crate::parts::{
-    CLIENT_GO, Call, MADE, Part, first_untold, first_untold_of_new, greeted, joined,
-};
-use crate::servers::{Places, exchange, run_server};
+use crate::parts::{CLIENT_GO, Call, GO_REPLIES, GREETING, MADE, Part};
+use crate::servers::{Places, exchange, is_exchanged, run_server};
+use crate::steps::{make_calls, make_last_calls};
 use std::alloc::Global;
 use std::fs::File;
 use std::io;
@@ -32,44 +31,28 @@ where
     run_server(rt, &words, places).status
 }
 
-/// How many bytes of a client that goes to a volume stand before the volume's name.
-const BEFORE_NAME: usize = 24;
+/// What a client sends that goes to volume 1.
+const SNAPSHOT_GO: &[u8] =
+    b"\x00\x00\x00\x03IHAVEOPT\x00\x00\x00\x07\x00\x00\x00\x07\x00\x00\x00\x011\x00\x00";
 
-/// Fills the first sector of the client's volume, and tells what is answered.
-fn fill(alloc: Global, client: &mut TcpStream, letter: u8) -> io::Result<Vec<u8>> {
-    let text = joined(alloc, &[Part::Ask(1, 7, 0, 512), Part::Fill(letter, 512)])?;
-    exchange(alloc, client, &text, 16)
+/// What each is sent, which has the same length for all volumes.
+const GONE: &[Part<'static>] = &[Part::Text(GREETING), Part::Text(GO_REPLIES)];
+
+/// Fills the first sector of the client's volume.
+fn fill(alloc: Global, client: &mut TcpStream, letter: u8) -> io::Result<bool> {
+    let text = [Part::Ask(1, 7, 0, 512), Part::Fill(letter, 512)];
+    is_exchanged(alloc, client, &text, &[Part::Reply(0, 7)])
 }
 
-/// What a client is answered that reads the first sector of its volume.
-fn look(alloc: Global, client: &mut TcpStream) -> io::Result<Vec<u8>> {
-    let text = joined(alloc, &[Part::Ask(0, 7, 0, 512)])?;
-    exchange(alloc, client, &text, 16 + 512)
-}
-
-/// Whether that is a sector that is filled with this.
+/// Whether that reads as a sector that is filled with this.
 fn is_filled(alloc: Global, client: &mut TcpStream, letter: u8) -> io::Result<bool> {
-    let wanted = joined(alloc, &[Part::Reply(0, 7), Part::Fill(letter, 512)])?;
-    Ok(look(alloc, client)? == wanted)
-}
-
-/// Has a client go to a volume by this text.
-fn go(alloc: Global, client: &mut TcpStream, text: &[u8]) -> io::Result<()> {
-    let greeting = greeted(alloc)?.len();
-    exchange(alloc, client, text, greeting)?;
-    Ok(())
-}
-
-/// Has a client go to volume 1.
-fn go_to_the_snapshot(alloc: Global, client: &mut TcpStream) -> io::Result<()> {
-    let before = CLIENT_GO.get(..BEFORE_NAME).unwrap_or(&[]);
-    let text = joined(alloc, &[Part::Text(before), Part::Text(b"1\x00\x00")])?;
-    go(alloc, client, &text)
+    let wanted = [Part::Reply(0, 7), Part::Fill(letter, 512)];
+    is_exchanged(alloc, client, &[Part::Ask(0, 7, 0, 512)], &wanted)
 }
 
 /// Has a client go to volume 0 and fill its first sector.
 fn go_and_fill(alloc: Global, client: &mut TcpStream) -> io::Result<()> {
-    go(alloc, client, CLIENT_GO)?;
+    is_exchanged(alloc, client, &[Part::Text(CLIENT_GO)], GONE)?;
     fill(alloc, client, b'a')?;
     Ok(())
 }
@@ -80,7 +63,7 @@ fn look_at_both(
     reader: &mut TcpStream,
     writer: &mut TcpStream,
 ) -> io::Result<(bool, bool)> {
-    go_to_the_snapshot(alloc, reader)?;
+    is_exchanged(alloc, reader, &[Part::Text(SNAPSHOT_GO)], GONE)?;
     Ok((
         is_filled(alloc, reader, b'a')?,
         is_filled(alloc, writer, b'b')?,
@@ -173,28 +156,12 @@ where
     Ok((status, told?))
 }
 
-/// The same of a new image, and the first calls before and behind that do not end and print so.
-fn told_of_image<H>(rt: &H, image: &str) -> Result<((Status, Told), [Option<usize>; 2]), Fail>
-where
-    H: Files<File = File>
-        + Net<Listener = TcpListener, Stream = TcpStream>
-        + Threads
-        + Wait
-        + Clock
-        + Sync
-        + Alloc<A = Global>,
-{
-    let made = first_untold(rt, image, MADE)?;
-    let told = told_of_snapshot(rt, image)?;
-    let left = first_untold_of_new(rt, image, LEFT)?;
-    Ok((told, [made, left]))
-}
-
 /// The snapshot reads as the volume did at the line, and the program ends when both clients are gone.
 #[test]
 fn a_snapshot_while_a_client_writes(rt: HostRuntime) -> Result<(), Fail> {
-    let told = told_of_image(&rt, "used.img")?;
-    let wanted = (Status::Done, (true, (true, true)));
-    assert_eq!(rt; told, (wanted, [None; 2]));
+    make_calls(&rt, "used.img", MADE)?;
+    let told = told_of_snapshot(&rt, "used.img")?;
+    make_last_calls(&rt, "used.img", LEFT)?;
+    assert_eq!(rt; told, (Status::Done, (true, (true, true))));
     Ok(())
 }

@@ -2,9 +2,11 @@
 
 use crate::image_tests::{FORMAT, FRESH};
 use crate::parts::{MADE, Ran, first_untold, is_told, run_on};
+use crate::steps::make_calls;
 use std::alloc::{Alloc, Global};
 use std::fs::{File, remove_file};
 use std::net::{Net, TcpListener, TcpStream};
+use std::process::Abort;
 use std::rt::Files;
 use std::sync::Wait;
 use std::test::Fail;
@@ -131,7 +133,7 @@ const FILES: &[Wrong] = &[
     ),
     (
         &["thinpool", "status", "."],
-        "thinpool: 5 Fault\nthinpool: . is no regular file: an image is one\n",
+        "thinpool: 5 Fault\nthinpool: . is no regular file and no block device: an image is one\n",
     ),
     (
         &["thinpool", "message", ".", "create_thin 0"],
@@ -312,44 +314,42 @@ where
     None
 }
 
+/// Asserts that of each of these its text is told.
+fn explain<H>(rt: &H, wrong: &[Wrong])
+where
+    H: Files<File = File>
+        + Net<Listener = TcpListener, Stream = TcpStream>
+        + Threads
+        + Wait
+        + Clock
+        + Sync
+        + Alloc<A = Global>
+        + Abort,
+{
+    let untold = first_unexplained(rt, wrong);
+    assert_eq!(rt; untold, None);
+}
+
 #[test]
 fn each_size_out_of_its_limits_is_told(rt: HostRuntime) {
-    let untold = first_unexplained(&rt, SIZES);
-    assert_eq!(rt; untold, None);
+    explain(&rt, SIZES);
 }
 
 #[test]
 fn each_file_that_is_not_opened_is_told(rt: HostRuntime) {
-    let untold = first_unexplained(&rt, FILES);
-    assert_eq!(rt; untold, None);
-}
-
-/// What is told first that should not be of a pool that has the volume 0, while it is made and then.
-fn untold_of_a_pool<H>(rt: &H) -> Result<[Option<usize>; 2], Fail>
-where
-    H: Files<File = File>
-        + Net<Listener = TcpListener, Stream = TcpStream>
-        + Threads
-        + Wait
-        + Clock
-        + Sync
-        + Alloc<A = Global>,
-{
-    let made = first_untold(rt, "told.img", MADE)?;
-    let untold = first_unexplained(rt, POOL);
-    remove_file(rt, "told.img")?;
-    Ok([made, untold])
+    explain(&rt, FILES);
 }
 
 #[test]
 fn each_refusal_of_a_pool_is_told(rt: HostRuntime) -> Result<(), Fail> {
-    let untold = untold_of_a_pool(&rt)?;
-    assert_eq!(rt; untold, [None, None]);
+    make_calls(&rt, "told.img", MADE)?;
+    explain(&rt, POOL);
+    remove_file(&rt, "told.img")?;
     Ok(())
 }
 
-/// The first untold of an image that another one holds.
-fn untold_of_held<H>(rt: &H) -> Result<Option<usize>, Fail>
+/// Asserts that of an image that another one holds.
+fn explain_held<H>(rt: &H) -> Result<(), Fail>
 where
     H: Files<File = File>
         + Net<Listener = TcpListener, Stream = TcpStream>
@@ -357,14 +357,16 @@ where
         + Wait
         + Clock
         + Sync
-        + Alloc<A = Global>,
+        + Alloc<A = Global>
+        + Abort,
 {
     let _other = FileDisk::create(rt, "held.img", 64)?;
-    Ok(first_unexplained(rt, HELD))
+    explain(rt, HELD);
+    Ok(())
 }
 
-/// The first untold of a file that holds no pool.
-fn untold_of_no_pool<H>(rt: &H) -> Result<Option<usize>, Fail>
+/// The same of a file that holds no pool.
+fn explain_no_pool<H>(rt: &H) -> Result<(), Fail>
 where
     H: Files<File = File>
         + Net<Listener = TcpListener, Stream = TcpStream>
@@ -372,35 +374,20 @@ where
         + Wait
         + Clock
         + Sync
-        + Alloc<A = Global>,
+        + Alloc<A = Global>
+        + Abort,
 {
     File::create(rt, "none.img")?;
-    let untold = first_unexplained(rt, NO_POOL);
+    explain(rt, NO_POOL);
     remove_file(rt, "none.img")?;
-    Ok(untold)
-}
-
-/// The same of both.
-fn untold_of_files<H>(rt: &H) -> Result<[Option<usize>; 2], Fail>
-where
-    H: Files<File = File>
-        + Net<Listener = TcpListener, Stream = TcpStream>
-        + Threads
-        + Wait
-        + Clock
-        + Sync
-        + Alloc<A = Global>,
-{
-    let held = untold_of_held(rt)?;
-    remove_file(rt, "held.img")?;
-    Ok([held, untold_of_no_pool(rt)?])
+    Ok(())
 }
 
 #[test]
 fn images_in_use_and_files_without_a_pool_are_told(rt: HostRuntime) -> Result<(), Fail> {
-    let untold = untold_of_files(&rt)?;
-    assert_eq!(rt; untold, [None, None]);
-    Ok(())
+    explain_held(&rt)?;
+    remove_file(&rt, "held.img")?;
+    explain_no_pool(&rt)
 }
 
 /// The words by which the image of the next test is formatted again.

@@ -1,21 +1,21 @@
 //! Tests of one client over a pool in memory.
 
 use crate::parts::{
-    CLIENT_GO, Call, FAULT, GO_REPLIES, GREETING, MADE, NO_TERMINAL, Part, first_untold,
-    first_untold_of_new, is_done, joined, run,
+    CLIENT_GO, Call, GO_REPLIES, GREETING, MADE, Part, is_answered, is_sent, joined, told_into,
 };
-use std::alloc::{AllocError, Global};
+use crate::steps::{Step, take_steps};
+use std::alloc::Global;
 use std::fs::File;
 use std::io;
 use std::io::{ErrorKind, Read, Write};
 use std::net::{Net, TcpListener, TcpStream};
+use std::process::Abort;
 use std::rt::Files;
 use std::sync::Wait;
 use std::test::Fail;
 use std::thread::Threads;
 use std::time::Clock;
-use tp_images::FileImages;
-use tp_program::{Status, program};
+use tp_program::Status;
 
 /// The flags of a client that wants no zeroes behind EXPORT_NAME.
 const FLAGS: &[u8] = b"\x00\x00\x00\x03";
@@ -76,8 +76,8 @@ impl Write for Fills {
     }
 }
 
-/// Whether the program is done with a client who sends this, sent it this, and said nothing.
-fn is_sent<H, R: Read>(rt: &H, input: &mut R, wanted: &[Part<'_>]) -> Result<bool, AllocError>
+/// Has the program serve a client who sends this, and asserts that it sent this, said nothing, and was done.
+fn feed<H, R: Read>(rt: &H, input: &mut R, wanted: &[Part<'_>]) -> Result<(), Fail>
 where
     H: Files<File = File>
         + Net<Listener = TcpListener, Stream = TcpStream>
@@ -85,14 +85,16 @@ where
         + Wait
         + Clock
         + Sync
-        + Alloc<A = Global>,
+        + Alloc<A = Global>
+        + Abort,
 {
-    let wanted = joined(rt.alloc(), wanted)?;
-    Ok(is_done(&run(rt, FEED, input), &wanted))
+    let is_so = is_sent(rt, FEED, input, wanted)?;
+    assert!(rt; is_so);
+    Ok(())
 }
 
 /// The same of a client whose text is made of parts.
-fn is_answered<H>(rt: &H, text: &[Part<'_>], wanted: &[Part<'_>]) -> Result<bool, AllocError>
+fn feed_parts<H>(rt: &H, text: &[Part<'_>], wanted: &[Part<'_>]) -> Result<(), Fail>
 where
     H: Files<File = File>
         + Net<Listener = TcpListener, Stream = TcpStream>
@@ -100,10 +102,12 @@ where
         + Wait
         + Clock
         + Sync
-        + Alloc<A = Global>,
+        + Alloc<A = Global>
+        + Abort,
 {
-    let text = joined(rt.alloc(), text)?;
-    is_sent(rt, &mut text.as_slice(), wanted)
+    let is_so = is_answered(rt, FEED, text, wanted)?;
+    assert!(rt; is_so);
+    Ok(())
 }
 
 /// What a client is sent that goes to volume 0.
@@ -112,16 +116,12 @@ const GREETED: &[Part<'static>] = &[Part::Text(GREETING), Part::Text(GO_REPLIES)
 #[test]
 fn greeting_and_go(rt: HostRuntime) -> Result<(), Fail> {
     let mut input = CLIENT_GO;
-    let is_so = is_sent(&rt, &mut input, GREETED)?;
-    assert!(rt; is_so);
-    Ok(())
+    feed(&rt, &mut input, GREETED)
 }
 
 #[test]
 fn greeting_and_go_byte_by_byte(rt: HostRuntime) -> Result<(), Fail> {
-    let is_so = is_sent(&rt, &mut OneByOne(CLIENT_GO), GREETED)?;
-    assert!(rt; is_so);
-    Ok(())
+    feed(&rt, &mut OneByOne(CLIENT_GO), GREETED)
 }
 
 /// A client that aborts twice.
@@ -133,9 +133,7 @@ const ABORT_ANSWERS: &[Part<'static>] = &[Part::Text(GREETING), Part::Told(2, 1,
 /// What follows the ABORT is dropped.
 #[test]
 fn abort_is_acknowledged_and_ends_the_session(rt: HostRuntime) -> Result<(), Fail> {
-    let is_so = is_answered(&rt, ABORTED, ABORT_ANSWERS)?;
-    assert!(rt; is_so);
-    Ok(())
+    feed_parts(&rt, ABORTED, ABORT_ANSWERS)
 }
 
 /// A client that writes and reads a sector, flushes and goes.
@@ -159,11 +157,7 @@ const SESSION_ANSWERS: &[Part<'static>] = &[
 ];
 
 /// The same of a client whose text is read byte by byte.
-fn is_answered_byte_by_byte<H>(
-    rt: &H,
-    text: &[Part<'_>],
-    wanted: &[Part<'_>],
-) -> Result<bool, AllocError>
+fn feed_byte_by_byte<H>(rt: &H, text: &[Part<'_>], wanted: &[Part<'_>]) -> Result<(), Fail>
 where
     H: Files<File = File>
         + Net<Listener = TcpListener, Stream = TcpStream>
@@ -171,17 +165,16 @@ where
         + Wait
         + Clock
         + Sync
-        + Alloc<A = Global>,
+        + Alloc<A = Global>
+        + Abort,
 {
     let text = joined(rt.alloc(), text)?;
-    is_sent(rt, &mut OneByOne(&text), wanted)
+    feed(rt, &mut OneByOne(&text), wanted)
 }
 
 #[test]
 fn first_session(rt: HostRuntime) -> Result<(), Fail> {
-    let is_so = is_answered_byte_by_byte(&rt, SESSION, SESSION_ANSWERS)?;
-    assert!(rt; is_so);
-    Ok(())
+    feed_byte_by_byte(&rt, SESSION, SESSION_ANSWERS)
 }
 
 /// A write about the end of block 0, and a read of both blocks.
@@ -205,9 +198,7 @@ const ACROSS_ANSWERS: &[Part<'static>] = &[
 
 #[test]
 fn write_across_blocks(rt: HostRuntime) -> Result<(), Fail> {
-    let is_so = is_answered(&rt, ACROSS, ACROSS_ANSWERS)?;
-    assert!(rt; is_so);
-    Ok(())
+    feed_parts(&rt, ACROSS, ACROSS_ANSWERS)
 }
 
 /// Writes and reads that are out of the volume, or of no bytes.
@@ -233,9 +224,7 @@ const LIMIT_ANSWERS: &[Part<'static>] = &[
 
 #[test]
 fn request_limits(rt: HostRuntime) -> Result<(), Fail> {
-    let is_so = is_answered(&rt, LIMITS, LIMIT_ANSWERS)?;
-    assert!(rt; is_so);
-    Ok(())
+    feed_parts(&rt, LIMITS, LIMIT_ANSWERS)
 }
 
 /// EXPORT_NAME of volume 0, and what tells of the volume.
@@ -262,29 +251,11 @@ const WITH_ANSWERS: &[Part<'static>] = &[
     Part::Reply(0, 7),
 ];
 
-/// Whether both are sent what they should be.
-fn are_named<H>(rt: &H) -> Result<[bool; 2], AllocError>
-where
-    H: Files<File = File>
-        + Net<Listener = TcpListener, Stream = TcpStream>
-        + Threads
-        + Wait
-        + Clock
-        + Sync
-        + Alloc<A = Global>,
-{
-    Ok([
-        is_answered(rt, WITHOUT, WITHOUT_ANSWERS)?,
-        is_answered(rt, WITH, WITH_ANSWERS)?,
-    ])
-}
-
 /// Where the flags do not have it left out, 124 zero bytes stand behind what tells of the volume.
 #[test]
 fn export_name(rt: HostRuntime) -> Result<(), Fail> {
-    let are_so = are_named(&rt)?;
-    assert_eq!(rt; are_so, [true; 2]);
-    Ok(())
+    feed_parts(&rt, WITHOUT, WITHOUT_ANSWERS)?;
+    feed_parts(&rt, WITH, WITH_ANSWERS)
 }
 
 /// EXPORT_NAME of volume 1.
@@ -299,9 +270,7 @@ const UNKNOWN_ANSWERS: &[Part<'static>] = &[Part::Text(GREETING)];
 
 #[test]
 fn export_name_of_an_unknown_volume_ends_the_session(rt: HostRuntime) -> Result<(), Fail> {
-    let is_so = is_answered(&rt, UNKNOWN, UNKNOWN_ANSWERS)?;
-    assert!(rt; is_so);
-    Ok(())
+    feed_parts(&rt, UNKNOWN, UNKNOWN_ANSWERS)
 }
 
 /// What tells of volume 0: its size and flags, and the sizes of its blocks.
@@ -333,9 +302,7 @@ const INFO_ANSWERS: &[Part<'static>] = &[
 
 #[test]
 fn info_tells_and_options_go_on(rt: HostRuntime) -> Result<(), Fail> {
-    let is_so = is_answered(&rt, INFOS, INFO_ANSWERS)?;
-    assert!(rt; is_so);
-    Ok(())
+    feed_parts(&rt, INFOS, INFO_ANSWERS)
 }
 
 /// Options that there are not, or whose lengths are wrong.
@@ -358,9 +325,7 @@ const REFUSED_ANSWERS: &[Part<'static>] = &[
 
 #[test]
 fn refused_options(rt: HostRuntime) -> Result<(), Fail> {
-    let is_so = is_answered(&rt, REFUSED, REFUSED_ANSWERS)?;
-    assert!(rt; is_so);
-    Ok(())
+    feed_parts(&rt, REFUSED, REFUSED_ANSWERS)
 }
 
 /// A write of no bytes with a flag that there is not, and a read of none with FUA.
@@ -389,9 +354,7 @@ const ODD_ANSWERS: &[Part<'static>] = &[
 
 #[test]
 fn unknown_command_and_flags(rt: HostRuntime) -> Result<(), Fail> {
-    let is_so = is_answered(&rt, ODD, ODD_ANSWERS)?;
-    assert!(rt; is_so);
-    Ok(())
+    feed_parts(&rt, ODD, ODD_ANSWERS)
 }
 
 /// A read of no bytes whose magic is wrong.
@@ -412,28 +375,10 @@ const WRONG: &[Part<'static>] = &[
     Part::Ask(0, 2, 0, 0),
 ];
 
-/// Whether both are greeted and sent nothing else.
-fn are_ended<H>(rt: &H) -> Result<[bool; 2], AllocError>
-where
-    H: Files<File = File>
-        + Net<Listener = TcpListener, Stream = TcpStream>
-        + Threads
-        + Wait
-        + Clock
-        + Sync
-        + Alloc<A = Global>,
-{
-    Ok([
-        is_answered(rt, TOO_LARGE, GREETED)?,
-        is_answered(rt, WRONG, GREETED)?,
-    ])
-}
-
 #[test]
 fn too_large_writes_and_wrong_magics_end_the_session(rt: HostRuntime) -> Result<(), Fail> {
-    let are_so = are_ended(&rt)?;
-    assert_eq!(rt; are_so, [true; 2]);
-    Ok(())
+    feed_parts(&rt, TOO_LARGE, GREETED)?;
+    feed_parts(&rt, WRONG, GREETED)
 }
 
 /// Writes that the pool or the protocol has no room for.
@@ -461,9 +406,7 @@ const LARGE_ANSWERS: &[Part<'static>] = &[
 /// The pool has a quarter of the data blocks that the volume would want.
 #[test]
 fn too_long_and_too_large_writes(rt: HostRuntime) -> Result<(), Fail> {
-    let is_so = is_answered(&rt, LARGE, LARGE_ANSWERS)?;
-    assert!(rt; is_so);
-    Ok(())
+    feed_parts(&rt, LARGE, LARGE_ANSWERS)
 }
 
 /// A trim of all bytes of two blocks but the first 512 and the last.
@@ -488,9 +431,7 @@ const TRIMMED_ANSWERS: &[Part<'static>] = &[
 
 #[test]
 fn trim_partly_covered(rt: HostRuntime) -> Result<(), Fail> {
-    let is_so = is_answered(&rt, TRIMMED, TRIMMED_ANSWERS)?;
-    assert!(rt; is_so);
-    Ok(())
+    feed_parts(&rt, TRIMMED, TRIMMED_ANSWERS)
 }
 
 /// A client that goes to volume 0 by EXPORT_NAME, and trims 2 MiB of it at once.
@@ -500,31 +441,24 @@ const TRIMS_LONG: &[Part<'static>] = &[
     Part::Ask(4, 1, 0, 2_097_152),
 ];
 
-/// Its volume has 4 MiB.
-const LONG_SIZE: &[u8] = b"\x00\x00\x00\x00\x00\x40\x00\x00";
+/// Its volume has 4 MiB. The trim is refused.
+const LONG_REFUSED: &[Part<'static>] = &[
+    Part::Text(GREETING),
+    Part::Text(b"\x00\x00\x00\x00\x00\x40\x00\x00\x00\x6d"),
+    Part::Reply(22, 1),
+];
 
-/// Whether it is told these flags of the volume, and answered so, by the program that these words run.
-fn is_trimmed<H>(rt: &H, words: &[&str], flags: &[u8], error: u32) -> Result<bool, AllocError>
-where
-    H: Files<File = File>
-        + Net<Listener = TcpListener, Stream = TcpStream>
-        + Threads
-        + Wait
-        + Clock
-        + Sync
-        + Alloc<A = Global>,
-{
-    let text = joined(rt.alloc(), TRIMS_LONG)?;
-    let wanted = [
-        Part::Text(GREETING),
-        Part::Text(LONG_SIZE),
-        Part::Text(flags),
-        Part::Reply(error, 1),
-    ];
-    let wanted = joined(rt.alloc(), &wanted)?;
-    let mut input = text.as_slice();
-    Ok(is_done(&run(rt, words, &mut input), &wanted))
-}
+/// The same with the flags of those who are offered what `run` offers. The trim is done.
+const LONG_DONE: &[Part<'static>] = &[
+    Part::Text(GREETING),
+    Part::Text(b"\x00\x00\x00\x00\x00\x40\x00\x00\x01\x6d"),
+    Part::Reply(0, 1),
+];
+
+/// The calls that feed it.
+const STRICT: Call = ("feed", &[], 0, "");
+
+const EXTENDED: Call = ("feed", &["--extended"], 0, "");
 
 /// Lets volume 0 have 4 MiB.
 const GROWN: &[Call] = &[("message", &["grow 0 64"], 0, "ok\n")];
@@ -532,44 +466,24 @@ const GROWN: &[Call] = &[("message", &["grow 0 64"], 0, "ok\n")];
 /// What is left behind both.
 const CLEAN: &[Call] = &[("check", &[], 0, "clean\n")];
 
-/// Whether such a client is refused, and one that is offered what `run` offers is not; and the first calls around them that do not end and print so.
-fn told_of_long<H>(rt: &H, image: &str) -> Result<([bool; 2], [Option<usize>; 3]), Fail>
-where
-    H: Files<File = File>
-        + Net<Listener = TcpListener, Stream = TcpStream>
-        + Threads
-        + Wait
-        + Clock
-        + Sync
-        + Alloc<A = Global>,
-{
-    let made = first_untold(rt, image, MADE)?;
-    let grown = first_untold(rt, image, GROWN)?;
-    let strict = is_trimmed(rt, &["thinpool", "feed", image], b"\x00\x6d", 22)?;
-    let extended = ["thinpool", "feed", image, "--extended"];
-    let extended = is_trimmed(rt, &extended, b"\x01\x6d", 0)?;
-    let left = first_untold_of_new(rt, image, CLEAN)?;
-    Ok(([strict, extended], [made, grown, left]))
-}
+/// Such a client is refused, and one that is offered what `run` offers is not.
+const LONG: &[Step] = &[
+    Step::Calls(MADE),
+    Step::Calls(GROWN),
+    Step::Fed(STRICT, TRIMS_LONG, LONG_REFUSED),
+    Step::Fed(EXTENDED, TRIMS_LONG, LONG_DONE),
+    Step::Calls(CLEAN),
+];
 
 /// A TRIM of more than 1 MiB is refused by 22, and done where the client is offered what `run` offers.
 #[test]
 fn long_trims_are_done_where_they_are_offered(rt: HostRuntime) -> Result<(), Fail> {
-    let told = told_of_long(&rt, "long.img")?;
-    assert_eq!(rt; told, ([true; 2], [None; 3]));
-    Ok(())
+    take_steps(&rt, "long.img", LONG)
 }
 
 #[test]
 fn failing_reader_is_a_hangup(rt: HostRuntime) -> Result<(), Fail> {
-    let is_so = is_sent(&rt, &mut Breaks(CLIENT_GO), GREETED)?;
-    assert!(rt; is_so);
-    Ok(())
-}
-
-/// Whether a task was refused because the system refused it.
-fn is_fault(status: Status, errors: &[u8]) -> bool {
-    status == Status::Refused && errors == FAULT
+    feed(&rt, &mut Breaks(CLIENT_GO), GREETED)
 }
 
 /// Whether a writer that fails after so many writes is a fault, and took this.
@@ -583,23 +497,12 @@ where
         + Sync
         + Alloc<A = Global>,
 {
-    let mut input = CLIENT_GO;
     let mut output = Fills {
         taken: Vec::new(rt.alloc()),
         writes,
     };
-    let mut errors = Vec::new(rt.alloc());
-    let status = program(
-        rt,
-        &mut FileImages::new(rt),
-        rt.alloc(),
-        FEED,
-        NO_TERMINAL,
-        &mut input,
-        &mut output,
-        &mut errors,
-    );
-    is_fault(status, &errors) && output.taken.as_slice() == taken
+    let told = told_into(rt, FEED, CLIENT_GO, &mut output);
+    told == (Status::Refused, true) && output.taken.as_slice() == taken
 }
 
 #[test]

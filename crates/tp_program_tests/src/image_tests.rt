@@ -1,19 +1,15 @@
 //! Tests of the commands on image files. Each call is a program of its own; each test has a file of its own, for they run side by side.
 
-use crate::parts::{
-    CLIENT_GO, Call, GO_REPLIES, GREETING, MADE, Part, first_untold, first_untold_of_new, is_done,
-    is_told, joined, run, set_byte,
-};
-use std::alloc::{AllocError, Global};
-use std::fs::{File, OpenOptions, remove_file};
+use crate::parts::{CLIENT_GO, Call, GO_REPLIES, GREETING, MADE, Part, first_untold};
+use crate::steps::{Step, make_calls, make_last_calls, take_steps};
+use std::alloc::Global;
+use std::fs::File;
 use std::net::{Net, TcpListener, TcpStream};
 use std::rt::Files;
 use std::sync::Wait;
 use std::test::Fail;
 use std::thread::Threads;
 use std::time::Clock;
-use tp_disk::FileDisk;
-use tp_program::Status;
 
 /// Pools of four data blocks, and volumes of 16.
 const SIZES: &[&str] = &["128", "16", "2048", "4"];
@@ -28,10 +24,6 @@ pub(crate) const FORMAT: Call = ("format", SIZES, 0, FRESH);
 /// The bytes of such an image.
 const BYTES: u64 = 2048 * 4096 + 4 * 65536;
 
-fn bytes_of<F: Files<File = File>>(files: &F, image: &str) -> Result<u64, Fail> {
-    Ok(File::open(files, image)?.metadata()?.len())
-}
-
 /// Calls on a new image.
 const NEW: &[Call] = &[
     FORMAT,
@@ -40,28 +32,12 @@ const NEW: &[Call] = &[
     ("check", &[], 0, "clean\n"),
 ];
 
-/// The first of them that does not end and print so, and the bytes of the image then.
-fn told_of_new<H>(rt: &H, image: &str) -> Result<(Option<usize>, u64), Fail>
-where
-    H: Files<File = File>
-        + Net<Listener = TcpListener, Stream = TcpStream>
-        + Threads
-        + Wait
-        + Clock
-        + Sync
-        + Alloc<A = Global>,
-{
-    let untold = first_untold(rt, image, NEW)?;
-    let bytes = bytes_of(rt, image)?;
-    remove_file(rt, image)?;
-    Ok((untold, bytes))
-}
+/// How long that image is.
+const NEW_AND_LONG: &[Step] = &[Step::Calls(NEW), Step::Bytes(BYTES)];
 
 #[test]
 fn fresh_status(rt: HostRuntime) -> Result<(), Fail> {
-    let told = told_of_new(&rt, "fresh.img")?;
-    assert_eq!(rt; told, (None, BYTES));
-    Ok(())
+    take_steps(&rt, "fresh.img", NEW_AND_LONG)
 }
 
 /// A volume and a snapshot of it.
@@ -77,9 +53,7 @@ const COPIED: &[Call] = &[
 
 #[test]
 fn create_and_snapshot_status(rt: HostRuntime) -> Result<(), Fail> {
-    let untold = first_untold_of_new(&rt, "snap.img", COPIED)?;
-    assert_eq!(rt; untold, None);
-    Ok(())
+    make_last_calls(&rt, "snap.img", COPIED)
 }
 
 /// A transaction id that is set twice.
@@ -103,9 +77,7 @@ const SET_TWICE: &[Call] = &[
 
 #[test]
 fn transaction_id(rt: HostRuntime) -> Result<(), Fail> {
-    let untold = first_untold_of_new(&rt, "transaction.img", SET_TWICE)?;
-    assert_eq!(rt; untold, None);
-    Ok(())
+    make_last_calls(&rt, "transaction.img", SET_TWICE)
 }
 
 /// Messages whose numbers are at and behind the limit, and what they leave.
@@ -152,9 +124,7 @@ const NUMBERS: &[Call] = &[
 
 #[test]
 fn message_numbers(rt: HostRuntime) -> Result<(), Fail> {
-    let untold = first_untold_of_new(&rt, "numbers.img", NUMBERS)?;
-    assert_eq!(rt; untold, None);
-    Ok(())
+    make_last_calls(&rt, "numbers.img", NUMBERS)
 }
 
 /// Calls on an image that is not there.
@@ -195,61 +165,37 @@ fn refusals_before_the_image(rt: HostRuntime) -> Result<(), Fail> {
     Ok(())
 }
 
-/// The text of a client that fills the first sector of volume 0.
-fn filling(alloc: Global, byte: u8) -> Result<Vec<u8>, AllocError> {
-    joined(
-        alloc,
-        &[
-            Part::Text(CLIENT_GO),
-            Part::Ask(1, 1, 0, 512),
-            Part::Fill(byte, 512),
-        ],
-    )
-}
+/// Clients that fill the first sector of volume 0, and what they are sent.
+const FILLS_FIRST: &[Part<'static>] = &[
+    Part::Text(CLIENT_GO),
+    Part::Ask(1, 1, 0, 512),
+    Part::Fill(0x61, 512),
+];
 
-/// How a program ends that serves a client who fills the first sector of volume 0.
-fn filled<H>(rt: &H, image: &str, byte: u8) -> Result<Status, AllocError>
-where
-    H: Files<File = File>
-        + Net<Listener = TcpListener, Stream = TcpStream>
-        + Threads
-        + Wait
-        + Clock
-        + Sync
-        + Alloc<A = Global>,
-{
-    let text = filling(rt.alloc(), byte)?;
-    let mut input = text.as_slice();
-    Ok(run(rt, &["thinpool", "feed", image], &mut input).status)
-}
+const FILLS_SECOND: &[Part<'static>] = &[
+    Part::Text(CLIENT_GO),
+    Part::Ask(1, 1, 0, 512),
+    Part::Fill(0x62, 512),
+];
 
-/// Whether a client who reads the first sector of volume 0 is served, and sent one that a byte fills.
-fn is_read<H>(rt: &H, image: &str, byte: u8) -> Result<bool, AllocError>
-where
-    H: Files<File = File>
-        + Net<Listener = TcpListener, Stream = TcpStream>
-        + Threads
-        + Wait
-        + Clock
-        + Sync
-        + Alloc<A = Global>,
-{
-    let text = joined(
-        rt.alloc(),
-        &[Part::Text(CLIENT_GO), Part::Ask(0, 2, 0, 512)],
-    )?;
-    let sent = joined(
-        rt.alloc(),
-        &[
-            Part::Text(GREETING),
-            Part::Text(GO_REPLIES),
-            Part::Reply(0, 2),
-            Part::Fill(byte, 512),
-        ],
-    )?;
-    let mut input = text.as_slice();
-    Ok(is_done(&run(rt, &["thinpool", "feed", image], &mut input), &sent))
-}
+const FILLED: &[Part<'static>] = &[
+    Part::Text(GREETING),
+    Part::Text(GO_REPLIES),
+    Part::Reply(0, 1),
+];
+
+/// A client that reads that sector, and what it is sent.
+const READS: &[Part<'static>] = &[Part::Text(CLIENT_GO), Part::Ask(0, 2, 0, 512)];
+
+const READ: &[Part<'static>] = &[
+    Part::Text(GREETING),
+    Part::Text(GO_REPLIES),
+    Part::Reply(0, 2),
+    Part::Fill(0x62, 512),
+];
+
+/// A call that feeds a client.
+const FEED: Call = ("feed", &[], 0, "");
 
 /// A volume with one block, and a snapshot of it.
 const SHARED: &[Call] = &[
@@ -283,68 +229,32 @@ const ALONE: &[Call] = &[
     ("check", &[], 0, "clean\n"),
 ];
 
-/// What is told of two clients of an image that write, of one that reads behind them, and of the calls before, between and behind them.
-type Fed = ([Status; 2], bool, [Option<usize>; 3]);
-
-fn told_of_feeding<H>(rt: &H, image: &str) -> Result<Fed, Fail>
-where
-    H: Files<File = File>
-        + Net<Listener = TcpListener, Stream = TcpStream>
-        + Threads
-        + Wait
-        + Clock
-        + Sync
-        + Alloc<A = Global>,
-{
-    let made = first_untold(rt, image, MADE)?;
-    let first = filled(rt, image, 0x61)?;
-    let shared = first_untold(rt, image, SHARED)?;
-    let second = filled(rt, image, 0x62)?;
-    let is_read = is_read(rt, image, 0x62)?;
-    let alone = first_untold_of_new(rt, image, ALONE)?;
-    Ok(([first, second], is_read, [made, shared, alone]))
-}
+/// Two clients of an image that write, one that reads behind them, and the calls before, between and behind them.
+const FED: &[Step] = &[
+    Step::Calls(MADE),
+    Step::Fed(FEED, FILLS_FIRST, FILLED),
+    Step::Calls(SHARED),
+    Step::Fed(FEED, FILLS_SECOND, FILLED),
+    Step::Fed(FEED, READS, READ),
+    Step::Calls(ALONE),
+];
 
 /// What one program writes and keeps is read by the next one, and a snapshot shares it until then.
 #[test]
 fn a_file_is_fed(rt: HostRuntime) -> Result<(), Fail> {
-    let told = told_of_feeding(&rt, "fed.img")?;
-    assert_eq!(rt; told, ([Status::Done; 2], true, [None; 3]));
-    Ok(())
+    take_steps(&rt, "fed.img", FED)
 }
 
-/// What a check tells of an image in which a byte was changed.
-const CHANGED: &[Call] = &[("check", &[], 1, "thinpool: 31 BadNode\n")];
+/// What a check tells of an image in which a byte was changed: the kind of the root of the devices, which is block 8 of an empty pool.
+const CHANGED: &[Step] = &[
+    Step::Calls(&[FORMAT]),
+    Step::Byte(8 * 4096, 2),
+    Step::Calls(&[("check", &[], 1, "thinpool: 31 BadNode\n")]),
+];
 
-/// Whether an image is made, and the first call that does not end and print so when a byte of it was changed.
-fn told_of_changed<H>(rt: &H, image: &str) -> Result<(bool, Option<usize>), Fail>
-where
-    H: Files<File = File>
-        + Net<Listener = TcpListener, Stream = TcpStream>
-        + Threads
-        + Wait
-        + Clock
-        + Sync
-        + Alloc<A = Global>,
-{
-    let made = is_told(rt, image, &FORMAT)?;
-    set_byte(rt, image, 8 * 4096, 2)?;
-    Ok((made, first_untold_of_new(rt, image, CHANGED)?))
-}
-
-/// The kind of the root of the devices, which is block 8 of an empty pool.
 #[test]
 fn changed_byte_is_told(rt: HostRuntime) -> Result<(), Fail> {
-    let told = told_of_changed(&rt, "changed.img")?;
-    assert_eq!(rt; told, (true, None));
-    Ok(())
-}
-
-/// Makes a file this long.
-fn cut<F: Files<File = File>>(files: &F, image: &str, bytes: u64) -> Result<(), Fail> {
-    let file = OpenOptions::new().write(true).open(files, image)?;
-    file.set_len(bytes)?;
-    Ok(())
+    take_steps(&rt, "changed.img", CHANGED)
 }
 
 /// What is told of an image that is too short.
@@ -353,28 +263,16 @@ const SHORT: &[Call] = &[
     ("status", &[], 1, "thinpool: 2 Damaged\n"),
 ];
 
-/// Whether an image is made, and the first call that does not end and print so when its end was cut off.
-fn told_of_short<H>(rt: &H, image: &str) -> Result<(bool, Option<usize>), Fail>
-where
-    H: Files<File = File>
-        + Net<Listener = TcpListener, Stream = TcpStream>
-        + Threads
-        + Wait
-        + Clock
-        + Sync
-        + Alloc<A = Global>,
-{
-    let made = is_told(rt, image, &FORMAT)?;
-    cut(rt, image, BYTES - 512)?;
-    Ok((made, first_untold_of_new(rt, image, SHORT)?))
-}
-
 /// One sector is cut off.
+const CUT: &[Step] = &[
+    Step::Calls(&[FORMAT]),
+    Step::Cut(BYTES - 512),
+    Step::Calls(SHORT),
+];
+
 #[test]
 fn short_image_is_told(rt: HostRuntime) -> Result<(), Fail> {
-    let told = told_of_short(&rt, "cut.img")?;
-    assert_eq!(rt; told, (true, None));
-    Ok(())
+    take_steps(&rt, "cut.img", CUT)
 }
 
 /// What is told of an empty file.
@@ -383,32 +281,16 @@ const EMPTY: &[Call] = &[
     ("status", &[], 1, "thinpool: 3 NotAPool\n"),
 ];
 
+/// Calls on an empty file.
+const EMPTIED: &[Step] = &[Step::Empty, Step::Calls(EMPTY)];
+
 /// What is told of a folder.
 const FOLDER: &[Call] = &[("check", &[], 1, "thinpool: 5 Fault\n")];
 
-/// The first calls on an empty file and on a folder that do not end and print so.
-fn told_of_no_images<H>(rt: &H, empty: &str) -> Result<[Option<usize>; 2], Fail>
-where
-    H: Files<File = File>
-        + Net<Listener = TcpListener, Stream = TcpStream>
-        + Threads
-        + Wait
-        + Clock
-        + Sync
-        + Alloc<A = Global>,
-{
-    File::create(rt, empty)?;
-    Ok([
-        first_untold_of_new(rt, empty, EMPTY)?,
-        first_untold(rt, ".", FOLDER)?,
-    ])
-}
-
 #[test]
 fn files_that_are_no_images_are_told(rt: HostRuntime) -> Result<(), Fail> {
-    let untold = told_of_no_images(&rt, "empty.img")?;
-    assert_eq!(rt; untold, [None; 2]);
-    Ok(())
+    take_steps(&rt, "empty.img", EMPTIED)?;
+    make_calls(&rt, ".", FOLDER)
 }
 
 /// What is refused while another program works on the image.
@@ -424,62 +306,17 @@ const IN_USE: &[Call] = &[
     ),
 ];
 
-/// Whether a check finds the image clean beside another one that reads it.
-fn is_clean_beside<H>(rt: &H, image: &str) -> Result<bool, Fail>
-where
-    H: Files<File = File>
-        + Net<Listener = TcpListener, Stream = TcpStream>
-        + Threads
-        + Wait
-        + Clock
-        + Sync
-        + Alloc<A = Global>,
-{
-    let _other = FileDisk::open_to_read(rt, image)?;
-    is_told(rt, image, &("check", &[], 0, "clean\n"))
-}
-
-/// The first call that is not refused while another program works on the image.
-fn first_taken<H>(rt: &H, image: &str) -> Result<Option<usize>, Fail>
-where
-    H: Files<File = File>
-        + Net<Listener = TcpListener, Stream = TcpStream>
-        + Threads
-        + Wait
-        + Clock
-        + Sync
-        + Alloc<A = Global>,
-{
-    let _other = FileDisk::open(rt, image)?;
-    first_untold(rt, image, IN_USE)
-}
-
-/// Whether an image is made, is clean beside one that reads it, and is fresh in the end; the first call that is taken; and the bytes of the image.
-type Used = ([bool; 3], Option<usize>, u64);
-
-fn told_of_used<H>(rt: &H, image: &str) -> Result<Used, Fail>
-where
-    H: Files<File = File>
-        + Net<Listener = TcpListener, Stream = TcpStream>
-        + Threads
-        + Wait
-        + Clock
-        + Sync
-        + Alloc<A = Global>,
-{
-    let made = is_told(rt, image, &FORMAT)?;
-    let beside = is_clean_beside(rt, image)?;
-    let taken = first_taken(rt, image)?;
-    let after = is_told(rt, image, &("status", &[], 0, FRESH))?;
-    let bytes = bytes_of(rt, image)?;
-    remove_file(rt, image)?;
-    Ok(([made, beside, after], taken, bytes))
-}
+/// The image is clean beside a program that reads it, and as it was behind what is refused beside one that works on it.
+const USED: &[Step] = &[
+    Step::Calls(&[FORMAT]),
+    Step::BesideReader(&[("check", &[], 0, "clean\n")]),
+    Step::BesideWriter(IN_USE),
+    Step::Calls(&[("status", &[], 0, FRESH)]),
+    Step::Bytes(BYTES),
+];
 
 /// A check shares the file with other checks alone. What is refused leaves the file as it was.
 #[test]
 fn image_in_use_is_left_alone(rt: HostRuntime) -> Result<(), Fail> {
-    let told = told_of_used(&rt, "used.img")?;
-    assert_eq!(rt; told, ([true; 3], None, BYTES));
-    Ok(())
+    take_steps(&rt, "used.img", USED)
 }

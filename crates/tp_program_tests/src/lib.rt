@@ -10,11 +10,15 @@ mod command_line_tests;
 #[cfg(test)]
 mod control_tests;
 #[cfg(test)]
+mod device_tests;
+#[cfg(test)]
 mod explained_tests;
 #[cfg(test)]
 mod feed_tests;
 #[cfg(test)]
 mod image_tests;
+#[cfg(test)]
+mod listing_tests;
 #[cfg(test)]
 mod memory_tests;
 #[cfg(test)]
@@ -29,6 +33,8 @@ mod serve_tests;
 mod servers;
 #[cfg(test)]
 mod socket_file_tests;
+#[cfg(test)]
+mod steps;
 #[cfg(test)]
 mod timed_tests;
 

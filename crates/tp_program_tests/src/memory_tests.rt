@@ -6,6 +6,7 @@ use crate::parts::{
 use std::alloc::{Alloc, AllocError, Global};
 use std::fs::File;
 use std::net::{Net, TcpListener, TcpStream};
+use std::process::Abort;
 use std::rt::Files;
 use std::sync::Wait;
 use std::test::Fail;
@@ -14,7 +15,7 @@ use std::time::Clock;
 use tp_images::{Images, MemImages};
 use tp_program::Status;
 
-const IMAGE: &str = "image";
+pub(crate) const IMAGE: &str = "image";
 
 /// What is told of that pool when it is opened again.
 const AGAIN: &[Call] = &[
@@ -29,7 +30,7 @@ const AGAIN: &[Call] = &[
 ];
 
 /// Runs the program with the words of a call, on an image in memory.
-fn run_call<H>(rt: &H, images: &mut MemImages, call: &Call) -> Result<Ran, Fail>
+pub(crate) fn run_call<H>(rt: &H, images: &mut MemImages, call: &Call) -> Result<Ran, Fail>
 where
     H: Files<File = File>
         + Net<Listener = TcpListener, Stream = TcpStream>
@@ -64,11 +65,8 @@ where
     Ok(None)
 }
 
-/// What calls tell behind a stop that leaves of each sector its kept value.
-fn told_behind_stop<H>(
-    rt: &H,
-    images: &mut MemImages,
-) -> Result<(Option<usize>, bool, Option<usize>), Fail>
+/// Makes these calls, and asserts that each ends and prints so.
+pub(crate) fn make_calls_in<H>(rt: &H, images: &mut MemImages, calls: &[Call]) -> Result<(), Fail>
 where
     H: Files<File = File>
         + Net<Listener = TcpListener, Stream = TcpStream>
@@ -76,23 +74,40 @@ where
         + Wait
         + Clock
         + Sync
-        + Alloc<A = Global>,
+        + Alloc<A = Global>
+        + Abort,
 {
-    let made = first_untold_of(rt, images, MADE)?;
-    let stopped = images.stop(IMAGE, &[0; 16_384]);
-    Ok((made, stopped, first_untold_of(rt, images, AGAIN)?))
+    let untold = first_untold_of(rt, images, calls)?;
+    assert_eq!(rt; untold, None);
+    Ok(())
+}
+
+/// Makes calls behind a stop that leaves of each sector its kept value.
+fn make_calls_behind_stop<H>(rt: &H, images: &mut MemImages) -> Result<(), Fail>
+where
+    H: Files<File = File>
+        + Net<Listener = TcpListener, Stream = TcpStream>
+        + Threads
+        + Wait
+        + Clock
+        + Sync
+        + Alloc<A = Global>
+        + Abort,
+{
+    make_calls_in(rt, images, MADE)?;
+    let is_stopped = images.stop(IMAGE, &[0; 16_384]);
+    assert!(rt; is_stopped);
+    make_calls_in(rt, images, AGAIN)
 }
 
 #[test]
 fn what_was_told_is_kept_by_a_stop(rt: HostRuntime) -> Result<(), Fail> {
     let mut images = MemImages::new(rt.alloc());
-    let told = told_behind_stop(&rt, &mut images)?;
-    assert!(rt; told == (None, true, None));
-    Ok(())
+    make_calls_behind_stop(&rt, &mut images)
 }
 
-/// How a status ends where the first call of the disk fails, and how it ends behind that.
-fn told_of_failing<H>(rt: &H, images: &mut MemImages) -> Result<(bool, Status, Option<usize>), Fail>
+/// Makes calls behind a status where the first call of the disk fails.
+fn make_calls_behind_failure<H>(rt: &H, images: &mut MemImages) -> Result<(), Fail>
 where
     H: Files<File = File>
         + Net<Listener = TcpListener, Stream = TcpStream>
@@ -100,20 +115,20 @@ where
         + Wait
         + Clock
         + Sync
-        + Alloc<A = Global>,
+        + Alloc<A = Global>
+        + Abort,
 {
-    let _ = first_untold_of(rt, images, MADE)?;
-    let armed = images.fail(IMAGE, 1, 1);
-    let failed = run_call(rt, images, &AGAIN[0])?.status;
-    Ok((armed, failed, first_untold_of(rt, images, AGAIN)?))
+    make_calls_in(rt, images, MADE)?;
+    let is_armed = images.fail(IMAGE, 1, 1);
+    let status = run_call(rt, images, &AGAIN[0])?.status;
+    assert_eq!(rt; (is_armed, status), (true, Status::Refused));
+    make_calls_in(rt, images, AGAIN)
 }
 
 #[test]
 fn failing_call_is_a_fault(rt: HostRuntime) -> Result<(), Fail> {
     let mut images = MemImages::new(rt.alloc());
-    let told = told_of_failing(&rt, &mut images)?;
-    assert!(rt; told == (true, Status::Refused, None));
-    Ok(())
+    make_calls_behind_failure(&rt, &mut images)
 }
 
 /// So many READs of one sector are asked for.
@@ -143,8 +158,8 @@ fn answered(alloc: Global) -> Result<Vec<u8>, AllocError> {
     Ok(text)
 }
 
-/// Whether all of them are answered, and the pool is closed, where each call of the disk behind so many fails.
-fn told_of_reads<H>(rt: &H, images: &mut MemImages) -> Result<(bool, bool), Fail>
+/// Has a client served that sends this.
+pub(crate) fn feed_in<H>(rt: &H, images: &mut MemImages, sent: &[u8]) -> Ran
 where
     H: Files<File = File>
         + Net<Listener = TcpListener, Stream = TcpStream>
@@ -154,27 +169,86 @@ where
         + Sync
         + Alloc<A = Global>,
 {
-    let _ = first_untold_of(rt, images, MADE)?;
-    let armed = images.fail(IMAGE, CALLS + 1, u64::MAX);
-    let text = asked(rt.alloc())?;
-    let mut input = text.as_slice();
+    let mut input = sent;
     let words = ["thinpool", "feed", IMAGE];
-    let ran = run_in(rt, images, &words, NO_TERMINAL, &mut input);
+    run_in(rt, images, &words, NO_TERMINAL, &mut input)
+}
+
+/// Whether all is done, and a client that sends this is sent this.
+fn is_fed<H>(rt: &H, images: &mut MemImages, sent: &[u8], wanted: &[u8]) -> bool
+where
+    H: Files<File = File>
+        + Net<Listener = TcpListener, Stream = TcpStream>
+        + Threads
+        + Wait
+        + Clock
+        + Sync
+        + Alloc<A = Global>,
+{
+    let ran = feed_in(rt, images, sent);
+    ran.status == Status::Done && ran.output.as_slice() == wanted
+}
+
+/// The same of that client.
+fn is_answered<H>(rt: &H, images: &mut MemImages, sent: &[u8]) -> Result<bool, AllocError>
+where
+    H: Files<File = File>
+        + Net<Listener = TcpListener, Stream = TcpStream>
+        + Threads
+        + Wait
+        + Clock
+        + Sync
+        + Alloc<A = Global>,
+{
     let wanted = answered(rt.alloc())?;
-    Ok((armed, ran.status == Status::Done && ran.output == wanted))
+    Ok(is_fed(rt, images, sent, &wanted))
+}
+
+/// Whether all of them are answered, and the pool is closed.
+fn are_read<H>(rt: &H, images: &mut MemImages) -> Result<bool, AllocError>
+where
+    H: Files<File = File>
+        + Net<Listener = TcpListener, Stream = TcpStream>
+        + Threads
+        + Wait
+        + Clock
+        + Sync
+        + Alloc<A = Global>,
+{
+    let text = asked(rt.alloc())?;
+    is_answered(rt, images, &text)
+}
+
+/// Asserts that, where each call of the disk behind so many fails.
+fn read_behind_failure<H>(rt: &H, images: &mut MemImages) -> Result<(), Fail>
+where
+    H: Files<File = File>
+        + Net<Listener = TcpListener, Stream = TcpStream>
+        + Threads
+        + Wait
+        + Clock
+        + Sync
+        + Alloc<A = Global>
+        + Abort,
+{
+    make_calls_in(rt, images, MADE)?;
+    let is_armed = images.fail(IMAGE, CALLS + 1, u64::MAX);
+    let are_read = are_read(rt, images)?;
+    assert_eq!(rt; (is_armed, are_read), (true, true));
+    Ok(())
 }
 
 #[test]
 fn nodes_that_were_read_are_held(rt: HostRuntime) -> Result<(), Fail> {
     let mut images = MemImages::new(rt.alloc());
-    let told = told_of_reads(&rt, &mut images)?;
-    assert!(rt; told == (true, true));
-    Ok(())
+    read_behind_failure(&rt, &mut images)
 }
 
-#[test]
-fn image_that_is_handed_out_is_in_use(rt: HostRuntime) {
-    let mut images = MemImages::new(rt.alloc());
+/// Whether an image that is missing is refused, one that is handed out is so twice, and its length then and behind that.
+type Lent = (bool, (bool, bool), Option<u64>, Option<u64>);
+
+fn told_of_lent(alloc: Global) -> Lent {
+    let mut images = MemImages::new(alloc);
     let missing = images.open(IMAGE).is_err();
     let made = images.create(IMAGE, 8);
     let in_use = (
@@ -185,6 +259,11 @@ fn image_that_is_handed_out_is_in_use(rt: HostRuntime) {
     if let Ok(disk) = made {
         images.close(IMAGE, disk);
     }
-    let told = (missing, in_use, lent, images.length(IMAGE));
+    (missing, in_use, lent, images.length(IMAGE))
+}
+
+#[test]
+fn image_that_is_handed_out_is_in_use(rt: HostRuntime) {
+    let told = told_of_lent(rt.alloc());
     assert_eq!(rt; told, (true, (true, true), None, Some(4096)));
 }

@@ -1,10 +1,9 @@
 //! What the tests share: what a client of NBD sends and is sent, and runs of the program over words.
 
 use std::alloc::{AllocError, Global};
-use std::fs::{File, OpenOptions, remove_file};
-use std::io::{self, Read};
+use std::fs::{File, remove_file};
+use std::io::{self, Read, Write};
 use std::net::{Net, TcpListener, TcpStream};
-use std::os::unix::fs::FileExt;
 use std::rt::Files;
 use std::sync::Wait;
 use std::test::Fail;
@@ -181,6 +180,46 @@ where
     }
 }
 
+/// Whether the program is done with a client who sends this, sent it this, and said nothing.
+pub(crate) fn is_sent<H, R: Read>(
+    rt: &H,
+    words: &[&str],
+    input: &mut R,
+    wanted: &[Part<'_>],
+) -> Result<bool, AllocError>
+where
+    H: Files<File = File>
+        + Net<Listener = TcpListener, Stream = TcpStream>
+        + Threads
+        + Wait
+        + Clock
+        + Sync
+        + Alloc<A = Global>,
+{
+    let wanted = joined(rt.alloc(), wanted)?;
+    Ok(is_done(&run(rt, words, input), &wanted))
+}
+
+/// The same of a client whose text is made of parts.
+pub(crate) fn is_answered<H>(
+    rt: &H,
+    words: &[&str],
+    text: &[Part<'_>],
+    wanted: &[Part<'_>],
+) -> Result<bool, AllocError>
+where
+    H: Files<File = File>
+        + Net<Listener = TcpListener, Stream = TcpStream>
+        + Threads
+        + Wait
+        + Clock
+        + Sync
+        + Alloc<A = Global>,
+{
+    let text = joined(rt.alloc(), text)?;
+    is_sent(rt, words, &mut text.as_slice(), wanted)
+}
+
 /// A call on an image: the command, what stands behind the image, the exit status, and all that is printed: on standard output where the
 /// status is 0, and else on standard error.
 pub(crate) type Call = (&'static str, &'static [&'static str], u8, &'static str);
@@ -260,7 +299,38 @@ where
     is_misuse(&run(rt, words, &mut input), text)
 }
 
-/// How the program ends with these words and this input where nobody reads what it prints, and whether it says that the system refused it.
+/// How the program ends with these words and this input that prints into this, and whether it says that the system refused it.
+pub(crate) fn told_into<H, W: Write>(
+    rt: &H,
+    words: &[&str],
+    input: &[u8],
+    output: &mut W,
+) -> (Status, bool)
+where
+    H: Files<File = File>
+        + Net<Listener = TcpListener, Stream = TcpStream>
+        + Threads
+        + Wait
+        + Clock
+        + Sync
+        + Alloc<A = Global>,
+{
+    let mut input = input;
+    let mut errors = Vec::new(rt.alloc());
+    let status = program(
+        rt,
+        &mut FileImages::new(rt),
+        rt.alloc(),
+        words,
+        NO_TERMINAL,
+        &mut input,
+        output,
+        &mut errors,
+    );
+    (status, errors.as_slice() == FAULT)
+}
+
+/// The same where nobody reads what it prints.
 pub(crate) fn told_of_unread<H>(
     rt: &H,
     words: &[&str],
@@ -277,19 +347,7 @@ where
 {
     let (reader, mut output) = io::pipe(rt)?;
     drop(reader);
-    let mut input = input;
-    let mut errors = Vec::new(rt.alloc());
-    let status = program(
-        rt,
-        &mut FileImages::new(rt),
-        rt.alloc(),
-        words,
-        NO_TERMINAL,
-        &mut input,
-        &mut output,
-        &mut errors,
-    );
-    Ok((status, errors.as_slice() == FAULT))
+    Ok(told_into(rt, words, input, &mut output))
 }
 
 /// Whether a call on this image ends and prints so.
@@ -345,16 +403,4 @@ where
     let untold = first_untold(rt, image, calls)?;
     remove_file(rt, image)?;
     Ok(untold)
-}
-
-/// Sets one byte of a file.
-pub(crate) fn set_byte<F: Files<File = File>>(
-    files: &F,
-    path: &str,
-    at: u64,
-    byte: u8,
-) -> Result<(), Fail> {
-    let file = OpenOptions::new().write(true).open(files, path)?;
-    file.write_all_at(&[byte], at)?;
-    Ok(())
 }

@@ -1,13 +1,12 @@
 //! Tests of scripts. Each test has files of its own, for they run side by side.
 
-use crate::parts::{
-    Call, FAULT, MADE, Part, Ran, first_untold, first_untold_of_new, is_done, is_misused, joined,
-    run, told_of_unread,
-};
+use crate::parts::{Call, FAULT, MADE, Part, is_misused, joined, run, told_of_unread};
+use crate::steps::{make_calls, make_last_calls};
 use std::alloc::Global;
 use std::fs::{File, remove_file};
 use std::io::Write;
 use std::net::{Net, TcpListener, TcpStream};
+use std::process::Abort;
 use std::rt::Files;
 use std::sync::Wait;
 use std::test::Fail;
@@ -22,8 +21,40 @@ fn write_script<F: Files<File = File>>(files: &F, name: &str, script: &[u8]) -> 
     Ok(())
 }
 
-/// Plays a script of these bytes, which stands in a file of this name.
-fn played<H>(rt: &H, image: &str, name: &str, script: &[u8]) -> Result<Ran, Fail>
+/// How a program that plays a script ends, what it prints, and what it says.
+#[derive(Clone, Copy)]
+struct End<'a> {
+    status: Status,
+    text: &'a [u8],
+    said: &'a [u8],
+}
+
+/// Whether the program of these words ends so.
+fn is_run<H>(rt: &H, words: &[&str], end: &End<'_>) -> bool
+where
+    H: Files<File = File>
+        + Net<Listener = TcpListener, Stream = TcpStream>
+        + Threads
+        + Wait
+        + Clock
+        + Sync
+        + Alloc<A = Global>,
+{
+    let mut input: &[u8] = b"";
+    let ran = run(rt, words, &mut input);
+    ran.status == end.status
+        && ran.output.as_slice() == end.text
+        && ran.errors.as_slice() == end.said
+}
+
+/// The same where a script of these bytes stands in a file of this name.
+fn is_played_in<H>(
+    rt: &H,
+    words: &[&str],
+    name: &str,
+    script: &[u8],
+    end: &End<'_>,
+) -> Result<bool, Fail>
 where
     H: Files<File = File>
         + Net<Listener = TcpListener, Stream = TcpStream>
@@ -34,14 +65,19 @@ where
         + Alloc<A = Global>,
 {
     write_script(rt, name, script)?;
-    let mut input: &[u8] = b"";
-    let ran = run(rt, &["thinpool", "play", image, name], &mut input);
+    let is_so = is_run(rt, words, end);
     remove_file(rt, name)?;
-    Ok(ran)
+    Ok(is_so)
 }
 
-/// Whether such a script is played to its end, and prints this.
-fn is_played<H>(rt: &H, image: &str, name: &str, script: &[u8], text: &[u8]) -> Result<bool, Fail>
+/// The same of a script of these parts.
+fn is_played<H>(
+    rt: &H,
+    words: &[&str],
+    name: &str,
+    script: &[Part<'_>],
+    end: &End<'_>,
+) -> Result<bool, Fail>
 where
     H: Files<File = File>
         + Net<Listener = TcpListener, Stream = TcpStream>
@@ -51,64 +87,120 @@ where
         + Sync
         + Alloc<A = Global>,
 {
-    Ok(is_done(&played(rt, image, name, script)?, text))
+    let script = joined(rt.alloc(), script)?;
+    is_played_in(rt, words, name, &script, end)
 }
 
-/// Whether a script stopped at a bad line, and printed this before it.
-fn is_stopped(ran: &Ran, text: &[u8], error: &[u8]) -> bool {
-    ran.status == Status::Misused && ran.output.as_slice() == text && ran.errors.as_slice() == error
+/// Plays such a script by these words, and asserts that it ends so.
+fn play_by<H>(
+    rt: &H,
+    words: &[&str],
+    name: &str,
+    script: &[Part<'_>],
+    end: &End<'_>,
+) -> Result<(), Fail>
+where
+    H: Files<File = File>
+        + Net<Listener = TcpListener, Stream = TcpStream>
+        + Threads
+        + Wait
+        + Clock
+        + Sync
+        + Alloc<A = Global>
+        + Abort,
+{
+    let is_so = is_played(rt, words, name, script, end)?;
+    assert!(rt; is_so);
+    Ok(())
 }
+
+/// The same over an image.
+fn play_on<H>(
+    rt: &H,
+    image: &str,
+    name: &str,
+    script: &[Part<'_>],
+    end: &End<'_>,
+) -> Result<(), Fail>
+where
+    H: Files<File = File>
+        + Net<Listener = TcpListener, Stream = TcpStream>
+        + Threads
+        + Wait
+        + Clock
+        + Sync
+        + Alloc<A = Global>
+        + Abort,
+{
+    play_by(rt, &["thinpool", "play", image, name], name, script, end)
+}
+
+/// Plays such a script over a pool in memory, and asserts that it is played to its end, and prints this.
+fn play<H>(rt: &H, name: &str, script: &[Part<'_>], text: &[Part<'_>]) -> Result<(), Fail>
+where
+    H: Files<File = File>
+        + Net<Listener = TcpListener, Stream = TcpStream>
+        + Threads
+        + Wait
+        + Clock
+        + Sync
+        + Alloc<A = Global>
+        + Abort,
+{
+    let text = joined(rt.alloc(), text)?;
+    let end = End {
+        status: Status::Done,
+        text: &text,
+        said: b"",
+    };
+    play_on(rt, "mem:", name, script, &end)
+}
+
+/// What a pool and its volumes are.
+const STATUS: &[Part<'static>] = &[Part::Text(
+    b"status\nmessage create_snap 1 0\nmessage create_thin 0\nthin 1\n",
+)];
+
+/// What is told of it.
+const STATUS_TOLD: &[Part<'static>] = &[Part::Text(
+    b"0 10/2048 0/4 - rw no_discard_passdown error_if_no_space - 512\nok\nrefused 14\n0 -\n",
+)];
 
 #[test]
 fn play_script(rt: HostRuntime) -> Result<(), Fail> {
-    let script = b"status\nmessage create_snap 1 0\nmessage create_thin 0\nthin 1\n";
-    let text =
-        b"0 10/2048 0/4 - rw no_discard_passdown error_if_no_space - 512\nok\nrefused 14\n0 -\n";
-    let is_so = is_played(&rt, "mem:", "status.script", script, text)?;
-    assert!(rt; is_so);
-    Ok(())
+    play(&rt, "status.script", STATUS, STATUS_TOLD)
 }
+
+/// Sessions that are there, and that are not.
+const NUMBERS: &[Part<'static>] = &[Part::Text(
+    b"open 3\nopen 3\nhangup 4\nbytes 3 00000004\nbytes 3 00\n",
+)];
+
+/// What is told of them.
+const NUMBERS_TOLD: &[Part<'static>] = &[Part::Text(
+    b"sent 3 4e42444d4147494349484156454f50540003\nrefused 22\nrefused 23\nend 3\nrefused 23\n",
+)];
 
 #[test]
 fn session_numbers(rt: HostRuntime) -> Result<(), Fail> {
-    let script = b"open 3\nopen 3\nhangup 4\nbytes 3 00000004\nbytes 3 00\n";
-    let text =
-        b"sent 3 4e42444d4147494349484156454f50540003\nrefused 22\nrefused 23\nend 3\nrefused 23\n";
-    let is_so = is_played(&rt, "mem:", "numbers.script", script, text)?;
-    assert!(rt; is_so);
-    Ok(())
+    play(&rt, "numbers.script", NUMBERS, NUMBERS_TOLD)
 }
 
 /// The greatest numbers, an empty line, a message that is empty, and no newline behind the last line.
-const ODD: &[u8] =
-    b"\nhangup 63\nthin 16777215\nmessage \nmessage  status\nopen 0\nbytes 0 00\nhangup 0";
+const ODD: &[Part<'static>] = &[Part::Text(
+    b"\nhangup 63\nthin 16777215\nmessage \nmessage  status\nopen 0\nbytes 0 00\nhangup 0",
+)];
 
 /// What is told of them.
-const ODD_TOLD: &[u8] =
-    b"refused 23\nrefused 15\nrefused 12\nrefused 12\nsent 0 4e42444d4147494349484156454f50540003\nend 0\n";
+const ODD_TOLD: &[Part<'static>] = &[Part::Text(
+    b"refused 23\nrefused 15\nrefused 12\nrefused 12\nsent 0 4e42444d4147494349484156454f50540003\nend 0\n",
+)];
 
-/// Whether they are played, and a script without a line.
-fn are_odd_played<H>(rt: &H) -> Result<[bool; 2], Fail>
-where
-    H: Files<File = File>
-        + Net<Listener = TcpListener, Stream = TcpStream>
-        + Threads
-        + Wait
-        + Clock
-        + Sync
-        + Alloc<A = Global>,
-{
-    Ok([
-        is_played(rt, "mem:", "odd.script", ODD, ODD_TOLD)?,
-        is_played(rt, "mem:", "odd.script", b"", b"")?,
-    ])
-}
-
+/// They are played, and a script without a line.
 #[test]
 fn odd_lines_that_are_lines(rt: HostRuntime) -> Result<(), Fail> {
-    let are_so = are_odd_played(&rt)?;
-    assert_eq!(rt; are_so, [true; 2]);
-    Ok(())
+    play(&rt, "odd.script", ODD, ODD_TOLD)?;
+    play(&rt, "odd.script", &[], &[])
 }
 
 /// Two clients that go to volumes 0 and 1, and the head of the first one's write.
@@ -167,44 +259,9 @@ const TWO_TOLD: &[Part<'static>] = &[
     Part::Text(ONE_GONE),
 ];
 
-/// Plays a script of these parts.
-fn played_parts<H>(rt: &H, image: &str, name: &str, script: &[Part<'_>]) -> Result<Ran, Fail>
-where
-    H: Files<File = File>
-        + Net<Listener = TcpListener, Stream = TcpStream>
-        + Threads
-        + Wait
-        + Clock
-        + Sync
-        + Alloc<A = Global>,
-{
-    let script = joined(rt.alloc(), script)?;
-    played(rt, image, name, &script)
-}
-
-/// Whether both sessions are told of as they should be.
-fn are_two_played<H>(rt: &H) -> Result<bool, Fail>
-where
-    H: Files<File = File>
-        + Net<Listener = TcpListener, Stream = TcpStream>
-        + Threads
-        + Wait
-        + Clock
-        + Sync
-        + Alloc<A = Global>,
-{
-    let text = joined(rt.alloc(), TWO_TOLD)?;
-    Ok(is_done(
-        &played_parts(rt, "mem:", "two.script", TWO_SESSIONS)?,
-        &text,
-    ))
-}
-
 #[test]
 fn two_sessions_and_busy(rt: HostRuntime) -> Result<(), Fail> {
-    let is_so = are_two_played(&rt)?;
-    assert!(rt; is_so);
-    Ok(())
+    play(&rt, "two.script", TWO_SESSIONS, TWO_TOLD)
 }
 
 /// What lets volume 0 grow, and a client that asks for it and reads behind its old end.
@@ -270,91 +327,52 @@ const GROWS_TOLD: &[Part<'static>] = &[
     Part::Text(GROWN_TOLD_BEHIND),
 ];
 
-/// Whether a volume that grows is told of as it should be.
-fn is_grown_played<H>(rt: &H) -> Result<bool, Fail>
-where
-    H: Files<File = File>
-        + Net<Listener = TcpListener, Stream = TcpStream>
-        + Threads
-        + Wait
-        + Clock
-        + Sync
-        + Alloc<A = Global>,
-{
-    let text = joined(rt.alloc(), GROWS_TOLD)?;
-    Ok(is_done(&played_parts(rt, "mem:", "grown.script", GROWS)?, &text))
-}
-
 #[test]
 fn grow_a_volume(rt: HostRuntime) -> Result<(), Fail> {
-    let is_so = is_grown_played(&rt)?;
-    assert!(rt; is_so);
-    Ok(())
+    play(&rt, "grown.script", GROWS, GROWS_TOLD)
 }
 
 /// A client of a volume of 4 MiB, which trims 2 MiB of it at once.
-const LONG: &[u8] = b"message grow 0 64
+const LONG: &[Part<'static>] = &[Part::Text(
+    b"message grow 0 64
 open 1
 bytes 1 0000000349484156454f5054000000010000000130
 bytes 1 25609513000000040000000000000001000000000000000000200000
-";
+",
+)];
 
-/// What is told of it, up to the flags of the volume.
-const LONG_TOLD: &[u8] = b"ok
+/// It is told the flags of the volume, and answered that this is refused by 22.
+const LONG_REFUSED: End<'static> = End {
+    status: Status::Done,
+    text: b"ok
 sent 1 4e42444d4147494349484156454f50540003
-sent 1 0000000000400000";
-
-/// The flags, and the answer that it is refused by 22.
-const LONG_REFUSED: &[u8] = b"006d
+sent 1 0000000000400000006d
 sent 1 67446698000000160000000000000001
-";
+",
+    said: b"",
+};
 
-/// The flags of those who are offered what `run` offers, and the answer that it is done.
-const LONG_DONE: &[u8] = b"016d
+/// It is told the flags of those who are offered what `run` offers, and answered that it is done.
+const LONG_DONE: End<'static> = End {
+    status: Status::Done,
+    text: b"ok
+sent 1 4e42444d4147494349484156454f50540003
+sent 1 0000000000400000016d
 sent 1 67446698000000000000000000000001
-";
+",
+    said: b"",
+};
 
-/// Whether these words play the script, which stands in a file, to its end, and print this behind what is told of it.
-fn is_long_played<H>(rt: &H, words: &[&str], told: &[u8]) -> Result<bool, Fail>
-where
-    H: Files<File = File>
-        + Net<Listener = TcpListener, Stream = TcpStream>
-        + Threads
-        + Wait
-        + Clock
-        + Sync
-        + Alloc<A = Global>,
-{
-    let text = joined(rt.alloc(), &[Part::Text(LONG_TOLD), Part::Text(told)])?;
-    let mut input: &[u8] = b"";
-    Ok(is_done(&run(rt, words, &mut input), &text))
-}
+/// The words that play it, without and with that for what `run` offers.
+const STRICT: &[&str] = &["thinpool", "play", "mem:", "long.script"];
 
-/// Whether the script is played without and with the words for what `run` offers.
-fn are_long_played<H>(rt: &H, name: &str) -> Result<[bool; 2], Fail>
-where
-    H: Files<File = File>
-        + Net<Listener = TcpListener, Stream = TcpStream>
-        + Threads
-        + Wait
-        + Clock
-        + Sync
-        + Alloc<A = Global>,
-{
-    write_script(rt, name, LONG)?;
-    let strict = is_long_played(rt, &["thinpool", "play", "mem:", name], LONG_REFUSED)?;
-    let extended = ["thinpool", "play", "--extended", "mem:", name];
-    let extended = is_long_played(rt, &extended, LONG_DONE)?;
-    remove_file(rt, name)?;
-    Ok([strict, extended])
-}
+const EXTENDED: &[&str] = &["thinpool", "play", "--extended", "mem:", "long.script"];
 
 /// A TRIM of more than 1 MiB is refused by 22, and done where clients are offered what `run` offers.
 #[test]
 fn long_trims_are_played_where_they_are_offered(rt: HostRuntime) -> Result<(), Fail> {
-    let are_so = are_long_played(&rt, "long.script")?;
-    assert_eq!(rt; are_so, [true; 2]);
-    Ok(())
+    play_by(&rt, STRICT, "long.script", LONG, &LONG_REFUSED)?;
+    play_by(&rt, EXTENDED, "long.script", LONG, &LONG_DONE)
 }
 
 /// Lines that are none: a space too many, a session or a volume that there cannot be, leading zeros, capital or odd digits, no digits, words that are none, a
@@ -389,6 +407,16 @@ const BAD: &[&[u8]] = &[
     b"\xff",
 ];
 
+/// The words that play the script of a bad line.
+const PLAY_BAD: &[&str] = &["thinpool", "play", "mem:", "bad.script"];
+
+/// It stops there.
+const STOPS: End<'static> = End {
+    status: Status::Misused,
+    text: b"ok\n",
+    said: b"thinpool: bad script line 3\n",
+};
+
 /// Whether a script does not stop at this line, which stands behind two good ones. What stands behind a bad line is not played.
 fn is_taken<H>(rt: &H, line: &[u8]) -> Result<bool, Fail>
 where
@@ -405,8 +433,7 @@ where
         Part::Text(line),
         Part::Text(b"\nstatus\n"),
     ];
-    let ran = played_parts(rt, "mem:", "bad.script", &script)?;
-    Ok(!is_stopped(&ran, b"ok\n", b"thinpool: bad script line 3\n"))
+    Ok(!is_played(rt, PLAY_BAD, "bad.script", &script, &STOPS)?)
 }
 
 /// The first of these lines at which a script does not stop.
@@ -435,46 +462,28 @@ fn bad_script_lines(rt: HostRuntime) -> Result<(), Fail> {
     Ok(())
 }
 
-/// Plays a script that sends so many digits at once.
-fn played_digits<H>(rt: &H, count: usize) -> Result<Ran, Fail>
-where
-    H: Files<File = File>
-        + Net<Listener = TcpListener, Stream = TcpStream>
-        + Threads
-        + Wait
-        + Clock
-        + Sync
-        + Alloc<A = Global>,
-{
-    let script = [Part::Text(b"bytes 63 "), Part::Fill(b'0', count)];
-    played_parts(rt, "mem:", "digits.script", &script)
-}
+/// A script that sends as many digits at once as there may be, and one that sends more.
+const MOST_DIGITS: &[Part<'static>] = &[Part::Text(b"bytes 63 "), Part::Fill(b'0', 16_384)];
 
-/// Whether as many digits as there may be are played, and more are a bad line.
-fn are_digits_told<H>(rt: &H) -> Result<[bool; 2], Fail>
-where
-    H: Files<File = File>
-        + Net<Listener = TcpListener, Stream = TcpStream>
-        + Threads
-        + Wait
-        + Clock
-        + Sync
-        + Alloc<A = Global>,
-{
-    let most = is_done(&played_digits(rt, 16_384)?, b"refused 23\n");
-    let more = is_stopped(
-        &played_digits(rt, 16_386)?,
-        b"",
-        b"thinpool: bad script line 1\n",
-    );
-    Ok([most, more])
-}
+const MORE_DIGITS: &[Part<'static>] = &[Part::Text(b"bytes 63 "), Part::Fill(b'0', 16_386)];
+
+/// The one is played, and the other has a bad line.
+const PLAYED: End<'static> = End {
+    status: Status::Done,
+    text: b"refused 23\n",
+    said: b"",
+};
+
+const STOPPED_FIRST: End<'static> = End {
+    status: Status::Misused,
+    text: b"",
+    said: b"thinpool: bad script line 1\n",
+};
 
 #[test]
 fn too_many_digits(rt: HostRuntime) -> Result<(), Fail> {
-    let are_so = are_digits_told(&rt)?;
-    assert_eq!(rt; are_so, [true; 2]);
-    Ok(())
+    play_on(&rt, "mem:", "digits.script", MOST_DIGITS, &PLAYED)?;
+    play_on(&rt, "mem:", "digits.script", MORE_DIGITS, &STOPPED_FIRST)
 }
 
 /// A new volume, and a client of volume 0 that writes 512 bytes.
@@ -490,24 +499,31 @@ sent 0 0000000000100000006d
 sent 0 67446698000000000000000000000001
 ";
 
-/// Plays that script, with this behind it.
-fn played_writing<H>(rt: &H, image: &str, name: &str, rest: &[u8]) -> Result<Ran, Fail>
-where
-    H: Files<File = File>
-        + Net<Listener = TcpListener, Stream = TcpStream>
-        + Threads
-        + Wait
-        + Clock
-        + Sync
-        + Alloc<A = Global>,
-{
-    let script = [
-        Part::Text(WRITING),
-        Part::Fill(b'6', 1024),
-        Part::Text(rest),
-    ];
-    played_parts(rt, image, name, &script)
-}
+/// That script, whose client writes the digit 6 alone, and the same with a bad line.
+const WRITES: &[Part<'static>] = &[
+    Part::Text(WRITING),
+    Part::Fill(b'6', 1024),
+    Part::Text(b"\n"),
+];
+
+const WRITES_BADLY: &[Part<'static>] = &[
+    Part::Text(WRITING),
+    Part::Fill(b'6', 1024),
+    Part::Text(b"\nflush\n"),
+];
+
+/// How they end.
+const WRITTEN: End<'static> = End {
+    status: Status::Done,
+    text: WROTE,
+    said: b"",
+};
+
+const WRITTEN_BADLY: End<'static> = End {
+    status: Status::Misused,
+    text: WROTE,
+    said: b"thinpool: bad script line 5\n",
+};
 
 /// Both volumes, of which one has a block.
 const KEPT: &[Call] = &[
@@ -522,29 +538,12 @@ const KEPT: &[Call] = &[
     ("check", &[], 0, "clean\n"),
 ];
 
-/// Whether a script over an image is played to its end, and the first calls before and behind it that do not end and print so.
-fn told_of_an_image<H>(rt: &H, image: &str) -> Result<(bool, [Option<usize>; 2]), Fail>
-where
-    H: Files<File = File>
-        + Net<Listener = TcpListener, Stream = TcpStream>
-        + Threads
-        + Wait
-        + Clock
-        + Sync
-        + Alloc<A = Global>,
-{
-    let made = first_untold(rt, image, MADE)?;
-    let is_so = is_done(&played_writing(rt, image, "image.script", b"\n")?, WROTE);
-    let kept = first_untold_of_new(rt, image, KEPT)?;
-    Ok((is_so, [made, kept]))
-}
-
 /// At its end the client is let go and the pool is closed, which keeps what was written.
 #[test]
 fn a_script_over_an_image(rt: HostRuntime) -> Result<(), Fail> {
-    let told = told_of_an_image(&rt, "played.img")?;
-    assert_eq!(rt; told, (true, [None; 2]));
-    Ok(())
+    make_calls(&rt, "played.img", MADE)?;
+    play_on(&rt, "played.img", "image.script", WRITES, &WRITTEN)?;
+    make_last_calls(&rt, "played.img", KEPT)
 }
 
 /// Both volumes, with nothing.
@@ -560,61 +559,39 @@ const STOPPED: &[Call] = &[
     ("check", &[], 0, "clean\n"),
 ];
 
-/// The same of a script that stops at a bad line.
-fn told_of_a_stop<H>(rt: &H, image: &str) -> Result<(bool, [Option<usize>; 2]), Fail>
-where
-    H: Files<File = File>
-        + Net<Listener = TcpListener, Stream = TcpStream>
-        + Threads
-        + Wait
-        + Clock
-        + Sync
-        + Alloc<A = Global>,
-{
-    let made = first_untold(rt, image, MADE)?;
-    let ran = played_writing(rt, image, "flush.script", b"\nflush\n")?;
-    let is_so = is_stopped(&ran, WROTE, b"thinpool: bad script line 5\n");
-    drop(ran);
-    let kept = first_untold_of_new(rt, image, STOPPED)?;
-    Ok((is_so, [made, kept]))
-}
-
 /// The lines before a bad line were played, and the pool is not closed: the message was kept at once, and the write, which nobody flushed, is not.
 #[test]
 fn a_bad_line_closes_nothing(rt: HostRuntime) -> Result<(), Fail> {
-    let told = told_of_a_stop(&rt, "stopped.img")?;
-    assert_eq!(rt; told, (true, [None; 2]));
-    Ok(())
+    make_calls(&rt, "stopped.img", MADE)?;
+    play_on(
+        &rt,
+        "stopped.img",
+        "flush.script",
+        WRITES_BADLY,
+        &WRITTEN_BADLY,
+    )?;
+    make_last_calls(&rt, "stopped.img", STOPPED)
 }
 
-/// Whether a task was refused because the system refused it.
-fn is_fault(ran: &Ran) -> bool {
-    ran.status == Status::Refused && ran.errors.as_slice() == FAULT
-}
+/// The system refuses the task.
+const REFUSED: End<'static> = End {
+    status: Status::Refused,
+    text: b"",
+    said: FAULT,
+};
 
-/// Whether a script that is not there is a fault, and an image that is not there.
-fn are_faults<H>(rt: &H) -> Result<[bool; 2], Fail>
-where
-    H: Files<File = File>
-        + Net<Listener = TcpListener, Stream = TcpStream>
-        + Threads
-        + Wait
-        + Clock
-        + Sync
-        + Alloc<A = Global>,
-{
-    let mut input: &[u8] = b"";
-    let script = is_fault(&run(rt, &["thinpool", "play", "mem:", "no.script"], &mut input));
-    let image = is_fault(&played(rt, "no.img", "close.script", b"close\n")?);
-    Ok([script, image])
-}
+/// The words of a script that is not there.
+const NO_SCRIPT: &[&str] = &["thinpool", "play", "mem:", "no.script"];
+
+/// One that is there.
+const CLOSES: &[Part<'static>] = &[Part::Text(b"close\n")];
 
 /// The image is opened before the script is, so a bad line is not told where there is none.
 #[test]
 fn files_that_are_not_there(rt: HostRuntime) -> Result<(), Fail> {
-    let are_so = are_faults(&rt)?;
-    assert_eq!(rt; are_so, [true; 2]);
-    Ok(())
+    let is_so = is_run(&rt, NO_SCRIPT, &REFUSED);
+    assert!(rt; is_so);
+    play_on(&rt, "no.img", "close.script", CLOSES, &REFUSED)
 }
 
 #[test]

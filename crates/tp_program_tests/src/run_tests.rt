@@ -1,9 +1,8 @@
 //! Tests of clients without end over the system's sockets, until a control line ends them.
 
-use crate::parts::{
-    CLIENT_GO, Call, MADE, Part, Ran, first_untold, first_untold_of_new, greeted, joined,
-};
-use crate::servers::{Places, exchange, run_server};
+use crate::parts::{CLIENT_GO, Call, GO_REPLIES, GREETING, MADE, Part, Ran};
+use crate::servers::{Places, exchange, is_exchanged, run_server};
+use crate::steps::{make_calls, make_last_calls};
 use std::alloc::Global;
 use std::fs::{self, File};
 use std::io::{self, ErrorKind, Read};
@@ -33,10 +32,10 @@ where
 
 /// Has a client go to volume 0 and fill its first sector: it flushes nothing.
 fn go_and_fill(alloc: Global, client: &mut TcpStream) -> io::Result<()> {
-    let greeting = greeted(alloc)?.len();
-    exchange(alloc, client, CLIENT_GO, greeting)?;
-    let text = joined(alloc, &[Part::Ask(1, 7, 0, 512), Part::Fill(b'a', 512)])?;
-    exchange(alloc, client, &text, 16)?;
+    let greeted = [Part::Text(GREETING), Part::Text(GO_REPLIES)];
+    is_exchanged(alloc, client, &[Part::Text(CLIENT_GO)], &greeted)?;
+    let text = [Part::Ask(1, 7, 0, 512), Part::Fill(b'a', 512)];
+    is_exchanged(alloc, client, &text, &[Part::Reply(0, 7)])?;
     Ok(())
 }
 
@@ -94,36 +93,29 @@ where
     Ok((status, told?))
 }
 
-/// The same of a new image, and the first calls before and behind that do not end and print so.
-fn told_of_image<H>(
-    rt: &H,
-    image: &str,
-) -> Result<((Status, (bool, usize)), [Option<usize>; 2]), Fail>
-where
-    H: Files<File = File>
-        + Net<Listener = TcpListener, Stream = TcpStream>
-        + Threads
-        + Wait
-        + Clock
-        + Sync
-        + Alloc<A = Global>,
-{
-    let made = first_untold(rt, image, MADE)?;
-    let told = told_of_stop(rt, image)?;
-    let left = first_untold_of_new(rt, image, LEFT)?;
-    Ok((told, [made, left]))
-}
-
 /// The program ends where a line tells it to, and closes the pool, though a client is still there.
 #[test]
 fn a_line_stops_all(rt: HostRuntime) -> Result<(), Fail> {
-    let told = told_of_image(&rt, "stopped.img")?;
-    assert_eq!(rt; told, ((Status::Done, (true, 0)), [None; 2]));
+    make_calls(&rt, "stopped.img", MADE)?;
+    let told = told_of_stop(&rt, "stopped.img")?;
+    make_last_calls(&rt, "stopped.img", LEFT)?;
+    assert_eq!(rt; told, (Status::Done, (true, 0)));
     Ok(())
 }
 
-/// What the program says of a pool of which little is free while it serves it, and how it ends, where a line stops it some time later.
-fn said_of_low<H>(rt: &H, image: &str) -> Result<Ran, Fail>
+/// How the program ends, and how often it said that little is free, of metadata and of data.
+type Low = (Status, usize, usize);
+
+/// How that ended.
+fn low_of(ran: &Ran) -> Low {
+    let said = std::str::from_utf8(&ran.errors).unwrap_or("");
+    let metadata = said.matches(" metadata is low: ");
+    let data = said.matches(" data is low: ");
+    (ran.status, metadata.count(), data.count())
+}
+
+/// Runs the program that serves a pool of which little is free.
+fn serve_low<H>(rt: &H, image: &str, places: &Places) -> Low
 where
     H: Files<File = File>
         + Net<Listener = TcpListener, Stream = TcpStream>
@@ -145,14 +137,7 @@ where
         "--low-water",
         "100",
     ];
-    let places = OnceLock::new();
-    let (told, ran) = join(
-        rt,
-        || stop_later(rt, &places),
-        || run_server(rt, &words, &places),
-    );
-    told?;
-    Ok(ran)
+    low_of(&run_server(rt, &words, places))
 }
 
 /// Stops it when it has looked some times at what is free.
@@ -168,8 +153,8 @@ where
     is_stopped(rt.alloc(), &mut lines)
 }
 
-/// How the program ends, and how often it said that little is free, of metadata and of data.
-fn told_of_low<H>(rt: &H, image: &str) -> Result<(Status, usize, usize), Fail>
+/// The same where a line stops it some time later.
+fn told_of_low<H>(rt: &H, image: &str) -> Result<Low, Fail>
 where
     H: Files<File = File>
         + Net<Listener = TcpListener, Stream = TcpStream>
@@ -179,19 +164,22 @@ where
         + Sync
         + Alloc<A = Global>,
 {
-    first_untold(rt, image, MADE)?;
-    let ran = said_of_low(rt, image)?;
-    fs::remove_file(rt, image)?;
-    let said = std::str::from_utf8(&ran.errors).unwrap_or("");
-    let metadata = said.matches(" metadata is low: ");
-    let data = said.matches(" data is low: ");
-    Ok((ran.status, metadata.count(), data.count()))
+    let places = OnceLock::new();
+    let (told, low) = join(
+        rt,
+        || stop_later(rt, &places),
+        || serve_low(rt, image, &places),
+    );
+    told?;
+    Ok(low)
 }
 
 /// That less of a pool is free than is to be is said once, however often it is looked at.
 #[test]
 fn low_water_is_told_once(rt: HostRuntime) -> Result<(), Fail> {
+    make_calls(&rt, "low.img", MADE)?;
     let told = told_of_low(&rt, "low.img")?;
+    fs::remove_file(&rt, "low.img")?;
     assert_eq!(rt; told, (Status::Done, 1, 0));
     Ok(())
 }

@@ -1,15 +1,17 @@
 //! Tests of clients over the system's sockets and of a pipe. Each test has a file of its own, for they run side by side.
 
 use crate::parts::{
-    CLIENT_GO, Call, FAULT, GO_REPLIES, GREETING, MADE, Part, Ran, add, first_untold,
-    first_untold_of_new, greeted, joined, told_of_unread,
+    CLIENT_GO, Call, FAULT, GO_REPLIES, GREETING, MADE, Part, Ran, add, greeted, joined,
+    told_of_unread,
 };
-use crate::servers::{Places, addresses_in, exchange, run_server};
+use crate::servers::{Places, addresses_in, exchange, is_exchanged, run_server};
+use crate::steps::{make_calls, make_last_calls};
 use std::alloc::{AllocError, Global};
-use std::fs::{File, remove_file};
+use std::fs::File;
 use std::io;
 use std::io::{ErrorKind, Read, Write};
-use std::net::{Net, Shutdown, SocketAddr, TcpListener, TcpStream};
+use std::net::{Net, Shutdown, TcpListener, TcpStream};
+use std::process::Abort;
 use std::rt::Files;
 use std::sync::{OnceLock, Wait};
 use std::test::Fail;
@@ -34,6 +36,20 @@ where
 /// Whether the program served all that it was to, and said nothing but where it listened.
 fn is_served(ran: &Ran) -> bool {
     ran.status == Status::Done && ran.output.is_empty() && addresses_in(&ran.errors).is_some()
+}
+
+/// Whether the program does that that is to serve so many clients of an image.
+fn is_done_with<H>(rt: &H, image: &str, address: &str, count: &str, places: &Places) -> bool
+where
+    H: Files<File = File>
+        + Net<Listener = TcpListener, Stream = TcpStream>
+        + Threads
+        + Wait
+        + Clock
+        + Sync
+        + Alloc<A = Global>,
+{
+    is_served(&serve(rt, image, address, count, places))
 }
 
 /// Connects to the program, once it listens.
@@ -65,27 +81,35 @@ where
     talk(rt.alloc(), &mut client, text)
 }
 
-/// Runs the program that serves one client, and that client beside it, and tells what it was sent.
-fn served_one<H>(rt: &H, image: &str, address: &str, text: &[u8]) -> (Ran, io::Result<Vec<u8>>)
+/// Whether a client that sends this so is sent these parts.
+fn is_sent<H>(rt: &H, places: &Places, text: &[u8], wanted: &[Part<'_>]) -> io::Result<bool>
 where
-    H: Files<File = File>
-        + Net<Listener = TcpListener, Stream = TcpStream>
-        + Threads
-        + Wait
-        + Clock
-        + Sync
-        + Alloc<A = Global>,
+    H: Net<Listener = TcpListener, Stream = TcpStream> + Wait + Alloc<A = Global>,
 {
-    let places = OnceLock::new();
-    let (sent, ran) = join(
-        rt,
-        || converse(rt, &places, text),
-        || serve(rt, image, address, "1", &places),
-    );
-    (ran, sent)
+    let sent = converse(rt, places, text)?;
+    are_parts(rt.alloc(), &sent, wanted)
 }
 
-/// The same, where the first block of the volume was written.
+/// Whether these bytes are these parts.
+fn are_parts(alloc: Global, sent: &[u8], wanted: &[Part<'_>]) -> io::Result<bool> {
+    Ok(joined(alloc, wanted)?.as_slice() == sent)
+}
+
+/// The same of a client whose text is made of parts.
+fn is_answered<H>(
+    rt: &H,
+    places: &Places,
+    text: &[Part<'_>],
+    wanted: &[Part<'_>],
+) -> io::Result<bool>
+where
+    H: Net<Listener = TcpListener, Stream = TcpStream> + Wait + Alloc<A = Global>,
+{
+    let text = joined(rt.alloc(), text)?;
+    is_sent(rt, places, &text, wanted)
+}
+
+/// What is told of a pool where the first block of the volume was written.
 const WRITTEN: &[Call] = &[
     (
         "status",
@@ -134,147 +158,37 @@ const WHOLE_ANSWERS: &[Part<'static>] = &[
     Part::Reply(0, 3),
 ];
 
-/// Whether a client was sent all these parts.
-fn is_sent(alloc: Global, sent: &[u8], wanted: &[Part<'_>]) -> Result<bool, AllocError> {
-    Ok(joined(alloc, wanted)?.as_slice() == sent)
-}
+/// A client that reads the same, and goes.
+const READING: &[Part<'static>] = &[Part::Text(CLIENT_GO), Part::Ask(0, 2, 0, 512)];
 
-/// Whether the program is done with one client, and that one was sent the answers of a whole session.
-fn is_one_served(
-    alloc: Global,
-    ran: &Ran,
-    sent: io::Result<Vec<u8>>,
-) -> Result<(bool, bool), Fail> {
-    let sent = sent?;
-    Ok((is_served(ran), is_sent(alloc, &sent, WHOLE_ANSWERS)?))
-}
+/// What that client is sent.
+const READ: &[Part<'static>] = &[
+    Part::Text(GREETING),
+    Part::Text(GO_REPLIES),
+    Part::Reply(0, 2),
+    Part::Fill(0x61, 512),
+];
 
-/// That of a client of an image at an address.
-fn told_of_one<H>(rt: &H, image: &str, address: &str) -> Result<(bool, bool), Fail>
-where
-    H: Files<File = File>
-        + Net<Listener = TcpListener, Stream = TcpStream>
-        + Threads
-        + Wait
-        + Clock
-        + Sync
-        + Alloc<A = Global>,
-{
-    let text = joined(rt.alloc(), WHOLE)?;
-    let (ran, sent) = served_one(rt, image, address, &text);
-    is_one_served(rt.alloc(), &ran, sent)
-}
-
-/// The first call that does not end and print so where an image is made, and whether the program is done with one client of it, who was sent all answers.
-type Session = (Option<usize>, (bool, bool));
-
-const SERVED: Session = (None, (true, true));
-
-fn told_of_session<H>(rt: &H, image: &str, address: &str) -> Result<Session, Fail>
-where
-    H: Files<File = File>
-        + Net<Listener = TcpListener, Stream = TcpStream>
-        + Threads
-        + Wait
-        + Clock
-        + Sync
-        + Alloc<A = Global>,
-{
-    let made = first_untold(rt, image, MADE)?;
-    Ok((made, told_of_one(rt, image, address)?))
-}
-
-/// The same over loopback, and the first call behind it that does not end and print so.
-fn told_of_loopback<H>(rt: &H, image: &str) -> Result<(Session, Option<usize>), Fail>
-where
-    H: Files<File = File>
-        + Net<Listener = TcpListener, Stream = TcpStream>
-        + Threads
-        + Wait
-        + Clock
-        + Sync
-        + Alloc<A = Global>,
-{
-    let told = told_of_session(rt, image, "127.0.0.1:0")?;
-    Ok((told, first_untold_of_new(rt, image, WRITTEN)?))
-}
-
-#[test]
-fn a_session_over_loopback(rt: HostRuntime) -> Result<(), Fail> {
-    let told = told_of_loopback(&rt, "loopback.img")?;
-    assert_eq!(rt; told, (SERVED, None));
-    Ok(())
-}
-
-/// The same over the newer loopback. Where the machine has no address of that kind, there is nothing to be tried.
-fn told_of_newer<H>(rt: &H, image: &str) -> Result<Session, Fail>
-where
-    H: Files<File = File>
-        + Net<Listener = TcpListener, Stream = TcpStream>
-        + Threads
-        + Wait
-        + Clock
-        + Sync
-        + Alloc<A = Global>,
-{
-    if TcpListener::bind(rt, "[::1]:0").is_err() {
-        return Ok(SERVED);
-    }
-    let told = told_of_session(rt, image, "[::1]:0")?;
-    remove_file(rt, image)?;
-    Ok(told)
-}
-
-#[test]
-fn a_session_over_the_newer_loopback(rt: HostRuntime) -> Result<(), Fail> {
-    let told = told_of_newer(&rt, "newer.img")?;
-    assert_eq!(rt; told, SERVED);
-    Ok(())
-}
-
-/// What a client is sent that fills and reads the first sector.
-fn fill_and_read(alloc: Global, client: &mut TcpStream) -> io::Result<Vec<u8>> {
-    let count = joined(alloc, FILLED)?.len();
-    let text = joined(alloc, FILLING)?;
-    exchange(alloc, client, &text, count)
-}
-
-/// What a client is sent that reads the same, and goes.
-fn read_and_go<H>(rt: &H, places: &Places) -> io::Result<Vec<u8>>
+/// Whether each of two clients is sent its answers: the second one comes when what the first one fills and reads was answered.
+fn are_answered<H>(rt: &H, places: &Places, first: &mut TcpStream) -> io::Result<(bool, bool)>
 where
     H: Net<Listener = TcpListener, Stream = TcpStream> + Wait + Alloc<A = Global>,
 {
-    let text = joined(
-        rt.alloc(),
-        &[Part::Text(CLIENT_GO), Part::Ask(0, 2, 0, 512)],
-    )?;
-    converse(rt, places, &text)
+    let is_first = is_exchanged(rt.alloc(), first, FILLING, FILLED)?;
+    Ok((is_first, is_answered(rt, places, READING, READ)?))
 }
 
-/// What a client is sent that fills and reads the first sector, and one that comes when that was answered, reads the same, and goes.
-fn fill_and_read_beside<H>(
-    rt: &H,
-    places: &Places,
-    first: &mut TcpStream,
-) -> io::Result<(Vec<u8>, Vec<u8>)>
-where
-    H: Net<Listener = TcpListener, Stream = TcpStream> + Wait + Alloc<A = Global>,
-{
-    let answered = fill_and_read(rt.alloc(), first)?;
-    Ok((answered, read_and_go(rt, places)?))
-}
-
-/// The same of two clients, of which the first one goes last.
-fn one_behind_the_other<H>(rt: &H, places: &Places) -> io::Result<(Vec<u8>, Vec<u8>)>
+/// The same where the first one goes last.
+fn one_behind_the_other<H>(rt: &H, places: &Places) -> io::Result<(bool, bool)>
 where
     H: Net<Listener = TcpListener, Stream = TcpStream> + Wait + Alloc<A = Global>,
 {
     let mut first = connect(rt, places)?;
-    fill_and_read_beside(rt, places, &mut first)
+    are_answered(rt, places, &mut first)
 }
 
-/// Runs the program that serves two clients, and both of them beside it.
-fn served_two<H>(rt: &H, image: &str) -> (Ran, io::Result<(Vec<u8>, Vec<u8>)>)
+/// Whether the program that serves two clients is done with them, and each was sent its answers.
+fn told_of_two<H>(rt: &H, image: &str) -> Result<(bool, (bool, bool)), Fail>
 where
     H: Files<File = File>
         + Net<Listener = TcpListener, Stream = TcpStream>
@@ -285,77 +199,20 @@ where
         + Alloc<A = Global>,
 {
     let places = OnceLock::new();
-    let (sent, ran) = join(
+    let (are_answered, is_done) = join(
         rt,
         || one_behind_the_other(rt, &places),
-        || serve(rt, image, "127.0.0.1:0", "2", &places),
+        || is_done_with(rt, image, "127.0.0.1:0", "2", &places),
     );
-    (ran, sent)
-}
-
-/// What the second one is sent.
-const READ: &[Part<'static>] = &[
-    Part::Text(GREETING),
-    Part::Text(GO_REPLIES),
-    Part::Reply(0, 2),
-    Part::Fill(0x61, 512),
-];
-
-/// Whether the first one was sent the answers to what it filled and read, and the second one what it read.
-fn are_answered(alloc: Global, told: &(Vec<u8>, Vec<u8>)) -> Result<(bool, bool), AllocError> {
-    Ok((
-        is_sent(alloc, &told.0, FILLED)?,
-        is_sent(alloc, &told.1, READ)?,
-    ))
-}
-
-/// Whether the program served both clients, and each was sent its answers.
-type Both = (bool, (bool, bool));
-
-fn are_both_served(
-    alloc: Global,
-    ran: &Ran,
-    told: io::Result<(Vec<u8>, Vec<u8>)>,
-) -> Result<Both, Fail> {
-    let told = told?;
-    Ok((is_served(ran), are_answered(alloc, &told)?))
-}
-
-fn told_of_two<H>(rt: &H, image: &str) -> Result<Both, Fail>
-where
-    H: Files<File = File>
-        + Net<Listener = TcpListener, Stream = TcpStream>
-        + Threads
-        + Wait
-        + Clock
-        + Sync
-        + Alloc<A = Global>,
-{
-    let (ran, told) = served_two(rt, image);
-    are_both_served(rt.alloc(), &ran, told)
-}
-
-/// The same of a new image, and the first calls before and behind that do not end and print so.
-fn told_of_both<H>(rt: &H, image: &str) -> Result<(Both, [Option<usize>; 2]), Fail>
-where
-    H: Files<File = File>
-        + Net<Listener = TcpListener, Stream = TcpStream>
-        + Threads
-        + Wait
-        + Clock
-        + Sync
-        + Alloc<A = Global>,
-{
-    let made = first_untold(rt, image, MADE)?;
-    let told = told_of_two(rt, image)?;
-    let written = first_untold_of_new(rt, image, WRITTEN)?;
-    Ok((told, [made, written]))
+    Ok((is_done, are_answered?))
 }
 
 #[test]
 fn two_clients_at_once(rt: HostRuntime) -> Result<(), Fail> {
-    let told = told_of_both(&rt, "later.img")?;
-    assert_eq!(rt; told, ((true, (true, true)), [None; 2]));
+    make_calls(&rt, "later.img", MADE)?;
+    let told = told_of_two(&rt, "later.img")?;
+    make_last_calls(&rt, "later.img", WRITTEN)?;
+    assert_eq!(rt; told, (true, (true, true)));
     Ok(())
 }
 
@@ -393,18 +250,24 @@ where
     begin(rt.alloc(), &mut first)
 }
 
-/// Such a client, and then one with a whole session.
-fn one_breaks_off<H>(rt: &H, places: &Places) -> io::Result<Vec<u8>>
+/// Whether a client with a whole session is sent its answers, and comes behind such a one where that is wanted.
+fn is_whole<H>(rt: &H, places: &Places, is_behind: bool) -> io::Result<bool>
 where
     H: Net<Listener = TcpListener, Stream = TcpStream> + Wait + Alloc<A = Global>,
 {
-    begin_and_go(rt, places)?;
-    let text = joined(rt.alloc(), WHOLE)?;
-    converse(rt, places, &text)
+    if is_behind {
+        begin_and_go(rt, places)?;
+    }
+    is_answered(rt, places, WHOLE, WHOLE_ANSWERS)
 }
 
-/// Runs the program that serves two clients, of which one breaks off.
-fn served_broken<H>(rt: &H, image: &str) -> (Ran, io::Result<Vec<u8>>)
+/// Whether the program that serves them at an address is done with them, and that.
+fn told_of_session<H>(
+    rt: &H,
+    image: &str,
+    address: &str,
+    is_behind: bool,
+) -> Result<(bool, bool), Fail>
 where
     H: Files<File = File>
         + Net<Listener = TcpListener, Stream = TcpStream>
@@ -414,17 +277,18 @@ where
         + Sync
         + Alloc<A = Global>,
 {
+    let count = if is_behind { "2" } else { "1" };
     let places = OnceLock::new();
-    let (sent, ran) = join(
+    let (is_whole, is_done) = join(
         rt,
-        || one_breaks_off(rt, &places),
-        || serve(rt, image, "127.0.0.1:0", "2", &places),
+        || is_whole(rt, &places, is_behind),
+        || is_done_with(rt, image, address, count, &places),
     );
-    (ran, sent)
+    Ok((is_done, is_whole?))
 }
 
-/// Whether the program served both, and the second one was sent its answers.
-fn told_of_broken<H>(rt: &H, image: &str) -> Result<(bool, bool), Fail>
+/// Has them served on a new image, and asserts that all is so, and what is left.
+fn serve_session<H>(rt: &H, image: &str, address: &str, is_behind: bool) -> Result<(), Fail>
 where
     H: Files<File = File>
         + Net<Listener = TcpListener, Stream = TcpStream>
@@ -432,34 +296,32 @@ where
         + Wait
         + Clock
         + Sync
-        + Alloc<A = Global>,
+        + Alloc<A = Global>
+        + Abort,
 {
-    let (ran, sent) = served_broken(rt, image);
-    is_one_served(rt.alloc(), &ran, sent)
+    make_calls(rt, image, MADE)?;
+    let told = told_of_session(rt, image, address, is_behind)?;
+    assert_eq!(rt; told, (true, true));
+    make_last_calls(rt, image, WRITTEN)
 }
 
-/// The same of a new image, and the first calls before and behind that do not end and print so.
-fn told_of_a_break<H>(rt: &H, image: &str) -> Result<((bool, bool), [Option<usize>; 2]), Fail>
-where
-    H: Files<File = File>
-        + Net<Listener = TcpListener, Stream = TcpStream>
-        + Threads
-        + Wait
-        + Clock
-        + Sync
-        + Alloc<A = Global>,
-{
-    let made = first_untold(rt, image, MADE)?;
-    let told = told_of_broken(rt, image)?;
-    let written = first_untold_of_new(rt, image, WRITTEN)?;
-    Ok((told, [made, written]))
+#[test]
+fn a_session_over_loopback(rt: HostRuntime) -> Result<(), Fail> {
+    serve_session(&rt, "loopback.img", "127.0.0.1:0", false)
+}
+
+/// Where the machine has no address of that kind, there is nothing to be tried.
+#[test]
+fn a_session_over_the_newer_loopback(rt: HostRuntime) -> Result<(), Fail> {
+    if TcpListener::bind(&rt, "[::1]:0").is_err() {
+        return Ok(());
+    }
+    serve_session(&rt, "newer.img", "[::1]:0", false)
 }
 
 #[test]
 fn a_client_that_breaks_off_in_an_answer(rt: HostRuntime) -> Result<(), Fail> {
-    let told = told_of_a_break(&rt, "broken.img")?;
-    assert_eq!(rt; told, ((true, true), [None; 2]));
-    Ok(())
+    serve_session(&rt, "broken.img", "127.0.0.1:0", true)
 }
 
 /// The words of the address at which another one listens.
@@ -500,28 +362,13 @@ where
 /// An image without a fault.
 const WHOLE_IMAGE: &[Call] = &[("check", &[], 0, "clean\n")];
 
-/// The same of a new image, and the first calls before and behind that do not end and print so.
-fn told_of_an_address<H>(rt: &H, image: &str) -> Result<((Status, bool), [Option<usize>; 2]), Fail>
-where
-    H: Files<File = File>
-        + Net<Listener = TcpListener, Stream = TcpStream>
-        + Threads
-        + Wait
-        + Clock
-        + Sync
-        + Alloc<A = Global>,
-{
-    let made = first_untold(rt, image, MADE)?;
-    let told = told_of_taken(rt, image)?;
-    let after = first_untold_of_new(rt, image, WHOLE_IMAGE)?;
-    Ok((told, [made, after]))
-}
-
 /// The image is let go as it was.
 #[test]
 fn an_address_that_is_taken(rt: HostRuntime) -> Result<(), Fail> {
-    let told = told_of_an_address(&rt, "taken.img")?;
-    assert_eq!(rt; told, ((Status::Refused, true), [None; 2]));
+    make_calls(&rt, "taken.img", MADE)?;
+    let told = told_of_taken(&rt, "taken.img")?;
+    make_last_calls(&rt, "taken.img", WHOLE_IMAGE)?;
+    assert_eq!(rt; told, (Status::Refused, true));
     Ok(())
 }
 

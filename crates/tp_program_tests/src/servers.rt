@@ -1,6 +1,6 @@
 //! The program that serves clients over the system's sockets: what it says of where it listens, and how a client talks to it.
 
-use crate::parts::{NO_TERMINAL, Ran};
+use crate::parts::{NO_TERMINAL, Part, Ran, joined};
 use std::alloc::Global;
 use std::fs::File;
 use std::io;
@@ -110,4 +110,26 @@ pub(crate) fn exchange(
     let mut sent = Vec::from_elem(alloc, 0u8, count)?;
     client.read_exact(&mut sent)?;
     Ok(sent)
+}
+
+/// Whether a client who sends this is sent these bytes, where as many as they are are read.
+fn is_sent_back(
+    alloc: Global,
+    client: &mut TcpStream,
+    text: &[Part<'_>],
+    wanted: &[u8],
+) -> io::Result<bool> {
+    let text = joined(alloc, text)?;
+    Ok(exchange(alloc, client, &text, wanted.len())?.as_slice() == wanted)
+}
+
+/// The same of parts.
+pub(crate) fn is_exchanged(
+    alloc: Global,
+    client: &mut TcpStream,
+    text: &[Part<'_>],
+    wanted: &[Part<'_>],
+) -> io::Result<bool> {
+    let wanted = joined(alloc, wanted)?;
+    is_sent_back(alloc, client, text, &wanted)
 }

@@ -1,8 +1,9 @@
 //! Tests of socket files: one that a dead server left is replaced, and nothing else is.
 
-use crate::parts::{Call, GREETING, MADE, Part, first_untold, first_untold_of_new, joined, run};
+use crate::parts::{Call, GREETING, MADE, Part, run};
 use crate::run_tests::is_stopped;
-use crate::servers::exchange;
+use crate::servers::is_exchanged;
+use crate::steps::{make_calls, make_last_calls};
 use std::alloc::Global;
 use std::fs::{self, File};
 use std::io;
@@ -77,13 +78,9 @@ fn is_default_given<H>(rt: &H) -> io::Result<bool>
 where
     H: Net + Alloc<A = Global>,
 {
-    let wanted = joined(
-        rt.alloc(),
-        &[Part::Text(GREETING), Part::Text(DEFAULT_GIVEN)],
-    )?;
     let mut client = connect(rt, CLIENTS)?;
-    let sent = exchange(rt.alloc(), &mut client, NAMES_NONE, wanted.len())?;
-    Ok(sent.as_slice() == wanted.as_slice())
+    let wanted = [Part::Text(GREETING), Part::Text(DEFAULT_GIVEN)];
+    is_exchanged(rt.alloc(), &mut client, &[Part::Text(NAMES_NONE)], &wanted)
 }
 
 /// Whether it is answered that all is to stop now.
@@ -141,32 +138,22 @@ fn is_for_owner<F: Files>(files: &F, path: &str) -> io::Result<bool> {
 /// What is left of an image that nothing was written to.
 const CLEAN: &[Call] = &[("check", &[], 0, "clean\n")];
 
-/// How a server ends and what its clients are told, whether its socket files are for their owner, and the first calls around it that do not end and print so.
-type Told = (Status, [bool; 2], [bool; 2], [Option<usize>; 2]);
-
-/// The same of a new image.
-fn told_of_files<H>(rt: &H, image: &str) -> Result<Told, Fail>
-where
-    H: Files<File = File>
-        + Net<Listener = TcpListener, Stream = TcpStream>
-        + Threads
-        + Wait
-        + Clock
-        + Sync
-        + Alloc<A = Global>,
-{
-    let made = first_untold(rt, image, MADE)?;
-    let (status, told) = told_of_server(rt, image)?;
-    let are_for_owner = [is_for_owner(rt, CLIENTS)?, is_for_owner(rt, CONTROL)?];
-    let left = first_untold_of_new(rt, image, CLEAN)?;
-    Ok((status, told, are_for_owner, [made, left]))
+/// Whether both files are for their owner alone. They are removed.
+fn are_for_owner<F: Files>(files: &F) -> io::Result<[bool; 2]> {
+    Ok([is_for_owner(files, CLIENTS)?, is_for_owner(files, CONTROL)?])
 }
 
 /// A socket file that a dead server left is replaced, and each is for its owner alone. Who names no volume has the default one, and is offered several connections.
 #[test]
 fn socket_files_are_taken_over_from_the_dead(rt: HostRuntime) -> Result<(), Fail> {
-    let told = told_of_files(&rt, "files.img")?;
-    assert_eq!(rt; told, (Status::Done, [true; 2], [true; 2], [None; 2]));
+    make_calls(&rt, "files.img", MADE)?;
+    let told = told_of_server(&rt, "files.img")?;
+    let are_for_owner = are_for_owner(&rt)?;
+    make_last_calls(&rt, "files.img", CLEAN)?;
+    assert_eq!(rt;
+        (told, are_for_owner),
+        ((Status::Done, [true; 2]), [true; 2])
+    );
     Ok(())
 }
 
@@ -225,29 +212,14 @@ where
     Ok(told)
 }
 
-/// What is told of a living server, whether a file that is no socket is refused too, and the first calls around both that do not end and print so.
-fn told_of_taken<H>(rt: &H, image: &str) -> Result<([bool; 2], bool, [Option<usize>; 2]), Fail>
-where
-    H: Files<File = File>
-        + Net<Listener = TcpListener, Stream = TcpStream>
-        + Threads
-        + Wait
-        + Clock
-        + Sync
-        + Alloc<A = Global>,
-{
-    let made = first_untold(rt, image, MADE)?;
-    let living = told_of_living(rt, image)?;
-    let said = "thinpool: 5 Fault\nthinpool: cannot listen on unix:beside.img: ";
-    let is_refused = is_refused_at(rt, image, "unix:beside.img", said);
-    let left = first_untold_of_new(rt, image, CLEAN)?;
-    Ok((living, is_refused, [made, left]))
-}
-
 /// Neither a living server's socket file nor what is no socket is taken: here the image itself, which stays as it is.
 #[test]
 fn files_of_the_living_are_not_taken(rt: HostRuntime) -> Result<(), Fail> {
-    let told = told_of_taken(&rt, "beside.img")?;
-    assert_eq!(rt; told, ([true; 2], true, [None; 2]));
+    make_calls(&rt, "beside.img", MADE)?;
+    let living = told_of_living(&rt, "beside.img")?;
+    let said = "thinpool: 5 Fault\nthinpool: cannot listen on unix:beside.img: ";
+    let is_refused = is_refused_at(&rt, "beside.img", "unix:beside.img", said);
+    make_last_calls(&rt, "beside.img", CLEAN)?;
+    assert_eq!(rt; (living, is_refused), ([true; 2], true));
     Ok(())
 }

@@ -3,7 +3,7 @@
 
 use crate::pools::MemServed;
 use tp_disk::MemDisk;
-use tp_model::{DevId, Refusal};
+use tp_model::{DevId, Refusal, Slots, Vb};
 
 pub(crate) fn create_thin(pool: &mut MemServed, id: DevId) -> Result<(), Refusal> {
     pool.create_thin(id)
@@ -49,4 +49,17 @@ pub(crate) fn flush(pool: &mut MemServed) -> Result<(), Refusal> {
 pub(crate) fn close(pool: MemServed) -> (Result<(), Refusal>, MemDisk) {
     let (answer, disk) = pool.close();
     (answer, disk.into_inner())
+}
+
+pub(crate) fn walk(
+    pool: &mut MemServed,
+    id: DevId,
+    from: Vb,
+    slots: &mut Slots,
+) -> Result<(), Refusal> {
+    pool.walk(id, from, slots)
+}
+
+pub(crate) fn walk_shared(pool: &MemServed, id: DevId, from: Vb, slots: &mut Slots) -> bool {
+    pool.walk_shared(id, from, slots)
 }

@@ -25,6 +25,8 @@ mod tallies;
 mod told;
 #[cfg(test)]
 mod volumes;
+#[cfg(test)]
+mod walks;
 
 /// A library has a public item at least: this crate has nothing but tests.
 pub fn tests_only() {}

@@ -177,42 +177,53 @@ struct Told {
     answer: Result<(), Refusal>,
 }
 
-fn ended(midway: MidMem, life: &mut Life, work: [u64; 3]) -> (MemServed, Told) {
-    read_between(&midway, life);
-    let works = [work, work_of(midway.disk())];
-    midway.sync_ahead();
-    let (pool, answer) = midway.end_flush();
-    (pool, Told { works, answer })
-}
-
-fn gone_on(midway: MidMem, life: &mut Life) -> (MemServed, Told) {
-    read_between(&midway, life);
+/// Reads a pool between two parts, and syncs ahead: what the disk had had before that.
+fn look_between(midway: &MidMem, life: &mut Life) -> [u64; 3] {
+    read_between(midway, life);
     let work = work_of(midway.disk());
     midway.sync_ahead();
+    work
+}
+
+fn ended(midway: MidMem, life: &mut Life, told: &mut Told) -> MemServed {
+    told.works[1] = look_between(&midway, life);
+    let (pool, answer) = midway.end_flush();
+    told.answer = answer;
+    pool
+}
+
+fn gone_on(midway: MidMem, life: &mut Life, told: &mut Told) -> MemServed {
+    told.works = [look_between(&midway, life); 2];
     match midway.go_on() {
-        Flushing::Done(pool, answer) => (
-            pool,
-            Told {
-                works: [work, work],
-                answer,
-            },
-        ),
-        Flushing::Midway(midway) => ended(midway, life, work),
+        Flushing::Done(pool, answer) => {
+            told.answer = answer;
+            pool
+        }
+        Flushing::Midway(midway) => ended(midway, life, told),
     }
 }
 
 /// Flushes a pool in parts, and reads it and syncs ahead between them.
-fn flushed(pool: MemServed, life: &mut Life) -> (MemServed, Told) {
+fn flushed_so(pool: MemServed, life: &mut Life, told: &mut Told) -> MemServed {
     match pool.begin_flush() {
-        Flushing::Done(pool, answer) => (
-            pool,
-            Told {
-                works: [[0; 3]; 2],
-                answer,
-            },
-        ),
-        Flushing::Midway(midway) => gone_on(midway, life),
+        Flushing::Done(pool, answer) => {
+            told.answer = answer;
+            pool
+        }
+        Flushing::Midway(midway) => gone_on(midway, life, told),
     }
+}
+
+/// Does so, and keeps what was done where that is answered. What the disk had had behind the parts is told.
+fn flushed(pool: MemServed, life: &mut Life, works: &mut [[u64; 3]; 2]) -> MemServed {
+    let mut told = Told {
+        works: [[0; 3]; 2],
+        answer: Ok(()),
+    };
+    let pool = flushed_so(pool, life, &mut told);
+    life.hear_kept(0, told.answer);
+    *works = told.works;
+    pool
 }
 
 /// Does so many random steps, up to the first that is refused, and fills the fresh place.
@@ -234,8 +245,7 @@ fn live_before(pool: &mut MemServed, life: &mut Life) {
 
 /// Flushes a pool in parts, and reads all places behind that.
 fn flush_and_read(pool: MemServed, life: &mut Life) -> MemServed {
-    let (mut pool, told) = flushed(pool, life);
-    life.hear_kept(0, told.answer);
+    let mut pool = flushed(pool, life, &mut [[0; 3]; 2]);
     read_all(&mut pool, life);
     pool
 }
@@ -267,7 +277,7 @@ fn told_of_run(
 }
 
 /// What many runs told, all together.
-#[derive(Clone, Copy, Debug, PartialEq, Eq)]
+#[derive(Clone, Copy)]
 struct Tally {
     /// In how many of them a call failed, and in how many of these that was told by a change or the flush, by a READ, and by closing.
     faults: [u64; 4],
@@ -328,8 +338,13 @@ fn first_wrong(
     Ok(None)
 }
 
-/// A run without a fault: whether it is right, how many disk calls it makes and what was read in it. And what those with one told, and the first that is wrong.
-type Looked = ((bool, u64, [u64; 3]), Tally, Option<u64>);
+/// A run without a fault: whether it is right, how many disk calls it makes and what was read in it. And what those with one told, by the fields of a tally, and the
+/// first that is wrong.
+type Looked = (
+    (bool, u64, [u64; 3]),
+    ([u64; 4], [u64; 3], [u64; 2]),
+    Option<u64>,
+);
 
 fn looked_at(alloc: Global, begin: &Begin) -> Result<Looked, Fail> {
     let mut whole = Life::new();
@@ -337,27 +352,30 @@ fn looked_at(alloc: Global, begin: &Begin) -> Result<Looked, Fail> {
     let is_right = whole.is_right(0) && left == ALL_LEFT;
     let mut tally = Tally::NOTHING;
     let wrong = first_wrong(alloc, begin, calls, &mut tally)?;
-    Ok(((is_right, calls, whole.reads), tally, wrong))
+    let told = (tally.faults, tally.reads, tally.left);
+    Ok(((is_right, calls, whole.reads), told, wrong))
 }
 
 /// Each fault is looked at behind three stops. The READ that fails gives the same sector when it is asked again.
 #[test]
 fn faults_and_stops_of_a_flush_in_parts(rt: HostRuntime) -> Result<(), Fail> {
     let looked = looked_at(rt.alloc(), &begun(rt.alloc(), FEW)?)?;
-    let tally = Tally {
-        faults: [55, 38, 16, 1],
-        reads: [342, 378, 612],
-        left: [165, 1485],
-    };
-    assert_eq!(rt; looked, ((true, 61, [18, 18, 0]), tally, None));
+    let told = ([55, 38, 16, 1], [342, 378, 612], [165, 1485]);
+    assert_eq!(rt; looked, ((true, 61, [18, 18, 0]), told, None));
     Ok(())
 }
 
-/// A pool of which the first place is written and read, so that a shared read finds those of its volume.
+/// Writes and reads the first place, so that a shared read finds those of its volume.
+fn write_and_read(pool: &mut MemServed, life: &mut Life) -> Result<(), Refusal> {
+    fill_place(pool, 0, 7, &mut life.expected)?;
+    read_place(pool, 0, life);
+    Ok(())
+}
+
+/// A pool of which that was done.
 fn written(alloc: Global, life: &mut Life) -> Result<MemServed, Refusal> {
     let mut pool = with_volume(alloc, Geometry::new(128, 16, 2048, 4)?, MANY)?;
-    fill_place(&mut pool, 0, 7, &mut life.expected)?;
-    read_place(&mut pool, 0, life);
+    write_and_read(&mut pool, life)?;
     Ok(pool)
 }
 
@@ -372,10 +390,10 @@ fn since(work: [u64; 3], earlier: [u64; 3]) -> [u64; 3] {
 
 /// How often each part of a flush of such a pool wrote and flushed, and how often it was synced ahead before it.
 fn work_of_parts(pool: MemServed, life: &mut Life) -> [[u64; 3]; 3] {
+    let mut works = [[0; 3]; 2];
     let before = work_of(pool.disk());
-    let (pool, told) = flushed(pool, life);
-    life.hear_kept(0, told.answer);
-    let [first, second] = told.works;
+    let pool = flushed(pool, life, &mut works);
+    let [first, second] = works;
     let last = since(work_of(pool.disk()), second);
     [since(first, before), since(second, first), last]
 }

@@ -145,7 +145,7 @@ fn is_first(labels: &[u32; SLOTS], slot: usize) -> bool {
 }
 
 /// What is expected of a pool. A label is that of a data block, from 1 on; 0 is none.
-#[derive(Drop)]
+#[derive(Clone, Copy)]
 struct Expected {
     exists: [bool; BOTH],
     /// The blocks of each volume that there is.
@@ -162,6 +162,8 @@ struct Expected {
     /// The values that a stop may leave of them, a bit each: the one at the last commit, and those written in its place since.
     allowed: [u64; SEEN],
     transaction_id: u64,
+    /// Whether the last stop left a clean image.
+    is_clean: bool,
 }
 
 impl Expected {
@@ -176,6 +178,7 @@ impl Expected {
             now: [0; SEEN],
             allowed: [1; SEEN],
             transaction_id: 0,
+            is_clean: true,
         }
     }
 
@@ -531,7 +534,7 @@ fn zero(pool: &mut MemServed, filling: &Filling, no_hole: bool) -> Result<(), Re
     )
 }
 
-/// Does a step that leaves the pool in service: whether it is answered as it should be.
+/// Does what is left of a step, by a pool that was opened anew where the step is to do that: whether all is as it should be.
 fn is_answered(alloc: Global, pool: &mut MemServed, step: &Step, expected: &mut Expected) -> bool {
     match *step {
         Step::Write(filling) => fill(alloc, pool, &filling) == expected.write(&filling, false),
@@ -564,7 +567,8 @@ fn is_answered(alloc: Global, pool: &mut MemServed, step: &Step, expected: &mut 
             expected.keep();
             flush(pool).is_ok()
         }
-        _ => true,
+        Step::Reopen => true,
+        Step::Stop { .. } => expected.is_clean && is_left(pool, expected),
     }
 }
 
@@ -576,21 +580,19 @@ fn reopened(alloc: Global, pool: MemServed, expected: &mut Expected) -> Result<M
     opened(alloc, disk, geometry, FEW)
 }
 
-/// Stops a pool and opens what is left of it. Whether that was a clean image, and has what it may have of each sector that is looked at.
+/// Stops a pool and opens what is left of it.
 fn restarted(
     alloc: Global,
     pool: &MemServed,
     slots: Option<u64>,
     others: Option<u64>,
     expected: &mut Expected,
-) -> Result<(MemServed, bool), Fail> {
+) -> Result<MemServed, Fail> {
     expected.labels = expected.kept;
     expected.lost = [false; LABELS];
     let mut left = stopped(alloc, pool.disk().inner(), slots, others)?;
-    let is_clean = is_clean(alloc, &mut left);
-    let mut pool = opened(alloc, left, pool.geometry(), FEW)?;
-    let is_left = is_left(&mut pool, expected);
-    Ok((pool, is_clean && is_left))
+    expected.is_clean = is_clean(alloc, &mut left);
+    Ok(opened(alloc, left, pool.geometry(), FEW)?)
 }
 
 /// Whether a stop left what it may of each sector that is looked at.
@@ -615,21 +617,17 @@ fn is_read(pool: &mut MemServed, volume: usize, expected: &Expected) -> bool {
     true
 }
 
-/// Does a step: whether all is as it should be.
-fn perform(
+/// The pool, opened anew where a step is to do that.
+fn anew(
     alloc: Global,
     pool: MemServed,
     step: &Step,
     expected: &mut Expected,
-) -> Result<(MemServed, bool), Fail> {
+) -> Result<MemServed, Fail> {
     match step {
-        Step::Reopen => Ok((reopened(alloc, pool, expected)?, true)),
+        Step::Reopen => Ok(reopened(alloc, pool, expected)?),
         Step::Stop { slots, others } => restarted(alloc, &pool, *slots, *others, expected),
-        _ => {
-            let mut pool = pool;
-            let is_answered = is_answered(alloc, &mut pool, step, expected);
-            Ok((pool, is_answered))
-        }
+        _ => Ok(pool),
     }
 }
 
@@ -724,6 +722,18 @@ fn empty(alloc: Global) -> Result<MemServed, Fail> {
     Ok(formatted(alloc, Geometry::new(128, 4, 1032, 20)?, FEW)?)
 }
 
+/// Does a step on a pool that was opened anew where it is to do that: whether all is as it should be then.
+fn is_right(
+    alloc: Global,
+    pool: &mut MemServed,
+    step: &Step,
+    volume: usize,
+    expected: &mut Expected,
+) -> bool {
+    let is_answered = is_answered(alloc, pool, step, expected);
+    is_as_expected(pool, volume, expected) && is_answered
+}
+
 /// Whether the data blocks in use, and the size and the sectors of a volume and of its held copy, are as they should be.
 fn is_as_expected(pool: &mut MemServed, volume: usize, expected: &Expected) -> bool {
     let is_used = used_by(pool) == expected.used();
@@ -737,16 +747,18 @@ fn is_as_expected(pool: &mut MemServed, volume: usize, expected: &Expected) -> b
 fn first_wrong(alloc: Global, first: u64, steps: usize) -> Result<Option<usize>, Fail> {
     let mut pool = empty(alloc)?;
     let mut expected = Expected::blank();
+    let mut wrong = None;
     let mut seed = first;
     for number in 0..steps {
         seed = seed.wrapping_mul(6_364_136_223_846_793_005).wrapping_add(1);
-        let (next, is_right) = perform(alloc, pool, &step_of(number, seed), &mut expected)?;
-        pool = next;
-        if !is_as_expected(&mut pool, number % VOLUMES, &expected) || !is_right {
-            return Ok(Some(number));
+        let step = step_of(number, seed);
+        pool = anew(alloc, pool, &step, &mut expected)?;
+        if !is_right(alloc, &mut pool, &step, number % VOLUMES, &mut expected) {
+            wrong = Some(number);
+            break;
         }
     }
-    Ok(None)
+    Ok(wrong)
 }
 
 /// The first of these seeds of 1250 steps with one behind which something is not as it should be, and its number.

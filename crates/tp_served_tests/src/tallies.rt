@@ -4,7 +4,7 @@ use std::sync::atomic::{AtomicU64, Ordering};
 use tp_disk::{Disk, Fault, SharedDisk};
 
 /// How many calls a disk had. A call is one on metadata where its first sector is.
-#[derive(Clone, Copy, Debug, PartialEq, Eq)]
+#[derive(Clone, Copy)]
 pub(crate) struct Tally {
     pub(crate) metadata_reads: u64,
     pub(crate) metadata_writes: u64,
@@ -21,6 +21,17 @@ impl Tally {
         data_writes: 0,
         flushes: 0,
     };
+
+    /// The numbers of calls, in the order of the fields.
+    pub(crate) fn counts(self) -> [u64; 5] {
+        [
+            self.metadata_reads,
+            self.metadata_writes,
+            self.data_reads,
+            self.data_writes,
+            self.flushes,
+        ]
+    }
 
     /// Those since an earlier tally.
     pub(crate) fn since(self, earlier: Tally) -> Tally {

@@ -10,7 +10,7 @@ use tp_model::Refusal;
 use tp_msg::Managed;
 
 /// What a step is answered.
-#[derive(Clone, Copy, Debug, PartialEq, Eq)]
+#[derive(Clone, Copy, PartialEq, Eq)]
 pub(crate) enum Answer {
     /// It is done, and what is told is right.
     Done,
@@ -176,6 +176,48 @@ fn told_of_event(out: &Answers) -> Answer {
     }
 }
 
+/// Sends the request of a step in the session of a volume.
+fn ask<V: Managed>(
+    alloc: Global,
+    hub: &mut Hub<V>,
+    step: &Step,
+    volume: u8,
+    out: &mut Answers,
+) -> Result<(), AllocError> {
+    let text = text_of(alloc, step)?;
+    hear(alloc, hub, volume, &text, out);
+    Ok(())
+}
+
+/// Has a step taken.
+fn send<V: Managed>(
+    alloc: Global,
+    hub: &mut Hub<V>,
+    step: &Step,
+    out: &mut Answers,
+) -> Result<(), AllocError> {
+    match *step {
+        Step::Enter(volume) => enter(alloc, hub, volume, out),
+        Step::Leave(volume) => leave(alloc, hub, volume, out),
+        Step::Order(asked) => order(alloc, hub, asked.line(), out),
+        Step::Flush(volume) => return ask(alloc, hub, step, volume, out),
+        Step::Write(area, _) | Step::Read(area) | Step::Trim(area) => {
+            return ask(alloc, hub, step, area.volume, out);
+        }
+    }
+    Ok(())
+}
+
+/// What a step is answered, where the pool is like this one.
+fn told_of(step: &Step, plain: &Plain, out: &Answers) -> Answer {
+    match *step {
+        Step::Enter(volume) => told_of_entry(out, plain.size(volume as usize)),
+        Step::Read(area) => told_of_read(out, &area, plain),
+        Step::Write(..) | Step::Trim(_) | Step::Flush(_) => told_of_request(out, 0),
+        Step::Leave(_) | Step::Order(_) => told_of_event(out),
+    }
+}
+
 /// Has a step taken: what it is answered, where the pool is like this one.
 pub(crate) fn take<V: Managed>(
     alloc: Global,
@@ -184,31 +226,6 @@ pub(crate) fn take<V: Managed>(
     plain: &Plain,
     out: &mut Answers,
 ) -> Result<Answer, AllocError> {
-    let text = text_of(alloc, step)?;
-    Ok(match *step {
-        Step::Enter(volume) => {
-            enter(alloc, hub, volume, out);
-            told_of_entry(out, plain.size(volume as usize))
-        }
-        Step::Read(area) => {
-            hear(alloc, hub, area.volume, &text, out);
-            told_of_read(out, &area, plain)
-        }
-        Step::Write(area, _) | Step::Trim(area) => {
-            hear(alloc, hub, area.volume, &text, out);
-            told_of_request(out, 0)
-        }
-        Step::Flush(volume) => {
-            hear(alloc, hub, volume, &text, out);
-            told_of_request(out, 0)
-        }
-        Step::Leave(volume) => {
-            leave(alloc, hub, volume, out);
-            told_of_event(out)
-        }
-        Step::Order(asked) => {
-            order(alloc, hub, asked.line(), out);
-            told_of_event(out)
-        }
-    })
+    send(alloc, hub, step, out)?;
+    Ok(told_of(step, plain, out))
 }

@@ -29,7 +29,7 @@ pub(crate) struct Plan<'a> {
 
 /// How many steps were answered that the disk failed: options, READs, those that change the pool, and closing. And how many were answered
 /// otherwise than they may be.
-#[derive(Clone, Copy, Debug, PartialEq, Eq)]
+#[derive(Clone, Copy)]
 pub(crate) struct Told {
     pub options: u64,
     pub reads: u64,
@@ -53,6 +53,11 @@ impl Told {
         self.changes = self.changes.saturating_add(more.changes);
         self.closings = self.closings.saturating_add(more.closings);
         self.strange = self.strange.saturating_add(more.strange);
+    }
+
+    /// Whether each step was answered as it should be, and never that the disk failed.
+    pub(crate) fn is_nothing(&self) -> bool {
+        self.strange == 0 && self.faults() == 0
     }
 
     /// How often the disk failed.

@@ -138,6 +138,18 @@ fn look_at_status(pool: &mut MemServed, text: &mut Vec<u8>) -> Result<(), AllocE
     text.extend_from_slice(&line[..length])
 }
 
+/// How many blocks a volume has.
+fn size_of(pool: &mut MemServed, volume: usize) -> u32 {
+    pool.volume_blocks(id_of(volume)).unwrap_or(0)
+}
+
+/// Adds a line, and a word behind it.
+fn add_line(text: &mut Vec<u8>, line: &[u8], word: &[u8]) -> Result<(), AllocError> {
+    text.extend_from_slice(b"\n")?;
+    text.extend_from_slice(line)?;
+    text.extend_from_slice(word)
+}
+
 /// Notes the status line of a volume, and its size.
 fn look_at_line(
     alloc: Global,
@@ -149,11 +161,9 @@ fn look_at_line(
     let Ok(length) = pool.thin_status(id_of(volume), &mut line) else {
         return text.extend_from_slice(b"\nnone");
     };
-    let size = pool.volume_blocks(id_of(volume)).unwrap_or(0);
+    let size = size_of(pool, volume);
     let word = format!(in alloc; " {size}")?;
-    text.extend_from_slice(b"\n")?;
-    text.extend_from_slice(&line[..length])?;
-    text.extend_from_slice(word.as_bytes())
+    add_line(text, &line[..length], word.as_bytes())
 }
 
 /// The word for a look into a held copy.

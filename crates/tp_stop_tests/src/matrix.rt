@@ -1,8 +1,9 @@
 //! Lives of a pool that are stopped, or in which a call of the disk fails, and what is found in the images that they leave.
 
+use crate::allowed::Found;
 use crate::images::{IMAGES, Picks};
 use crate::life::{Life, MemServed, Plan, Told, live, opened};
-use crate::looking::{Glass, looked_at};
+use crate::looking::{Glass, Looked, looked_at};
 use crate::plain::{Plain, VOLUMES};
 use crate::steps::{Area, Step};
 use std::alloc::{AllocError, Global};
@@ -41,11 +42,7 @@ pub(crate) enum Fault {
 }
 
 /// The call of the workload that the first image is of and its number, then those of the life behind it, and what is wrong.
-#[derive(Clone, Copy, Debug, PartialEq, Eq)]
-pub(crate) struct Wrong {
-    place: [u64; 4],
-    fault: Fault,
-}
+type Wrong = ([u64; 4], Fault);
 
 /// How many disk calls the workload makes, and what its images were found to be.
 #[derive(Clone, Copy)]
@@ -98,10 +95,7 @@ impl Tally {
     fn note(&mut self, place: &[u64; 4], fault: Fault) {
         self.wrong = self.wrong.saturating_add(1);
         if self.first.is_none() {
-            self.first = Some(Wrong {
-                place: *place,
-                fault,
-            });
+            self.first = Some((*place, fault));
         }
     }
 
@@ -170,7 +164,21 @@ fn calls_of_opening(alloc: Global, disk: &MemDisk, room: Room) -> Result<u64, Fa
     Ok(hub.into_pool().into_disk().calls())
 }
 
-/// A life that begins on a copy of a disk, on which the calls from one to another fail.
+/// The disk behind a life on a copy of a disk, on which the calls from one to another fail.
+fn live_on(
+    alloc: Global,
+    from: &Kept,
+    plan: &Plan<'_>,
+    fails: (u64, u64),
+    life: &mut Life,
+    out: &mut Answers,
+) -> Result<MemDisk, Fail> {
+    let mut disk = from.disk.stop(alloc, &[])?;
+    disk.fail(fails.0, fails.1);
+    live(alloc, disk, plan, life, out)
+}
+
+/// A life that begins so.
 fn lived(
     alloc: Global,
     from: &Kept,
@@ -178,26 +186,14 @@ fn lived(
     fails: (u64, u64),
     out: &mut Answers,
 ) -> Result<End, Fail> {
-    let mut disk = from.disk.stop(alloc, &[])?;
-    disk.fail(fails.0, fails.1);
     let mut life = Life::from(alloc, &from.plain)?;
-    let disk = live(alloc, disk, plan, &mut life, out)?;
+    let disk = live_on(alloc, from, plan, fails, &mut life, out)?;
     Ok(End { disk, life })
 }
 
-/// The pool of a case before its workload.
-fn begun(alloc: Global, case: &Case, room: Room, out: &mut Answers) -> Result<Kept, Fail> {
-    let founded = Kept {
-        disk: founded(alloc, room)?,
-        plain: Plain::with_volume(case.held_root),
-    };
-    let plan = Plan {
-        room,
-        steps: case.before,
-        closes: true,
-    };
-    let end = lived(alloc, &founded, &plan, (0, 0), out)?;
-    if end.life.told != Told::NOTHING {
+/// What a life keeps in which no call failed.
+fn kept_by(alloc: Global, end: &End) -> Result<Kept, Fail> {
+    if !end.life.told.is_nothing() {
         return Err(Fail::new("the pool of the case is not as it should be"));
     }
     Ok(Kept {
@@ -206,13 +202,48 @@ fn begun(alloc: Global, case: &Case, room: Room, out: &mut Answers) -> Result<Ke
     })
 }
 
+/// The pool of a case before its workload, from the one with volume 0.
+fn begun_on(
+    alloc: Global,
+    founded: &Kept,
+    case: &Case,
+    room: Room,
+    out: &mut Answers,
+) -> Result<Kept, Fail> {
+    let plan = Plan {
+        room,
+        steps: case.before,
+        closes: true,
+    };
+    let end = lived(alloc, founded, &plan, (0, 0), out)?;
+    kept_by(alloc, &end)
+}
+
+fn begun_with(alloc: Global, case: &Case, room: Room, out: &mut Answers) -> Result<Kept, Fail> {
+    let founded = Kept {
+        disk: founded(alloc, room)?,
+        plain: Plain::with_volume(case.held_root),
+    };
+    begun_on(alloc, &founded, case, room, out)
+}
+
+fn begun(alloc: Global, case: &Case, room: Room) -> Result<Kept, Fail> {
+    let mut out = Answers::new(alloc);
+    begun_with(alloc, case, room, &mut out)
+}
+
+/// How many disk calls a life made in which none failed, but for so many of opening.
+fn calls_in(end: &End, opening: u64) -> Result<u64, Fail> {
+    if !end.life.told.is_nothing() {
+        return Err(Fail::new("a life without a fault is not answered so"));
+    }
+    Ok(end.disk.calls().saturating_sub(opening))
+}
+
 /// How many disk calls a life makes, but for those of opening.
 fn calls_of(alloc: Global, bench: &mut Bench, from: &Kept, plan: &Plan<'_>) -> Result<u64, Fail> {
     let end = lived(alloc, from, plan, (0, 0), &mut bench.glass.out)?;
-    if end.life.told != Told::NOTHING {
-        return Err(Fail::new("a life without a fault is not answered so"));
-    }
-    Ok(end.disk.calls().saturating_sub(bench.opening))
+    calls_in(&end, bench.opening)
 }
 
 /// The life of a plan whose calls from this one on fail.
@@ -227,6 +258,43 @@ fn cut(
     lived(alloc, from, plan, (first, u64::MAX), &mut bench.glass.out)
 }
 
+/// The pool that was found, where it may be behind a life.
+fn found_behind(alloc: Global, end: &End, found: &Found) -> Result<Option<Plain>, AllocError> {
+    match end.life.allowed.find(alloc, found)? {
+        Some(plain) => {
+            let mut plain = plain;
+            plain.set_tags(&found.tags);
+            Ok(Some(plain))
+        }
+        None => Ok(None),
+    }
+}
+
+/// The pool that was looked at, where it may be found behind a life.
+fn kept_behind(
+    alloc: Global,
+    end: &End,
+    looked: Looked,
+) -> Result<Result<Kept, Fault>, AllocError> {
+    let Looked { disk, found } = looked;
+    match found_behind(alloc, end, &found)? {
+        Some(plain) => Ok(Ok(Kept { disk, plain })),
+        None => Ok(Err(Fault::NotAllowed)),
+    }
+}
+
+/// The image of a life, where it is clean.
+fn clean_image(
+    alloc: Global,
+    picks: &Picks,
+    end: &End,
+    image: u64,
+) -> Result<Option<MemDisk>, Fail> {
+    let mut left = picks.image(alloc, &end.disk, image)?;
+    let is_clean = check(alloc, &mut left).is_ok();
+    Ok(if is_clean { Some(left) } else { None })
+}
+
 /// The pool that an image shows, where it may be found behind a life; or what is wrong with it.
 fn seen(
     alloc: Global,
@@ -234,22 +302,13 @@ fn seen(
     end: &End,
     image: u64,
 ) -> Result<Result<Kept, Fault>, Fail> {
-    let mut left = bench.picks.image(alloc, &end.disk, image)?;
-    if check(alloc, &mut left).is_err() {
+    let Some(left) = clean_image(alloc, &bench.picks, end, image)? else {
         return Ok(Err(Fault::Unclean));
+    };
+    match looked_at(alloc, left, &mut bench.glass) {
+        Ok(looked) => Ok(kept_behind(alloc, end, looked)?),
+        Err(_) => Ok(Err(Fault::Unopened)),
     }
-    let Ok(looked) = looked_at(alloc, left, &mut bench.glass) else {
-        return Ok(Err(Fault::Unopened));
-    };
-    let Some(plain) = end.life.allowed.find(alloc, &looked.found)? else {
-        return Ok(Err(Fault::NotAllowed));
-    };
-    let mut plain = plain;
-    plain.set_tags(&looked.found.tags);
-    Ok(Ok(Kept {
-        disk: looked.disk,
-        plain,
-    }))
 }
 
 /// The same, counted.
@@ -271,6 +330,20 @@ fn seen_and_counted(
     }
 }
 
+/// Looks at an image of a life and keeps nothing of it.
+fn look(alloc: Global, bench: &mut Bench, end: &End, place: &[u64; 4]) -> Result<(), Fail> {
+    seen_and_counted(alloc, bench, end, place)?;
+    Ok(())
+}
+
+/// Looks at each image of the life behind an image.
+fn look_later(alloc: Global, bench: &mut Bench, end: &End, place: &[u64; 4]) -> Result<(), Fail> {
+    for image in 0..IMAGES {
+        look(alloc, bench, end, &[place[0], place[1], place[2], image])?;
+    }
+    Ok(())
+}
+
 /// Stops the life behind an image at one of its calls, and looks at each image of that.
 fn stop_later(
     alloc: Global,
@@ -283,10 +356,7 @@ fn stop_later(
     if end.life.told.strange > 0 {
         bench.tally.note(place, Fault::Answer);
     }
-    for image in 0..IMAGES {
-        let _ = seen_and_counted(alloc, bench, &end, &[place[0], place[1], place[2], image])?;
-    }
-    Ok(())
+    look_later(alloc, bench, &end, place)
 }
 
 /// The least volume that there is.
@@ -340,6 +410,15 @@ fn follow(alloc: Global, bench: &mut Bench, end: &End, place: &[u64; 4]) -> Resu
     stop_each_later(alloc, bench, &kept, place)
 }
 
+/// Does so with each image of the part.
+fn follow_each(alloc: Global, bench: &mut Bench, end: &End, call: u64) -> Result<(), Fail> {
+    let (first, last) = bench.part.images;
+    for image in first..last {
+        follow(alloc, bench, end, &[call, image, 0, 0])?;
+    }
+    Ok(())
+}
+
 /// Stops the workload at a call, and looks at each image.
 fn stop(
     alloc: Global,
@@ -352,11 +431,7 @@ fn stop(
     if end.life.told.strange > 0 {
         bench.tally.note(&[call, 0, 0, 0], Fault::Answer);
     }
-    let (first, end_image) = bench.part.images;
-    for image in first..end_image {
-        follow(alloc, bench, &end, &[call, image, 0, 0])?;
-    }
-    Ok(())
+    follow_each(alloc, bench, &end, call)
 }
 
 /// Stops the workload at each call of the part. The call behind the last one is such a stop too.
@@ -366,6 +441,14 @@ fn stop_each(alloc: Global, bench: &mut Bench, from: &Kept, plan: &Plan<'_>) -> 
     let (first, end) = bench.part.calls;
     for call in first..end.min(calls.saturating_add(2)) {
         stop(alloc, bench, from, plan, call)?;
+    }
+    Ok(())
+}
+
+/// Looks at each image of the workload.
+fn look_each(alloc: Global, bench: &mut Bench, end: &End, call: u64) -> Result<(), Fail> {
+    for image in 0..IMAGES {
+        look(alloc, bench, end, &[call, image, 0, 0])?;
     }
     Ok(())
 }
@@ -384,10 +467,7 @@ fn fail(
         bench.tally.note(&[call, 0, 0, 0], Fault::Answer);
     }
     bench.tally.told.add(&end.life.told);
-    for image in 0..IMAGES {
-        let _ = seen_and_counted(alloc, bench, &end, &[call, image, 0, 0])?;
-    }
-    Ok(())
+    look_each(alloc, bench, &end, call)
 }
 
 /// Each call of the workload fails in a life of its own.
@@ -400,12 +480,21 @@ fn fail_each(alloc: Global, bench: &mut Bench, from: &Kept, plan: &Plan<'_>) -> 
     Ok(())
 }
 
-fn benched(alloc: Global, from: &Kept, glass: Glass, part: &Part) -> Result<Bench, Fail> {
+fn benched(
+    alloc: Global,
+    from: &Kept,
+    room: Room,
+    grows: bool,
+    part: &Part,
+) -> Result<Bench, Fail> {
+    let opening = calls_of_opening(alloc, &from.disk, room)?;
+    let picks = Picks::of(alloc, from.disk.sectors())?;
+    let glass = Glass::new(alloc, room, grows)?;
     Ok(Bench {
-        picks: Picks::of(alloc, from.disk.sectors())?,
+        picks,
         part: *part,
-        opening: calls_of_opening(alloc, &from.disk, glass.room)?,
         glass,
+        opening,
         tally: Tally::of(0),
     })
 }
@@ -431,9 +520,8 @@ fn prepared(alloc: Global, case: &Case, part: &Part) -> Result<Ready, Fail> {
         changed: case.places,
         read: case.places,
     };
-    let mut glass = Glass::new(alloc, room, case.grows)?;
-    let from = begun(alloc, case, room, &mut glass.out)?;
-    let bench = benched(alloc, &from, glass, part)?;
+    let from = begun(alloc, case, room)?;
+    let bench = benched(alloc, &from, room, case.grows, part)?;
     Ok(Ready { from, bench })
 }
 

@@ -409,14 +409,26 @@ impl Plain {
         format!(in alloc; "{sectors} {last} {size}")
     }
 
-    /// The status line, those of the volumes, and which volumes are held.
-    pub(crate) fn text(&self, alloc: Global) -> Result<Vec<u8>, AllocError> {
-        let mut text = Vec::new(alloc);
-        text.extend_from_slice(self.line(alloc)?.as_bytes())?;
-        for volume in 0..VOLUMES {
-            text.extend_from_slice(b"\n")?;
-            text.extend_from_slice(self.volume_line(alloc, volume)?.as_bytes())?;
-        }
+    /// Adds the status line.
+    fn add_line(&self, alloc: Global, text: &mut Vec<u8>) -> Result<(), AllocError> {
+        let line = self.line(alloc)?;
+        text.extend_from_slice(line.as_bytes())
+    }
+
+    /// Adds that of a volume, behind an end of line.
+    fn add_volume_line(
+        &self,
+        alloc: Global,
+        volume: usize,
+        text: &mut Vec<u8>,
+    ) -> Result<(), AllocError> {
+        text.extend_from_slice(b"\n")?;
+        let line = self.volume_line(alloc, volume)?;
+        text.extend_from_slice(line.as_bytes())
+    }
+
+    /// Adds which volumes are held.
+    fn add_held(&self, text: &mut Vec<u8>) -> Result<(), AllocError> {
         for volume in 0..VOLUMES {
             let word: &[u8] = if self.has(VOLUMES + volume) {
                 b"\nheld"
@@ -425,6 +437,21 @@ impl Plain {
             };
             text.extend_from_slice(word)?;
         }
+        Ok(())
+    }
+
+    fn add_text(&self, alloc: Global, text: &mut Vec<u8>) -> Result<(), AllocError> {
+        self.add_line(alloc, text)?;
+        for volume in 0..VOLUMES {
+            self.add_volume_line(alloc, volume, text)?;
+        }
+        self.add_held(text)
+    }
+
+    /// The status line, those of the volumes, and which volumes are held.
+    pub(crate) fn text(&self, alloc: Global) -> Result<Vec<u8>, AllocError> {
+        let mut text = Vec::new(alloc);
+        self.add_text(alloc, &mut text)?;
         Ok(text)
     }
 }

@@ -6,7 +6,7 @@ use std::alloc::{AllocError, Global};
 pub(crate) const BLOCK: usize = 128;
 
 /// So many sectors of a volume, from one on.
-#[derive(Clone, Copy, Debug, PartialEq, Eq)]
+#[derive(Clone, Copy)]
 pub(crate) struct Area {
     pub volume: u8,
     pub sector: u32,
@@ -14,7 +14,7 @@ pub(crate) struct Area {
 }
 
 /// A message to the pool.
-#[derive(Clone, Copy, Debug, PartialEq, Eq)]
+#[derive(Clone, Copy)]
 pub(crate) enum Order {
     /// Volume 1 becomes a snapshot of volume 0.
     Snapshot,
@@ -45,7 +45,7 @@ impl Order {
 }
 
 /// One step. The session of a volume has the volume's number.
-#[derive(Clone, Copy, Debug, PartialEq, Eq)]
+#[derive(Clone, Copy)]
 pub(crate) enum Step {
     /// A client comes, and chooses the volume.
     Enter(u8),
@@ -115,10 +115,15 @@ fn add_fill(text: &mut Vec<u8>, area: &Area, tag: u8) -> Result<(), AllocError> 
     Ok(())
 }
 
+/// Adds a WRITE.
+fn add_write(text: &mut Vec<u8>, area: &Area, tag: u8) -> Result<(), AllocError> {
+    add_head(text, 1, area.sector, area.count)?;
+    add_fill(text, area, tag)
+}
+
 fn write_text(alloc: Global, area: &Area, tag: u8) -> Result<Vec<u8>, AllocError> {
     let mut text = Vec::new(alloc);
-    add_head(&mut text, 1, area.sector, area.count)?;
-    add_fill(&mut text, area, tag)?;
+    add_write(&mut text, area, tag)?;
     Ok(text)
 }
 

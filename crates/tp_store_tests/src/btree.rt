@@ -1,7 +1,7 @@
 //! A tree, and a tree and its snapshot.
 
 use crate::guarded::{
-    Extent, empty_on, extent_on, insert_on, lookup_on, share_on, store_of, walk_on,
+    Extent, empty_on, extent_on, insert_on, lookup_on, share_on, told_of_store, walk_on,
 };
 use std::test::Fail;
 use tp_disk::{Disk, MemDisk};
@@ -41,9 +41,9 @@ fn walks_on<D: Disk>(tm: &Tm, disk: &mut D, root: Mb, from: [u64; 3]) -> Result<
 }
 
 /// What a look-up in an empty tree tells, and the tree's extent.
-fn told_of_an_empty_tree<D: Disk>(
+fn told_of_an_empty_tree(
     tm: &mut Tm,
-    disk: &mut D,
+    disk: &mut MemDisk,
 ) -> Result<((bool, bool), Extent), Refusal> {
     let root = empty_on(tm, disk)?;
     let told = lookup_on(tm, disk, root, 5)?;
@@ -52,17 +52,15 @@ fn told_of_an_empty_tree<D: Disk>(
 
 #[test]
 fn an_empty_tree(rt: HostRuntime) -> Result<(), Fail> {
-    let mut disk = MemDisk::new(rt.alloc(), 16_896)?;
-    let mut tm = store_of(rt.alloc())?;
-    let told = told_of_an_empty_tree(&mut tm, &mut disk);
+    let told = told_of_store(rt.alloc(), told_of_an_empty_tree)?;
     assert_eq!(rt; told, Ok(((false, false), (0, None))));
     Ok(())
 }
 
 /// What look-ups in a tree of two levels tell, what walks over it find, and the tree's extent.
-fn told_of_two_levels<D: Disk>(
+fn told_of_two_levels(
     tm: &mut Tm,
-    disk: &mut D,
+    disk: &mut MemDisk,
 ) -> Result<(LookUps, Walks, Extent), Refusal> {
     let root = tree_on(tm, disk)?;
     let told = lookups_on(tm, disk, root, [0, 897, 898])?;
@@ -72,9 +70,7 @@ fn told_of_two_levels<D: Disk>(
 
 #[test]
 fn a_tree_of_two_levels(rt: HostRuntime) -> Result<(), Fail> {
-    let mut disk = MemDisk::new(rt.alloc(), 16_896)?;
-    let mut tm = store_of(rt.alloc())?;
-    let told = told_of_two_levels(&mut tm, &mut disk);
+    let told = told_of_store(rt.alloc(), told_of_two_levels)?;
     assert_eq!(rt;
         told,
         Ok((
@@ -102,7 +98,7 @@ type OfBoth = (
     [(bool, bool); 2],
 );
 
-fn told_of_both<D: Disk>(tm: &mut Tm, disk: &mut D) -> Result<OfBoth, Refusal> {
+fn told_of_both(tm: &mut Tm, disk: &mut MemDisk) -> Result<OfBoth, Refusal> {
     let (root, other) = two_trees_on(tm, disk)?;
     let told = lookups_on(tm, disk, root, [3, 4, 897])?;
     let walked = walks_on(tm, disk, root, [0, 754, 898])?;
@@ -114,9 +110,7 @@ fn told_of_both<D: Disk>(tm: &mut Tm, disk: &mut D) -> Result<OfBoth, Refusal> {
 
 #[test]
 fn a_change_of_a_snapshot_is_not_seen_in_the_tree(rt: HostRuntime) -> Result<(), Fail> {
-    let mut disk = MemDisk::new(rt.alloc(), 16_896)?;
-    let mut tm = store_of(rt.alloc())?;
-    let told = told_of_both(&mut tm, &mut disk);
+    let told = told_of_store(rt.alloc(), told_of_both)?;
     let (tree, snapshot) = (((false, false), (252, 753)), (true, (252, 750)));
     // Both trees have the leaf of the greater keys.
     assert_eq!(rt; told, Ok((tree, snapshot, [(true, true); 2])));

@@ -3,7 +3,8 @@
 ghost use Rattle.std.specs.Prelude.{◌≡◌, ◌≤◌, ◌<◌, IsTrue};
 ghost use Rattle.tp_model.specs.Geometry.{sectors_of_image};
 
-use std::test::Fail;
+use crate::guarded::told_of_disk;
+use std::alloc::Global;
 use tp_disk::{Disk, MemDisk};
 use tp_mapping::{ListMapping, Mapped, Mapping, TreeMapping};
 use tp_meta::format;
@@ -246,16 +247,38 @@ fn first_difference<A: Mapping, B: Mapping, D: Disk>(
     Ok(None)
 }
 
-#[test]
-fn two_thousand_commands(rt: HostRuntime) -> Result<(), Fail> {
+/// The same of a list and of trees on a new disk, which have nothing.
+fn first_difference_to<A: Mapping>(
+    alloc: Global,
+    list: &mut A,
+    disk: &mut MemDisk,
+    geometry: &Geometry,
+) -> Result<Option<u32>, Refusal>
+    requires { A.geometry list.old ≡ geometry.now }
+{
+    match format(alloc, disk, *geometry) {
+        Ok(tm) => {
+            let mut trees = TreeMapping::new(tm, Mb::new(geometry.fixed_part()));
+            first_difference(list, &mut trees, disk, geometry, 2000)
+        }
+        Err(refusal) => Err(refusal),
+    }
+}
+
+/// The same where the list has nothing either.
+fn first_difference_on(alloc: Global, disk: &mut MemDisk) -> Result<Option<u32>, Refusal> {
     let geometry = Geometry::new(128, 16, 2048, 40)?;
-    let mut disk = MemDisk::new(rt.alloc(), geometry.image_sectors())?;
-    let tm = format(rt.alloc(), &mut disk, geometry)?;
-    let mut trees = TreeMapping::new(tm, Mb::new(geometry.fixed_part()));
-    let mut list = ListMapping::new(rt.alloc(), geometry, 16, geometry.virtual_blocks())?;
-    assert_eq!(rt;
-        first_difference(&mut list, &mut trees, &mut disk, &geometry, 2000),
-        Ok(None)
-    );
-    Ok(())
+    match ListMapping::new(alloc, geometry, 16, geometry.virtual_blocks()) {
+        Ok(mut list) => first_difference_to(alloc, &mut list, disk, &geometry),
+        Err(_) => Err(Refusal::Memory),
+    }
+}
+
+/// The sectors of its image.
+const SECTORS: u64 = 8 * 2048 + 128 * 40;
+
+#[test]
+fn two_thousand_commands(rt: HostRuntime) {
+    let difference = told_of_disk(rt.alloc(), SECTORS, first_difference_on);
+    assert_eq!(rt; difference, Ok(None));
 }

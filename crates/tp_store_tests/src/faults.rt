@@ -2,7 +2,7 @@
 
 use crate::guarded::{
     empty_on, insert_on, is_on, release_on, release_value, remove_on, replace_on, share_on,
-    share_value, store_of,
+    share_value, told_of_store,
 };
 use std::alloc::Global;
 use std::test::Fail;
@@ -108,16 +108,16 @@ fn change_failing(
 }
 
 /// What `change_failing` tells on a disk of its own.
-fn failed_at(alloc: Global, failing: u64) -> Result<(u64, Result<(), Refusal>), Fail> {
-    let mut disk = MemDisk::new(alloc, 16_896)?;
-    let mut tm = store_of(alloc)?;
-    Ok(change_failing(&mut tm, &mut disk, failing)?)
+type Failed = Result<(u64, Result<(), Refusal>), Refusal>;
+
+fn failed_at(alloc: Global, failing: u64) -> Result<Failed, Fail> {
+    told_of_store(alloc, |tm, disk| change_failing(tm, disk, failing))
 }
 
 /// The first call that is not told where it fails, or is not the last then.
 fn first_untold(alloc: Global) -> Result<Option<u64>, Fail> {
     for failing in 1..=CALLS {
-        if failed_at(alloc, failing)? != (failing, Err(Refusal::Fault)) {
+        if failed_at(alloc, failing)? != Ok((failing, Err(Refusal::Fault))) {
             return Ok(Some(failing));
         }
     }
@@ -128,6 +128,6 @@ fn first_untold(alloc: Global) -> Result<Option<u64>, Fail> {
 fn a_fault_at_each_call_is_told(rt: HostRuntime) -> Result<(), Fail> {
     let untold = first_untold(rt.alloc())?;
     let whole = failed_at(rt.alloc(), CALLS + 1)?;
-    assert_eq!(rt; (untold, whole), (None, (CALLS, Ok(()))));
+    assert_eq!(rt; (untold, whole), (None, Ok((CALLS, Ok(())))));
     Ok(())
 }

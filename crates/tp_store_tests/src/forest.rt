@@ -472,19 +472,33 @@ fn fell_all<D: Disk>(
     Ok((used, (tm.free_metadata(), tm.free_data())))
 }
 
-#[test]
-fn ten_thousand_operations_on_shared_trees(rt: HostRuntime) -> Result<(), Fail> {
-    let mut disk = MemDisk::new(rt.alloc(), 81_920)?;
-    let mut tm = wide_store(rt.alloc())?;
+/// What is told of all operations, and what is left when all trees are given up.
+type Told = (
+    Result<(Option<(u32, Wrong)>, (u32, bool)), Refusal>,
+    Result<((u64, u64), (u64, u64)), Refusal>,
+);
+
+/// The same in a forest that is empty at first.
+fn told_of_a_forest(alloc: Global, tm: &mut Tm, disk: &mut MemDisk) -> Result<Told, Fail> {
     let mut forest = Forest {
         roots: [None; ROOTS],
-        values: Vec::from_elem(rt.alloc(), None, 6000)?,
+        values: Vec::from_elem(alloc, None, 6000)?,
     };
-    let told = first_wrong(&mut tm, &mut disk, &mut forest);
-    let left = fell_all(&mut tm, &mut disk, &mut forest);
-    assert_eq!(rt;
-        (told, left),
-        (Ok((None, (1, true))), Ok(((0, 0), (2048, 512))))
-    );
+    let told = first_wrong(tm, disk, &mut forest);
+    Ok((told, fell_all(tm, disk, &mut forest)))
+}
+
+/// The same on a disk of its own.
+fn told_of_operations(alloc: Global) -> Result<Told, Fail> {
+    let mut disk = MemDisk::new(alloc, 81_920)?;
+    let mut tm = wide_store(alloc)?;
+    told_of_a_forest(alloc, &mut tm, &mut disk)
+}
+
+#[test]
+fn ten_thousand_operations_on_shared_trees(rt: HostRuntime) -> Result<(), Fail> {
+    let told = told_of_operations(rt.alloc())?;
+    let left = Ok(((0, 0), (2048, 512)));
+    assert_eq!(rt; told, (Ok((None, (1, true))), left));
     Ok(())
 }

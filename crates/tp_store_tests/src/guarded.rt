@@ -11,7 +11,7 @@ use tp_btree::{
     Changed, count, drop_tree, empty, insert, last, lookup, remove, replace, share, walk,
 };
 use tp_counts::Counts;
-use tp_disk::Disk;
+use tp_disk::{Disk, MemDisk};
 use tp_layout::{Entry, MOST_ENTRIES, Part, TreeKind};
 use tp_model::{Geometry, Mb, Pb, Refusal};
 use tp_tm::Tm;
@@ -26,6 +26,34 @@ pub(crate) fn store_of(alloc: Global) -> Result<Tm, Fail> {
         others.inc(2);
     }
     Ok(Tm::new(geometry, metadata, others, Mb::new(0)))
+}
+
+/// What is told of such a store and a disk of that size by a function that has both by `&mut`.
+///
+/// Who owns them is proved to let all parts of them go at each exit. So this one owns them, and a test calls it with the function that tells.
+pub(crate) fn told_of_store<T, F: FnOnce(&mut Tm, &mut MemDisk) -> T + Drop>(
+    alloc: Global,
+    tell: F,
+) -> Result<T, Fail>
+    requires { F.IsAlwaysCallable tell }
+{
+    let mut disk = MemDisk::new(alloc, 16_896)?;
+    let mut tm = store_of(alloc)?;
+    Ok(tell(&mut tm, &mut disk))
+}
+
+/// What is told of a disk of so many zero sectors by a function that has it by `&mut`.
+pub(crate) fn told_of_disk<T, F: FnOnce(Global, &mut MemDisk) -> Result<T, Refusal> + Drop>(
+    alloc: Global,
+    sectors: u64,
+    tell: F,
+) -> Result<T, Refusal>
+    requires { F.IsAlwaysCallable tell }
+{
+    match MemDisk::new(alloc, sectors) {
+        Ok(mut disk) => tell(alloc, &mut disk),
+        Err(_) => Err(Refusal::Memory),
+    }
 }
 
 /// Whether there is room for a change of a tree.

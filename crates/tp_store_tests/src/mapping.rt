@@ -1,8 +1,9 @@
 ghost use Rattle.std.specs.Prelude.{◌≡◌, ◌≤◌, ◌<◌};
 ghost use Rattle.tp_model.specs.Geometry.{sectors_of_image};
 
+use crate::guarded::told_of_disk;
 use arrayvec::ArrayVec;
-use std::test::Fail;
+use std::alloc::Global;
 use tp_disk::{Disk, MemDisk};
 use tp_mapping::{ListMapping, Mapped, Mapping, TreeMapping};
 use tp_meta::format;
@@ -126,18 +127,29 @@ fn walked_on<M: Mapping, D: Disk>(
     Ok((mapping.devices(disk)?, count))
 }
 
+/// The sectors of the pool of all tests here.
+const SECTORS: u64 = 16_896;
+
+/// That pool.
+fn small() -> Result<Geometry, Refusal> {
+    Geometry::new(128, 16, 2048, 4)
+}
+
 /// The ids of a device and of its snapshot.
 const DEVICE: u32 = 9;
 
 const SNAPSHOT: u32 = 4;
 
-/// Makes both devices: what is told of a virtual block of the snapshot, what a walk over the other one finds, and how many
-/// metadata blocks are free and data blocks in use.
+/// What is told of a virtual block of the snapshot, what a walk over the other device finds, and how many metadata blocks are
+/// free and data blocks in use.
+type OfBoth = (Told, (u32, usize), (u32, u64));
+
+/// Makes both devices, and tells of them.
 fn told_of_both<M: Mapping, D: Disk>(
     mapping: &mut M,
     disk: &mut D,
     geometry: &Geometry,
-) -> Result<(Told, (u32, usize), (u32, u64)), Refusal>
+) -> Result<OfBoth, Refusal>
     requires { M.geometry mapping.old ≡ geometry.now }
 {
     let (device, snapshot) = (DevId::new(DEVICE), DevId::new(SNAPSHOT));
@@ -147,19 +159,24 @@ fn told_of_both<M: Mapping, D: Disk>(
     Ok((told, walked, (mapping.free_metadata(), mapping.used())))
 }
 
+/// The same of a list.
+fn told_of_list(alloc: Global, disk: &mut MemDisk) -> Result<OfBoth, Refusal> {
+    let geometry = small()?;
+    match ListMapping::new(alloc, geometry, 3, geometry.virtual_blocks()) {
+        Ok(mut list) => told_of_both(&mut list, disk, &geometry),
+        Err(_) => Err(Refusal::Memory),
+    }
+}
+
 #[test]
-fn a_device_and_its_snapshot(rt: HostRuntime) -> Result<(), Fail> {
-    let geometry = Geometry::new(128, 16, 2048, 4)?;
-    let mut disk = MemDisk::new(rt.alloc(), 16_896)?;
-    let mut mapping = ListMapping::new(rt.alloc(), geometry, 3, geometry.virtual_blocks())?;
-    let told = told_of_both(&mut mapping, &mut disk, &geometry);
+fn a_device_and_its_snapshot(rt: HostRuntime) {
+    let told = told_of_disk(rt.alloc(), SECTORS, told_of_list);
     let shared = Some(Mapped {
         place: Pb::new(0),
         is_shared: true,
     });
     let snapshot = (shared, Some(2), Some(Vb::new(5)));
     assert_eq!(rt; told, Ok((snapshot, (2, 1), (24, 2))));
-    Ok(())
 }
 
 /// Makes both devices and keeps them.
@@ -191,14 +208,19 @@ fn left_of_both<M: Mapping, D: Disk>(
     Ok((mapping.used(), mapping.free_metadata()))
 }
 
+/// The same of a list.
+fn left_of_list(alloc: Global, disk: &mut MemDisk) -> Result<(u64, u32), Refusal> {
+    let geometry = small()?;
+    match ListMapping::new(alloc, geometry, 3, geometry.virtual_blocks()) {
+        Ok(mut list) => left_of_both(&mut list, disk, &geometry),
+        Err(_) => Err(Refusal::Memory),
+    }
+}
+
 #[test]
-fn both_devices_are_removed(rt: HostRuntime) -> Result<(), Fail> {
-    let geometry = Geometry::new(128, 16, 2048, 4)?;
-    let mut disk = MemDisk::new(rt.alloc(), 16_896)?;
-    let mut mapping = ListMapping::new(rt.alloc(), geometry, 3, geometry.virtual_blocks())?;
-    let left = left_of_both(&mut mapping, &mut disk, &geometry);
+fn both_devices_are_removed(rt: HostRuntime) {
+    let left = told_of_disk(rt.alloc(), SECTORS, left_of_list);
     assert_eq!(rt; left, Ok((0, 40)));
-    Ok(())
 }
 
 /// Which data blocks are given to three slots once both devices were kept.
@@ -217,14 +239,19 @@ fn mapped_behind_keeping<M: Mapping, D: Disk>(
     Ok([third, fourth, none])
 }
 
+/// The same of a list.
+fn mapped_in_list(alloc: Global, disk: &mut MemDisk) -> Result<[Option<Pb>; 3], Refusal> {
+    let geometry = small()?;
+    match ListMapping::new(alloc, geometry, 3, geometry.virtual_blocks()) {
+        Ok(mut list) => mapped_behind_keeping(&mut list, disk, &geometry),
+        Err(_) => Err(Refusal::Memory),
+    }
+}
+
 #[test]
-fn a_block_of_the_last_commit_is_not_free(rt: HostRuntime) -> Result<(), Fail> {
-    let geometry = Geometry::new(128, 16, 2048, 4)?;
-    let mut disk = MemDisk::new(rt.alloc(), 16_896)?;
-    let mut mapping = ListMapping::new(rt.alloc(), geometry, 3, geometry.virtual_blocks())?;
-    let mapped = mapped_behind_keeping(&mut mapping, &mut disk, &geometry);
+fn a_block_of_the_last_commit_is_not_free(rt: HostRuntime) {
+    let mapped = told_of_disk(rt.alloc(), SECTORS, mapped_in_list);
     assert_eq!(rt; mapped, Ok([Some(Pb::new(2)), Some(Pb::new(3)), None]));
-    Ok(())
 }
 
 /// The free metadata blocks and the disk's calls so far: after a volume was made and kept, and after each of three
@@ -255,17 +282,24 @@ fn counted_on<M: Mapping>(
     Ok([kept, first, second, third])
 }
 
+/// The same of trees.
+fn counted_in_trees(alloc: Global, disk: &mut MemDisk) -> Result<[(u32, u64); 4], Refusal> {
+    let geometry = small()?;
+    match format(alloc, disk, geometry) {
+        Ok(tm) => {
+            let mut trees = TreeMapping::new(tm, Mb::new(8));
+            counted_on(&mut trees, disk, &geometry, DevId::new(9))
+        }
+        Err(refusal) => Err(refusal),
+    }
+}
+
 /// The first change after a commit takes a block for the device leaf and one for the volume's leaf, and later ones none.
 #[test]
-fn a_volume_is_changed_where_it_stands(rt: HostRuntime) -> Result<(), Fail> {
-    let geometry = Geometry::new(128, 16, 2048, 4)?;
-    let mut disk = MemDisk::new(rt.alloc(), 16_896)?;
-    let tm = format(rt.alloc(), &mut disk, geometry)?;
-    let mut mapping = TreeMapping::new(tm, Mb::new(8));
-    let counted = counted_on(&mut mapping, &mut disk, &geometry, DevId::new(9));
+fn a_volume_is_changed_where_it_stands(rt: HostRuntime) {
+    let counted = told_of_disk(rt.alloc(), SECTORS, counted_in_trees);
     assert_eq!(rt;
         counted,
         Ok([(2038, 16), (2036, 25), (2036, 34), (2036, 43)])
     );
-    Ok(())
 }

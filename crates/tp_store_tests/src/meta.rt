@@ -1,8 +1,8 @@
 ghost use Rattle.std.specs.Prelude.{◌≡◌, ◌≤◌, ◌<◌};
 ghost use Rattle.tp_model.specs.Geometry.{sectors_of_image};
 
+use crate::guarded::told_of_disk;
 use std::alloc::Global;
-use std::test::Fail;
 use tp_check::check;
 use tp_disk::{Disk, Fault, MemDisk};
 use tp_layout::Superblock;
@@ -36,11 +36,15 @@ fn larger() -> Result<Geometry, Refusal> {
 }
 
 /// A disk of so many sectors with the example pool.
-fn formatted(alloc: Global, sectors: u64) -> Result<MemDisk, Fail> {
+fn formatted(alloc: Global, sectors: u64) -> Result<MemDisk, Refusal> {
     let geometry = example()?;
-    let mut disk = MemDisk::new(alloc, sectors)?;
-    format(alloc, &mut disk, geometry)?;
-    Ok(disk)
+    let Ok(mut disk) = MemDisk::new(alloc, sectors) else {
+        return Err(Refusal::Memory);
+    };
+    match format(alloc, &mut disk, geometry) {
+        Ok(_) => Ok(disk),
+        Err(refusal) => Err(refusal),
+    }
 }
 
 /// Sectors of a block of the pool that the disk's slots give, where its image is clean.
@@ -108,95 +112,112 @@ fn first_other_sector(disk: &mut MemDisk) -> Result<Option<u64>, Fault> {
     Ok(None)
 }
 
-#[test]
-fn a_disk_is_formatted(rt: HostRuntime) -> Result<(), Fail> {
-    let mut disk = MemDisk::new(rt.alloc(), SECTORS)?;
-    let told = told_of_formatting(rt.alloc(), &mut disk);
-    let other = first_other_sector(&mut disk);
-    assert_eq!(rt; (told, other), (Ok((CALLS, true)), Ok(None)));
-    Ok(())
+/// What is told of both.
+type Formatted = (Result<(u64, bool), Refusal>, Result<Option<u64>, Fault>);
+
+fn told_of_new(alloc: Global, disk: &mut MemDisk) -> Result<Formatted, Refusal> {
+    let told = told_of_formatting(alloc, disk);
+    Ok((told, first_other_sector(disk)))
 }
 
-/// What the formatting of a disk of so many sectors answers, and whether it succeeded or left the disk alone.
-fn told_of_size(alloc: Global, sectors: u64) -> Result<(Result<(), Refusal>, bool), Fail> {
+#[test]
+fn a_disk_is_formatted(rt: HostRuntime) {
+    let told = told_of_disk(rt.alloc(), SECTORS, told_of_new);
+    assert_eq!(rt; told, Ok((Ok((CALLS, true)), Ok(None))));
+}
+
+/// What the formatting of a disk answers, and whether it succeeded or left the disk alone.
+fn told_of_size(alloc: Global, disk: &mut MemDisk) -> Result<(Result<(), Refusal>, bool), Refusal> {
     let geometry = example()?;
-    let mut disk = MemDisk::new(alloc, sectors)?;
-    let answer = match format(alloc, &mut disk, geometry) {
+    let answer = match format(alloc, disk, geometry) {
         Ok(_) => Ok(()),
         Err(refusal) => Err(refusal),
     };
     Ok((answer, answer.is_ok() || disk.calls() == 0))
 }
 
+/// The same of a disk that has all sectors, of one that has one too few, and of one that has none.
+fn told_of_sizes(alloc: Global) -> Result<[(Result<(), Refusal>, bool); 3], Refusal> {
+    Ok([
+        told_of_disk(alloc, SECTORS, told_of_size)?,
+        told_of_disk(alloc, SECTORS - 1, told_of_size)?,
+        told_of_disk(alloc, 0, told_of_size)?,
+    ])
+}
+
 #[test]
-fn a_small_disk_is_refused(rt: HostRuntime) -> Result<(), Fail> {
-    let told = [
-        told_of_size(rt.alloc(), SECTORS)?,
-        told_of_size(rt.alloc(), SECTORS - 1)?,
-        told_of_size(rt.alloc(), 0)?,
-    ];
+fn a_small_disk_is_refused(rt: HostRuntime) {
+    let told = told_of_sizes(rt.alloc());
     let refused = (Err(Refusal::BadGeometry), true);
-    assert_eq!(rt; told, [(Ok(()), true), refused, refused]);
-    Ok(())
+    assert_eq!(rt; told, Ok([(Ok(()), true), refused, refused]));
 }
 
 /// What the slots give after a stop with these values.
-fn found_behind(
-    alloc: Global,
-    disk: &MemDisk,
-    picks: &[u64],
-) -> Result<Result<u32, Refusal>, Fail> {
-    let mut left = disk.stop(alloc, picks)?;
-    Ok(found_on(alloc, &mut left))
+fn found_behind(alloc: Global, disk: &MemDisk, picks: &[u64]) -> Result<u32, Refusal> {
+    match disk.stop(alloc, picks) {
+        Ok(mut left) => found_on(alloc, &mut left),
+        Err(_) => Err(Refusal::Memory),
+    }
 }
 
 /// Whether a second formatting fails where this call of the disk does, and what the slots give after a stop with the oldest
 /// values and with the newest.
+fn formatted_again(
+    alloc: Global,
+    disk: &mut MemDisk,
+    call: u64,
+) -> Result<(bool, Result<u32, Refusal>, Result<u32, Refusal>), Refusal> {
+    let geometry = larger()?;
+    disk.fail(call, call);
+    let failed = format(alloc, disk, geometry).is_err();
+    let oldest = found_behind(alloc, disk, &[0; 16]);
+    Ok((failed, oldest, found_behind(alloc, disk, &[])))
+}
+
+/// The same of a disk of its own.
 fn formatted_at(
     alloc: Global,
     call: u64,
-) -> Result<(bool, Result<u32, Refusal>, Result<u32, Refusal>), Fail> {
-    let geometry = larger()?;
+) -> Result<(bool, Result<u32, Refusal>, Result<u32, Refusal>), Refusal> {
     let mut disk = formatted(alloc, LARGER)?;
-    disk.fail(call, call);
-    let failed = format(alloc, &mut disk, geometry).is_err();
-    let oldest = found_behind(alloc, &disk, &[0; 16])?;
-    Ok((failed, oldest, found_behind(alloc, &disk, &[])?))
+    formatted_again(alloc, &mut disk, call)
 }
 
+/// The second formatting begins at call 14: a call that fails, and what the slots give when a stop leaves the oldest values or the newest.
+type Formatting = (u64, Result<u32, Refusal>, Result<u32, Refusal>);
+
+const NONE: Result<u32, Refusal> = Err(Refusal::NotAPool);
+
+const FORMATTINGS: &[Formatting] = &[
+    (14, Ok(128), Ok(128)),
+    (15, Ok(128), Ok(128)),
+    (16, Ok(128), Ok(128)),
+    (17, Ok(128), Ok(128)),
+    (18, Ok(128), NONE),
+    (19, Ok(128), NONE),
+    (20, NONE, NONE),
+    (21, NONE, NONE),
+    (22, NONE, NONE),
+    (23, NONE, NONE),
+    (24, NONE, NONE),
+    (25, NONE, Ok(256)),
+    (26, NONE, Ok(256)),
+    (27, Ok(256), Ok(256)),
+];
+
 /// The first failing call of a second formatting of which something else is told than should be.
-fn first_wrong_formatting(alloc: Global) -> Result<Option<u64>, Fail> {
-    let none = Err(Refusal::NotAPool);
-    // The call that fails, the second formatting beginning at 14, and what the slots give when a stop leaves the oldest
-    // values or the newest.
-    for (call, oldest, newest) in [
-        (14, Ok(128), Ok(128)),
-        (15, Ok(128), Ok(128)),
-        (16, Ok(128), Ok(128)),
-        (17, Ok(128), Ok(128)),
-        (18, Ok(128), none),
-        (19, Ok(128), none),
-        (20, none, none),
-        (21, none, none),
-        (22, none, none),
-        (23, none, none),
-        (24, none, none),
-        (25, none, Ok(256)),
-        (26, none, Ok(256)),
-        (27, Ok(256), Ok(256)),
-    ] {
-        if formatted_at(alloc, call)? != (call <= 2 * CALLS, oldest, newest) {
-            return Ok(Some(call));
+fn first_wrong_formatting(alloc: Global) -> Result<Option<u64>, Refusal> {
+    for (call, oldest, newest) in FORMATTINGS {
+        if formatted_at(alloc, *call)? != (*call <= 2 * CALLS, *oldest, *newest) {
+            return Ok(Some(*call));
         }
     }
     Ok(None)
 }
 
 #[test]
-fn a_fault_leaves_the_old_pool_or_none(rt: HostRuntime) -> Result<(), Fail> {
-    let wrong = first_wrong_formatting(rt.alloc())?;
-    assert_eq!(rt; wrong, None);
-    Ok(())
+fn a_fault_leaves_the_old_pool_or_none(rt: HostRuntime) {
+    assert_eq!(rt; first_wrong_formatting(rt.alloc()), Ok(None));
 }
 
 /// The next superblock, of transaction 7.
@@ -234,24 +255,36 @@ fn told_of_opening(alloc: Global, disk: &mut MemDisk) -> Result<(bool, Superbloc
     Ok((has_fresh_counts(&opened.tm), opened.superblock))
 }
 
-#[test]
-fn a_formatted_disk_is_opened(rt: HostRuntime) -> Result<(), Fail> {
-    let mut disk = formatted(rt.alloc(), SECTORS)?;
-    let (counted, superblock) = told_of_opening(rt.alloc(), &mut disk)?;
+/// Whether the counts are fresh, the sequence and the root of the superblock, and the calls of the disk.
+type Opened = ((bool, u64, u32), u64);
+
+fn told_of_superblock(alloc: Global, disk: &mut MemDisk) -> Result<Opened, Refusal> {
+    let (counted, superblock) = told_of_opening(alloc, disk)?;
     let told = (counted, superblock.sequence, superblock.root.number());
+    Ok((told, disk.calls()))
+}
+
+/// The same of a disk that was formatted.
+fn told_of_formatted(alloc: Global) -> Result<Opened, Refusal> {
+    let mut disk = formatted(alloc, SECTORS)?;
+    told_of_superblock(alloc, &mut disk)
+}
+
+#[test]
+fn a_formatted_disk_is_opened(rt: HostRuntime) {
     // Two slots and three count blocks were read.
-    assert_eq!(rt; (told, disk.calls()), ((true, 0, 8), CALLS + 5));
-    Ok(())
+    assert_eq!(rt;
+        told_of_formatted(rt.alloc()),
+        Ok(((true, 0, 8), CALLS + 5))
+    );
 }
 
 /// What is opened after a stop with these values.
-fn opened_behind(
-    alloc: Global,
-    disk: &MemDisk,
-    picks: &[u64],
-) -> Result<Result<(u64, u64), Refusal>, Fail> {
-    let mut left = disk.stop(alloc, picks)?;
-    Ok(opened_on(alloc, &mut left))
+fn opened_behind(alloc: Global, disk: &MemDisk, picks: &[u64]) -> Result<(u64, u64), Refusal> {
+    match disk.stop(alloc, picks) {
+        Ok(mut left) => opened_on(alloc, &mut left),
+        Err(_) => Err(Refusal::Memory),
+    }
 }
 
 /// Whether a commit fails where this call of the disk does.
@@ -263,50 +296,59 @@ fn is_commit_failed(alloc: Global, disk: &mut MemDisk, call: u64) -> Result<bool
 
 /// Whether a commit fails where this call of the disk does, and what is opened after a stop with the oldest values and with
 /// the newest.
-fn committed_at(
-    alloc: Global,
-    call: u64,
-) -> Result<
-    (
-        bool,
-        Result<(u64, u64), Refusal>,
-        Result<(u64, u64), Refusal>,
-    ),
-    Fail,
-> {
-    let mut disk = formatted(alloc, SECTORS)?;
-    let failed = is_commit_failed(alloc, &mut disk, call)?;
-    let oldest = opened_behind(alloc, &disk, &[0; 16])?;
-    Ok((failed, oldest, opened_behind(alloc, &disk, &[])?))
+type Committed = (
+    bool,
+    Result<(u64, u64), Refusal>,
+    Result<(u64, u64), Refusal>,
+);
+
+fn committed_on(alloc: Global, disk: &mut MemDisk, call: u64) -> Result<Committed, Refusal> {
+    let failed = is_commit_failed(alloc, disk, call)?;
+    let oldest = opened_behind(alloc, disk, &[0; 16]);
+    Ok((failed, oldest, opened_behind(alloc, disk, &[])))
 }
 
+/// The same of a disk of its own.
+fn committed_at(alloc: Global, call: u64) -> Result<Committed, Refusal> {
+    let mut disk = formatted(alloc, SECTORS)?;
+    committed_on(alloc, &mut disk, call)
+}
+
+/// The commit begins at call 19, with three count blocks, a flush, the superblock and a flush: a call that fails, and what is opened when a stop leaves the
+/// oldest values or the newest.
+type Commit = (
+    u64,
+    Result<(u64, u64), Refusal>,
+    Result<(u64, u64), Refusal>,
+);
+
+const OLD: Result<(u64, u64), Refusal> = Ok((0, 0));
+
+const NEW: Result<(u64, u64), Refusal> = Ok((7, 1));
+
+const COMMITS: &[Commit] = &[
+    (19, OLD, OLD),
+    (20, OLD, OLD),
+    (21, OLD, OLD),
+    (22, OLD, OLD),
+    (23, OLD, NEW),
+    (24, OLD, NEW),
+    (25, NEW, NEW),
+];
+
 /// The first failing call of a commit of which something else is told than should be.
-fn first_wrong_commit(alloc: Global) -> Result<Option<u64>, Fail> {
-    let old = Ok((0, 0));
-    let new = Ok((7, 1));
-    // The call that fails, the commit beginning at 19: three count blocks, a flush, the superblock, a flush. What is opened
-    // when a stop leaves the oldest values or the newest.
-    for (call, oldest, newest) in [
-        (19, old, old),
-        (20, old, old),
-        (21, old, old),
-        (22, old, old),
-        (23, old, new),
-        (24, old, new),
-        (25, new, new),
-    ] {
-        if committed_at(alloc, call)? != (call < 25, oldest, newest) {
-            return Ok(Some(call));
+fn first_wrong_commit(alloc: Global) -> Result<Option<u64>, Refusal> {
+    for (call, oldest, newest) in COMMITS {
+        if committed_at(alloc, *call)? != (*call < 25, *oldest, *newest) {
+            return Ok(Some(*call));
         }
     }
     Ok(None)
 }
 
 #[test]
-fn a_commit_that_stops_leaves_the_old_or_the_new(rt: HostRuntime) -> Result<(), Fail> {
-    let wrong = first_wrong_commit(rt.alloc())?;
-    assert_eq!(rt; wrong, None);
-    Ok(())
+fn a_commit_that_stops_leaves_the_old_or_the_new(rt: HostRuntime) {
+    assert_eq!(rt; first_wrong_commit(rt.alloc()), Ok(None));
 }
 
 /// Writes the first sector of the data blocks and keeps it.
@@ -318,20 +360,36 @@ fn keep_first_sector(disk: &mut MemDisk, first: &[u8; 512]) -> Result<(), Fault>
 }
 
 /// What a stop leaves of that sector.
-fn first_sector_left(alloc: Global, disk: &MemDisk) -> Result<[u8; 512], Fail> {
-    let mut left = disk.stop(alloc, &[])?;
-    Ok(sector_on(&mut left, 16384)?)
+fn first_sector_left(alloc: Global, disk: &MemDisk) -> Result<[u8; 512], Fault> {
+    match disk.stop(alloc, &[]) {
+        Ok(mut left) => sector_on(&mut left, 16384),
+        Err(_) => Err(Fault),
+    }
+}
+
+/// The calls of a disk on which a sector was kept, and what a stop leaves of it.
+fn told_of_keeping(
+    alloc: Global,
+    disk: &mut MemDisk,
+    first: &[u8; 512],
+) -> Result<(u64, [u8; 512]), Fault> {
+    keep_first_sector(disk, first)?;
+    Ok((disk.calls(), first_sector_left(alloc, disk)?))
+}
+
+/// The same of a disk that was formatted.
+fn told_of_kept(alloc: Global, first: &[u8; 512]) -> Result<(u64, [u8; 512]), Fault> {
+    match formatted(alloc, SECTORS) {
+        Ok(mut disk) => told_of_keeping(alloc, &mut disk, first),
+        Err(_) => Err(Fault),
+    }
 }
 
 #[test]
-fn data_is_kept_by_one_flush(rt: HostRuntime) -> Result<(), Fail> {
-    let mut disk = formatted(rt.alloc(), SECTORS)?;
+fn data_is_kept_by_one_flush(rt: HostRuntime) {
     let mut first = [0; 512];
     first[0] = 5;
-    keep_first_sector(&mut disk, &first)?;
-    let left = first_sector_left(rt.alloc(), &disk)?;
-    assert_eq!(rt; (disk.calls(), left), (CALLS + 2, first));
-    Ok(())
+    assert_eq!(rt; told_of_kept(rt.alloc(), &first), Ok((CALLS + 2, first)));
 }
 
 /// Another byte in a block of the disk's metadata.
@@ -346,71 +404,100 @@ fn change(disk: &mut MemDisk, block: u32, at: usize, byte: u8) -> Result<(), Fau
     disk.write(first, &bytes)
 }
 
-/// What the opening of the example pool answers where this byte is another.
-fn told_of_byte(
+/// What the opening of a disk answers where this byte is another.
+fn opened_with(
     alloc: Global,
+    disk: &mut MemDisk,
     block: u32,
     at: usize,
     byte: u8,
-) -> Result<Result<(u64, u64), Refusal>, Fail> {
-    let mut disk = formatted(alloc, SECTORS)?;
-    change(&mut disk, block, at, byte)?;
-    Ok(opened_on(alloc, &mut disk))
+) -> Result<(u64, u64), Refusal> {
+    match change(disk, block, at, byte) {
+        Ok(()) => opened_on(alloc, disk),
+        Err(Fault) => Err(Refusal::Fault),
+    }
 }
 
-/// The block and the place in it of the first of some bytes of which something else is told than should be.
-fn first_wrong_byte(alloc: Global) -> Result<Option<(u32, usize)>, Fail> {
-    // A block, a byte of it, another value, and what is answered.
-    for (block, at, byte, want) in [
-        (0, 0, 0, Err(Refusal::NotAPool)),
-        // An image of the first version is opened, one of a third version is not.
-        (0, 8, 1, Ok((0, 0))),
-        (0, 8, 3, Err(Refusal::BadVersion)),
-        (0, 60, 1, Err(Refusal::Damaged)),
-        // A count behind that of the last data block.
-        (4, 16, 1, Err(Refusal::Damaged)),
-        // The other area is not looked at.
-        (7, 16, 1, Ok((0, 0))),
-        // The reserved bytes of the other slot are no superblock's.
-        (1, 60, 1, Ok((0, 0))),
-    ] {
-        if told_of_byte(alloc, block, at, byte)? != want {
-            return Ok(Some((block, at)));
+/// The same of the example pool.
+fn told_of_byte(alloc: Global, block: u32, at: usize, byte: u8) -> Result<(u64, u64), Refusal> {
+    let mut disk = formatted(alloc, SECTORS)?;
+    opened_with(alloc, &mut disk, block, at, byte)
+}
+
+/// A block, a byte of it, another value, and what is answered.
+type Byte = (u32, usize, u8, Result<(u64, u64), Refusal>);
+
+const BYTES: &[Byte] = &[
+    (0, 0, 0, Err(Refusal::NotAPool)),
+    // An image of the first version is opened, one of a third version is not.
+    (0, 8, 1, Ok((0, 0))),
+    (0, 8, 3, Err(Refusal::BadVersion)),
+    (0, 60, 1, Err(Refusal::Damaged)),
+    // A count behind that of the last data block.
+    (4, 16, 1, Err(Refusal::Damaged)),
+    // The other area is not looked at.
+    (7, 16, 1, Ok((0, 0))),
+    // The reserved bytes of the other slot are no superblock's.
+    (1, 60, 1, Ok((0, 0))),
+];
+
+/// The block and the place in it of the first of these bytes of which something else is told than should be.
+fn first_wrong_byte(alloc: Global) -> Option<(u32, usize)> {
+    for (block, at, byte, want) in BYTES {
+        if told_of_byte(alloc, *block, *at, *byte) != *want {
+            return Some((*block, *at));
         }
     }
-    Ok(None)
+    None
 }
 
 #[test]
-fn bad_images_are_refused(rt: HostRuntime) -> Result<(), Fail> {
-    let wrong = first_wrong_byte(rt.alloc())?;
-    assert_eq!(rt; wrong, None);
-    Ok(())
+fn bad_images_are_refused(rt: HostRuntime) {
+    assert_eq!(rt; first_wrong_byte(rt.alloc()), None);
 }
 
-/// What the opening of a disk of so many sectors answers that has a superblock and nothing else.
-fn told_of_cut(
+/// What the opening of a disk answers that has a superblock and nothing else.
+fn opened_behind_write(
     alloc: Global,
-    sectors: u64,
+    disk: &mut MemDisk,
     superblock: &[u8; 512],
-) -> Result<Result<(u64, u64), Refusal>, Fail> {
-    let mut cut = MemDisk::new(alloc, sectors)?;
-    if cut.sectors() > 0 {
-        cut.write(0, superblock)?;
+) -> Result<(u64, u64), Refusal> {
+    if disk.sectors() > 0 && disk.write(0, superblock).is_err() {
+        return Err(Refusal::Fault);
     }
-    Ok(opened_on(alloc, &mut cut))
+    opened_on(alloc, disk)
+}
+
+/// The same of a disk of so many sectors.
+fn told_of_cut(alloc: Global, sectors: u64, superblock: &[u8; 512]) -> Result<(u64, u64), Refusal> {
+    match MemDisk::new(alloc, sectors) {
+        Ok(mut disk) => opened_behind_write(alloc, &mut disk, superblock),
+        Err(_) => Err(Refusal::Memory),
+    }
+}
+
+/// The first sector of the example pool.
+fn superblock_of(alloc: Global) -> Result<[u8; 512], Fault> {
+    match formatted(alloc, SECTORS) {
+        Ok(mut disk) => sector_on(&mut disk, 0),
+        Err(_) => Err(Fault),
+    }
+}
+
+/// The same where the disk has a sector too few, and where it has all.
+fn told_of_cuts(alloc: Global) -> Result<[Result<(u64, u64), Refusal>; 2], Fault> {
+    let superblock = superblock_of(alloc)?;
+    Ok([
+        told_of_cut(alloc, SECTORS - 1, &superblock),
+        // No counts: the metadata blocks of the fixed part count 0, which are zeros and so good counts.
+        told_of_cut(alloc, SECTORS, &superblock),
+    ])
 }
 
 #[test]
-fn an_image_that_is_cut_off_is_refused(rt: HostRuntime) -> Result<(), Fail> {
-    let superblock = sector_on(&mut formatted(rt.alloc(), SECTORS)?, 0)?;
-    let told = [
-        told_of_cut(rt.alloc(), SECTORS - 1, &superblock)?,
-        // No counts: the metadata blocks of the fixed part count 0, which are zeros and so good counts.
-        told_of_cut(rt.alloc(), SECTORS, &superblock)?,
-    ];
-    assert_eq!(rt; told, [Err(Refusal::Damaged), Ok((0, 0))]);
-    Ok(())
+fn an_image_that_is_cut_off_is_refused(rt: HostRuntime) {
+    let told = told_of_cuts(rt.alloc());
+    assert_eq!(rt; told, Ok([Err(Refusal::Damaged), Ok((0, 0))]));
 }
 
 /// Has so many of the first metadata blocks count 1.
@@ -421,22 +508,28 @@ fn raise_counts(disk: &mut MemDisk, used: usize) -> Result<(), Fault> {
     Ok(())
 }
 
-/// What the opening of the example pool answers where so many of its metadata blocks count 1.
-fn told_of_used(alloc: Global, used: usize) -> Result<Result<(u64, u64), Refusal>, Fail> {
+/// What the opening of a disk answers where so many of its metadata blocks count 1.
+fn opened_with_used(alloc: Global, disk: &mut MemDisk, used: usize) -> Result<(u64, u64), Refusal> {
+    match raise_counts(disk, used) {
+        Ok(()) => opened_on(alloc, disk),
+        Err(Fault) => Err(Refusal::Fault),
+    }
+}
+
+/// The same of the example pool.
+fn told_of_used(alloc: Global, used: usize) -> Result<(u64, u64), Refusal> {
     let mut disk = formatted(alloc, SECTORS)?;
-    raise_counts(&mut disk, used)?;
-    Ok(opened_on(alloc, &mut disk))
+    opened_with_used(alloc, &mut disk, used)
 }
 
 #[test]
-fn an_image_without_spare_blocks_is_refused(rt: HostRuntime) -> Result<(), Fail> {
+fn an_image_without_spare_blocks_is_refused(rt: HostRuntime) {
     // So many metadata blocks of 2048 count 1.
     let told = [
-        told_of_used(rt.alloc(), 1920)?,
-        told_of_used(rt.alloc(), 1921)?,
+        told_of_used(rt.alloc(), 1920),
+        told_of_used(rt.alloc(), 1921),
     ];
     assert_eq!(rt; told, [Ok((0, 0)), Err(Refusal::Damaged)]);
-    Ok(())
 }
 
 /// Virtual blocks of the device that is removed: one more than the metadata read at once.
@@ -600,14 +693,20 @@ fn marks_about_a_deletion<M: Metadata, D: Disk>(
     Ok([before, after, marked_on(metadata, disk, geometry)?])
 }
 
-#[test]
-fn a_deletion_marks_what_a_snapshot_shared(rt: HostRuntime) -> Result<(), Fail> {
+/// The same of a new disk.
+fn marks_on(alloc: Global, disk: &mut MemDisk) -> Result<[(u32, u32); 3], Refusal> {
     let geometry = Geometry::new(128, 512, 1032, 256)?;
-    let mut disk = MemDisk::new(rt.alloc(), geometry.image_sectors())?;
-    let mut meta = Meta::format(rt.alloc(), &mut disk, geometry)?;
-    let marks = marks_about_a_deletion(&mut meta, &mut disk, &geometry);
+    let mut meta = Meta::format(alloc, disk, geometry)?;
+    marks_about_a_deletion(&mut meta, disk, &geometry)
+}
+
+/// The sectors of its image.
+const MARKED: u64 = 8 * 1032 + 128 * 256;
+
+#[test]
+fn a_deletion_marks_what_a_snapshot_shared(rt: HostRuntime) {
+    let marks = told_of_disk(rt.alloc(), MARKED, marks_on);
     assert_eq!(rt; marks, Ok([(0, 253), (253, 0), (0, 0)]));
-    Ok(())
 }
 
 /// How many devices are told, and by how many calls of the disk.
@@ -644,23 +743,26 @@ fn counted_behind_opening(alloc: Global, disk: &mut MemDisk) -> Result<(u32, u64
     counted_on(&meta, disk, &sizes)
 }
 
+/// The same of a new disk.
+fn counted_on_new(alloc: Global, disk: &mut MemDisk) -> Result<[(u32, u64); 2], Refusal> {
+    let geometry = example()?;
+    let mut meta = Meta::format(alloc, disk, geometry)?;
+    counts_about_a_deletion(&mut meta, disk, &geometry)
+}
+
 /// What is told of the devices where one of two was removed, and of those that were kept.
 fn told_of_devices(
     alloc: Global,
     disk: &mut MemDisk,
 ) -> Result<([(u32, u64); 2], (u32, u64)), Refusal> {
-    let geometry = example()?;
-    let mut meta = Meta::format(alloc, disk, geometry)?;
-    let told = counts_about_a_deletion(&mut meta, disk, &geometry)?;
+    let told = counted_on_new(alloc, disk)?;
     Ok((told, counted_behind_opening(alloc, disk)?))
 }
 
 #[test]
-fn devices_are_told_without_the_disk(rt: HostRuntime) -> Result<(), Fail> {
-    let mut disk = MemDisk::new(rt.alloc(), SECTORS)?;
-    let told = told_of_devices(rt.alloc(), &mut disk);
+fn devices_are_told_without_the_disk(rt: HostRuntime) {
+    let told = told_of_disk(rt.alloc(), SECTORS, told_of_devices);
     assert_eq!(rt; told, Ok(([(2, 0), (1, 0)], (2, 0))));
-    Ok(())
 }
 
 /// Makes two devices of three data blocks and keeps them.
@@ -678,38 +780,68 @@ fn keep_two_devices<M: Metadata, D: Disk>(
 
 /// What a deletion of one of two devices answers where the call of this number behind the last commit fails, and whether the
 /// disk was called as often.
+fn failed_deletion_of<M: Metadata>(
+    metadata: &mut M,
+    disk: &mut MemDisk,
+    geometry: &Geometry,
+    call: u64,
+) -> Result<(Result<(), Refusal>, bool), Refusal>
+    requires { M.geometry metadata.old ≡ geometry.now }
+{
+    keep_two_devices(metadata, disk, geometry)?;
+    let failing = disk.calls().wrapping_add(call);
+    disk.fail(failing, failing);
+    let answer = delete_on(metadata, disk, geometry);
+    Ok((answer, disk.calls() >= failing))
+}
+
+/// The same of a new disk.
 fn failed_deletion(
     alloc: Global,
     disk: &mut MemDisk,
     call: u64,
-) -> Result<(Result<(), Refusal>, bool), Fail> {
+) -> Result<(Result<(), Refusal>, bool), Refusal> {
     let geometry = example()?;
     let mut meta = Meta::format(alloc, disk, geometry)?;
-    keep_two_devices(&mut meta, disk, &geometry)?;
-    let failing = disk.calls().wrapping_add(call);
-    disk.fail(failing, failing);
-    let answer = delete_on(&mut meta, disk, &geometry);
-    Ok((answer, disk.calls() >= failing))
+    failed_deletion_of(&mut meta, disk, &geometry, call)
 }
 
-/// How many devices are found in the clean image that a stop leaves.
-fn devices_left(alloc: Global, disk: &MemDisk) -> Result<u32, Fail> {
-    let mut left = disk.stop(alloc, &[])?;
-    check(alloc, &mut left)?;
-    let kept = Meta::open(alloc, &mut left)?;
-    let sizes = kept.geometry();
-    Ok(devices_on(&kept, &mut left, &sizes)?)
+/// How many devices are found in a clean image.
+fn clean_devices(alloc: Global, disk: &mut MemDisk) -> Result<u32, Refusal> {
+    match check(alloc, disk) {
+        Ok(()) => Ok(counted_behind_opening(alloc, disk)?.0),
+        Err(error) => Err(error.refusal()),
+    }
 }
 
-/// What `failed_deletion` tells on a disk of its own, and how many devices are found in the clean image that a stop leaves.
-fn deleted_at(alloc: Global, call: u64) -> Result<(Result<(), Refusal>, bool, u32), Fail> {
-    let mut disk = MemDisk::new(alloc, SECTORS)?;
-    let (answer, is_reached) = failed_deletion(alloc, &mut disk, call)?;
-    Ok((answer, is_reached, devices_left(alloc, &disk)?))
+/// The same of the image that a stop leaves.
+fn devices_left(alloc: Global, disk: &MemDisk) -> Result<u32, Refusal> {
+    match disk.stop(alloc, &[]) {
+        Ok(mut left) => clean_devices(alloc, &mut left),
+        Err(_) => Err(Refusal::Memory),
+    }
+}
+
+/// What `failed_deletion` tells, and how many devices are found in the clean image that a stop leaves.
+fn deleted_on(
+    alloc: Global,
+    disk: &mut MemDisk,
+    call: u64,
+) -> Result<(Result<(), Refusal>, bool, u32), Refusal> {
+    let (answer, is_reached) = failed_deletion(alloc, disk, call)?;
+    Ok((answer, is_reached, devices_left(alloc, disk)?))
+}
+
+/// The same of a disk of its own.
+fn deleted_at(alloc: Global, call: u64) -> Result<(Result<(), Refusal>, bool, u32), Refusal> {
+    match MemDisk::new(alloc, SECTORS) {
+        Ok(mut disk) => deleted_on(alloc, &mut disk, call),
+        Err(_) => Err(Refusal::Memory),
+    }
 }
 
 /// The first failing call of a deletion that is not told, or behind which there are not both devices.
-fn first_wrong_deletion(alloc: Global) -> Result<Option<u64>, Fail> {
+fn first_wrong_deletion(alloc: Global) -> Result<Option<u64>, Refusal> {
     for call in 1..9 {
         let (answer, is_reached, devices) = deleted_at(alloc, call)?;
         let want = if is_reached {
@@ -725,8 +857,6 @@ fn first_wrong_deletion(alloc: Global) -> Result<Option<u64>, Fail> {
 }
 
 #[test]
-fn a_deletion_that_fails_leaves_both_devices(rt: HostRuntime) -> Result<(), Fail> {
-    let wrong = first_wrong_deletion(rt.alloc())?;
-    assert_eq!(rt; wrong, None);
-    Ok(())
+fn a_deletion_that_fails_leaves_both_devices(rt: HostRuntime) {
+    assert_eq!(rt; first_wrong_deletion(rt.alloc()), Ok(None));
 }

@@ -1,7 +1,7 @@
 ghost use Rattle.std.specs.Prelude.{◌<◌, IsTrue};
 ghost use Rattle.tp_tm.specs.Tm.{free_metadata};
 
-use crate::guarded::store_of;
+use crate::guarded::{store_of, told_of_store};
 use std::alloc::Global;
 use std::test::Fail;
 use tp_disk::{Disk, Fault, MemDisk};
@@ -143,20 +143,23 @@ fn write_and_read<D: Disk>(tm: &mut Tm, disk: &mut D, count: u8) -> Result<Told,
     Ok((block, times, read, shadow_on(tm, disk, block)?))
 }
 
+/// The same of a leaf without an entry, and then of one with an entry.
+fn told_of_two(tm: &mut Tm, disk: &mut MemDisk) -> Result<(Told, Told), Refusal> {
+    let empty = write_and_read(tm, disk, 0)?;
+    Ok((empty, write_and_read(tm, disk, 1)?))
+}
+
 #[test]
 fn a_node_comes_back(rt: HostRuntime) -> Result<(), Fail> {
-    let mut disk = MemDisk::new(rt.alloc(), 16_896)?;
-    let mut tm = store_of(rt.alloc())?;
-    let empty = write_and_read(&mut tm, &mut disk, 0);
-    let mapped = write_and_read(&mut tm, &mut disk, 1);
+    let told = told_of_store(rt.alloc(), told_of_two)?;
     // What is named once and not kept is changed where it stands.
     let (first, second) = (Mb::new(0), Mb::new(1));
     assert_eq!(rt;
-        (empty, mapped),
-        (
-            Ok((first, Some(1), (0, 0), (first, 0))),
-            Ok((second, Some(1), (0, 1), (second, 1)))
-        )
+        told,
+        Ok((
+            (first, Some(1), (0, 0), (first, 0)),
+            (second, Some(1), (0, 1), (second, 1))
+        ))
     );
     Ok(())
 }
@@ -171,9 +174,9 @@ fn shared_leaf<D: Disk>(tm: &mut Tm, disk: &mut D) -> Result<Mb, Refusal> {
 
 /// The block to change a shared node in, and its entries; and how often blocks are named before it is asked for, behind that,
 /// and once the copy is written and the node given up.
-fn told_of_a_copy<D: Disk>(
+fn told_of_a_copy(
     tm: &mut Tm,
-    disk: &mut D,
+    disk: &mut MemDisk,
 ) -> Result<((Mb, usize), (Times, Times, Times)), Refusal> {
     let block = shared_leaf(tm, disk)?;
     let before = all_named(tm);
@@ -186,9 +189,7 @@ fn told_of_a_copy<D: Disk>(
 
 #[test]
 fn a_shared_node_is_copied(rt: HostRuntime) -> Result<(), Fail> {
-    let mut disk = MemDisk::new(rt.alloc(), 16_896)?;
-    let mut tm = store_of(rt.alloc())?;
-    let told = told_of_a_copy(&mut tm, &mut disk);
+    let told = told_of_store(rt.alloc(), told_of_a_copy)?;
     assert_eq!(rt;
         told,
         Ok((
@@ -205,10 +206,7 @@ fn a_shared_node_is_copied(rt: HostRuntime) -> Result<(), Fail> {
 
 /// Of a shared leaf that is given up twice: how often blocks are named behind each time, its block, and the one that is fresh
 /// then.
-fn told_of_releases<D: Disk>(
-    tm: &mut Tm,
-    disk: &mut D,
-) -> Result<((Times, Times), Mb, Mb), Refusal> {
+fn told_of_releases(tm: &mut Tm, disk: &mut MemDisk) -> Result<((Times, Times), Mb, Mb), Refusal> {
     let block = shared_leaf(tm, disk)?;
     release_on(tm, disk, block)?;
     let once = all_named(tm);
@@ -218,9 +216,7 @@ fn told_of_releases<D: Disk>(
 
 #[test]
 fn the_last_release_frees(rt: HostRuntime) -> Result<(), Fail> {
-    let mut disk = MemDisk::new(rt.alloc(), 16_896)?;
-    let mut tm = store_of(rt.alloc())?;
-    let told = told_of_releases(&mut tm, &mut disk);
+    let told = told_of_store(rt.alloc(), told_of_releases)?;
     let (once, twice) = ([Some(1), Some(0), Some(1)], [Some(0), Some(0), Some(0)]);
     assert_eq!(rt; told, Ok(((once, twice), Mb::new(0), Mb::new(0))));
     Ok(())
@@ -233,7 +229,7 @@ type Answers = (
     [Result<(), Refusal>; 2],
 );
 
-fn answers_of_zeros<D: Disk>(tm: &mut Tm, disk: &mut D) -> Result<Answers, Refusal> {
+fn answers_of_zeros(tm: &mut Tm, disk: &mut MemDisk) -> Result<Answers, Refusal> {
     let block = fresh_of(tm)?;
     let read = read_on(tm, disk, block);
     share_on(tm, block)?;
@@ -244,9 +240,7 @@ fn answers_of_zeros<D: Disk>(tm: &mut Tm, disk: &mut D) -> Result<Answers, Refus
 
 #[test]
 fn other_bytes_are_damaged(rt: HostRuntime) -> Result<(), Fail> {
-    let mut disk = MemDisk::new(rt.alloc(), 16_896)?;
-    let mut tm = store_of(rt.alloc())?;
-    let told = answers_of_zeros(&mut tm, &mut disk);
+    let told = told_of_store(rt.alloc(), answers_of_zeros)?;
     // The first of two references is given up without a look at the block.
     let released = [Ok(()), Err(Refusal::Damaged)];
     assert_eq!(rt;
@@ -263,13 +257,22 @@ fn give_back(tm: &mut Tm, place: u32) -> Result<(), Refusal> {
     Ok(tm.release_data(Pb::new(place))?)
 }
 
+/// Four data blocks that are fresh, one behind the other, and how many are in use and free then.
+fn told_of_fresh(tm: &mut Tm) -> ([Option<Pb>; 4], (u64, u64)) {
+    let fresh = [
+        tm.fresh_data(),
+        tm.fresh_data(),
+        tm.fresh_data(),
+        tm.fresh_data(),
+    ];
+    (fresh, (tm.used_data(), tm.free_data()))
+}
+
 #[test]
 fn data_blocks_come_and_go(rt: HostRuntime) -> Result<(), Fail> {
-    let mut tm = store_of(rt.alloc())?;
-    for want in [Some(0), Some(1), Some(3), None] {
-        assert_eq!(rt; tm.fresh_data().map(|place| place.number()), want);
-    }
-    assert_eq!(rt; (tm.used_data(), tm.free_data()), (4, 0));
+    let (fresh, left) = told_of_fresh(&mut store_of(rt.alloc())?);
+    let wanted = [Some(Pb::new(0)), Some(Pb::new(1)), Some(Pb::new(3)), None];
+    assert_eq!(rt; (fresh, left), (wanted, (4, 0)));
     Ok(())
 }
 
@@ -447,17 +450,21 @@ fn give_up_all(
     Ok((times, used, tm.free_metadata()))
 }
 
+/// Of a thousand operations the first behind which something is not right, whether blocks were watched behind most of them, and what is left.
+fn told_of_many(
+    tm: &mut Tm,
+    disk: &mut MemDisk,
+) -> Result<(Option<u32>, bool, (Option<u32>, u64, u64)), Refusal> {
+    let mut roots = [None; 8];
+    let (wrong, watched) = first_wrong(tm, disk, &mut roots, 1000)?;
+    let left = give_up_all(tm, disk, &roots)?;
+    Ok((wrong, watched > 900, left))
+}
+
 #[test]
 fn many_operations_write_nothing_kept(rt: HostRuntime) -> Result<(), Fail> {
-    let mut disk = MemDisk::new(rt.alloc(), 16_896)?;
-    let mut tm = store_of(rt.alloc())?;
-    let mut roots = [None; 8];
-    let (wrong, watched) = first_wrong(&mut tm, &mut disk, &mut roots, 1000)?;
-    let left = give_up_all(&mut tm, &mut disk, &roots);
-    assert_eq!(rt;
-        (wrong, watched > 900, left),
-        (None, true, Ok((Some(1), 0, 2048)))
-    );
+    let told = told_of_store(rt.alloc(), told_of_many)?;
+    assert_eq!(rt; told, Ok((None, true, (Some(1), 0, 2048))));
     Ok(())
 }
 
@@ -479,18 +486,15 @@ fn live_of(tm: &mut Tm, disk: &mut MemDisk) -> Result<(), Refusal> {
 /// is no commit where the first call fails), and how often block 0 and data block 2 are named then.
 type Lived = (Result<(), Refusal>, u64, bool, [Option<u32>; 2]);
 
-fn lived_at(alloc: Global, failing: u64) -> Result<Lived, Fail> {
-    let mut disk = MemDisk::new(alloc, 16_896)?;
-    let mut tm = store_of(alloc)?;
+fn lived_on(tm: &mut Tm, disk: &mut MemDisk, failing: u64) -> Lived {
     disk.fail(failing, failing);
-    let told = live_of(&mut tm, &mut disk);
+    let told = live_of(tm, disk);
     let is_left = failing <= 1 || disk.watched_writes() == 0;
-    Ok((
-        told,
-        disk.calls(),
-        is_left,
-        [named(&tm, 0), named(&tm, DATA)],
-    ))
+    (told, disk.calls(), is_left, [named(tm, 0), named(tm, DATA)])
+}
+
+fn lived_at(alloc: Global, failing: u64) -> Result<Lived, Fail> {
+    told_of_store(alloc, |tm, disk| lived_on(tm, disk, failing))
 }
 
 /// The first of the nine calls that is not told where it fails, is not the last then, or behind which what the commit names was
@@ -545,9 +549,7 @@ fn told_of_faults(tm: &mut Tm, disk: &mut MemDisk) -> Result<(Writes, Reads), Re
 
 #[test]
 fn a_fault_is_told(rt: HostRuntime) -> Result<(), Fail> {
-    let mut disk = MemDisk::new(rt.alloc(), 16_896)?;
-    let mut tm = store_of(rt.alloc())?;
-    let told = told_of_faults(&mut tm, &mut disk);
+    let told = told_of_store(rt.alloc(), told_of_faults)?;
     let writes = [Err(Refusal::Fault), Ok(())];
     assert_eq!(rt; told, Ok((writes, [Err(Refusal::Fault), Ok((0, 1))])));
     Ok(())

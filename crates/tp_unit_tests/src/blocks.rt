@@ -2,12 +2,23 @@ ghost use Rattle.std.specs.Prelude.{◌≡◌, ◌<◌, ◌≤◌, OnOk, length}
 ghost use Rattle.tp_model.specs.Geometry.{sectors_of_image};
 
 use std::alloc::Global;
-use std::test::Fail;
 use tp_blocks::Blocks;
 use tp_disk::{Disk, Fault, MemDisk};
 use tp_model::{Geometry, Pb};
 
+/// The sectors of the pool of all tests here, which has four data blocks.
+const SECTORS: u64 = 16_896;
+
 const BLOCK: usize = 128 * 512;
+
+/// The bytes at five places, `None` behind the end.
+fn bytes_at(bytes: &[u8], places: &[usize; 5]) -> [Option<u8>; 5] {
+    let mut found = [None; 5];
+    for i in 0..5 {
+        found[i] = bytes.get(places[i]).copied();
+    }
+    found
+}
 
 /// The bytes at five places of a block, `None` behind its end.
 fn read_at<D: Disk>(
@@ -15,16 +26,20 @@ fn read_at<D: Disk>(
     disk: &mut D,
     blocks: &Blocks,
     block: Pb,
-    places: [usize; 5],
-) -> Result<[Option<u8>; 5], Fail>
+    places: &[usize; 5],
+) -> Result<[Option<u8>; 5], Fault>
     requires disk { sectors_of_image blocks.now ≤ (D.state disk.old).size }
     requires block { block < blocks.now.data_blocks }
     requires size { blocks.now.block_sectors ≡ 128 }
     ensures { OnOk result ((D.state disk.new).size ≡ (D.state disk.old).size) }
 {
-    let mut out = Vec::from_elem(alloc, 1, BLOCK)?;
-    blocks.read(disk, block, 0, &mut out)?;
-    Ok(places.map(|place| out.get(place).copied()))
+    let Ok(mut out) = Vec::from_elem(alloc, 1, BLOCK) else {
+        return Err(Fault);
+    };
+    match blocks.read(disk, block, 0, &mut out) {
+        Ok(()) => Ok(bytes_at(&out, places)),
+        Err(Fault) => Err(Fault),
+    }
 }
 
 /// Fills a block, copies it into another one with other bytes, and writes a sector of the first in place.
@@ -42,21 +57,54 @@ fn fill_both<D: Disk>(disk: &mut D, blocks: &mut Blocks, first: Pb, second: Pb) 
     blocks.write_part(disk, first, 127, &[7; 512])
 }
 
-#[test]
-fn blocks_are_filled_written_and_read(rt: HostRuntime) -> Result<(), Fail> {
-    let alloc = rt.alloc();
-    let geometry = Geometry::new(128, 16, 2048, 4)?;
-    let mut disk = MemDisk::new(alloc, geometry.image_sectors())?;
-    let mut blocks = Blocks::new(alloc, geometry)?;
+/// The bytes at five places of each of both.
+fn filled_and_read<D: Disk>(
+    alloc: Global,
+    disk: &mut D,
+    blocks: &mut Blocks,
+) -> Result<([Option<u8>; 5], [Option<u8>; 5]), Fault>
+    requires disk { sectors_of_image blocks.old ≤ (D.state disk.old).size }
+    requires size { blocks.old.block_sectors ≡ 128 }
+    requires blocks { blocks.old.data_blocks ≡ 4 }
+{
     let (first, second) = (Pb::new(1), Pb::new(3));
-    fill_both(&mut disk, &mut blocks, first, second)?;
+    fill_both(disk, blocks, first, second)?;
     let places = [0, 3 * 512, 5 * 512 - 1, 5 * 512, 127 * 512];
-    let read = read_at(alloc, &mut disk, &blocks, first, places)?;
-    assert_eq!(rt; read, [0, 5, 5, 0, 7].map(Some));
+    let of_first = read_at(alloc, disk, blocks, first, &places)?;
     let places = [0, 3 * 512, 4 * 512, 5 * 512, 127 * 512];
-    let read = read_at(alloc, &mut disk, &blocks, second, places)?;
-    assert_eq!(rt; read, [0, 5, 6, 0, 0].map(Some));
-    Ok(())
+    Ok((of_first, read_at(alloc, disk, blocks, second, &places)?))
+}
+
+/// The same of new blocks.
+fn filled_on<D: Disk>(
+    alloc: Global,
+    disk: &mut D,
+) -> Result<([Option<u8>; 5], [Option<u8>; 5]), Fault> {
+    let Ok(geometry) = Geometry::new(128, 16, 2048, 4) else {
+        return Err(Fault);
+    };
+    if disk.sectors() < geometry.image_sectors() {
+        return Err(Fault);
+    }
+    match Blocks::new(alloc, geometry) {
+        Ok(mut blocks) => filled_and_read(alloc, disk, &mut blocks),
+        Err(_) => Err(Fault),
+    }
+}
+
+/// The same of a new disk.
+fn told_of_filled(alloc: Global) -> Result<([Option<u8>; 5], [Option<u8>; 5]), Fault> {
+    match MemDisk::new(alloc, SECTORS) {
+        Ok(mut disk) => filled_on(alloc, &mut disk),
+        Err(_) => Err(Fault),
+    }
+}
+
+#[test]
+fn blocks_are_filled_written_and_read(rt: HostRuntime) {
+    let first = [Some(0), Some(5), Some(5), Some(0), Some(7)];
+    let second = [Some(0), Some(5), Some(6), Some(0), Some(0)];
+    assert!(rt; told_of_filled(rt.alloc()) == Ok((first, second)));
 }
 
 /// Fills the middle block of three, then writes a run that begins in it and ends in the last one.
@@ -77,27 +125,65 @@ fn read_over<D: Disk>(
     alloc: Global,
     disk: &mut D,
     blocks: &Blocks,
-    places: [usize; 5],
-) -> Result<[Option<u8>; 5], Fail>
+    places: &[usize; 5],
+) -> Result<[Option<u8>; 5], Fault>
     requires disk { sectors_of_image blocks.now ≤ (D.state disk.old).size }
     requires size { blocks.now.block_sectors ≡ 128 }
     requires blocks { blocks.now.data_blocks ≡ 4 }
 {
-    let mut out = Vec::from_elem(alloc, 1, 3 * BLOCK)?;
-    blocks.read(disk, Pb::new(1), 0, &mut out)?;
-    Ok(places.map(|place| out.get(place).copied()))
+    let Ok(mut out) = Vec::from_elem(alloc, 1, 3 * BLOCK) else {
+        return Err(Fault);
+    };
+    match blocks.read(disk, Pb::new(1), 0, &mut out) {
+        Ok(()) => Ok(bytes_at(&out, places)),
+        Err(Fault) => Err(Fault),
+    }
+}
+
+/// The same behind the writes.
+fn written_and_read<D: Disk>(
+    alloc: Global,
+    disk: &mut D,
+    blocks: &mut Blocks,
+) -> Result<[Option<u8>; 5], Fault>
+    requires disk { sectors_of_image blocks.old ≤ (D.state disk.old).size }
+    requires size { blocks.old.block_sectors ≡ 128 }
+    requires blocks { blocks.old.data_blocks ≡ 4 }
+{
+    let Ok(bytes) = Vec::from_elem(alloc, 8, BLOCK) else {
+        return Err(Fault);
+    };
+    let places = [0, BLOCK - 1, BLOCK + 511, BLOCK + 512, 3 * BLOCK];
+    match write_over(disk, blocks, &bytes) {
+        Ok(()) => read_over(alloc, disk, blocks, &places),
+        Err(Fault) => Err(Fault),
+    }
+}
+
+/// The same of new blocks.
+fn written_on<D: Disk>(alloc: Global, disk: &mut D) -> Result<[Option<u8>; 5], Fault> {
+    let Ok(geometry) = Geometry::new(128, 16, 2048, 4) else {
+        return Err(Fault);
+    };
+    if disk.sectors() < geometry.image_sectors() {
+        return Err(Fault);
+    }
+    match Blocks::new(alloc, geometry) {
+        Ok(mut blocks) => written_and_read(alloc, disk, &mut blocks),
+        Err(_) => Err(Fault),
+    }
+}
+
+/// The same of a new disk.
+fn told_of_written(alloc: Global) -> Result<[Option<u8>; 5], Fault> {
+    match MemDisk::new(alloc, SECTORS) {
+        Ok(mut disk) => written_on(alloc, &mut disk),
+        Err(_) => Err(Fault),
+    }
 }
 
 #[test]
-fn a_run_goes_on_over_blocks(rt: HostRuntime) -> Result<(), Fail> {
-    let alloc = rt.alloc();
-    let geometry = Geometry::new(128, 16, 2048, 4)?;
-    let mut disk = MemDisk::new(alloc, geometry.image_sectors())?;
-    let mut blocks = Blocks::new(alloc, geometry)?;
-    let bytes = Vec::from_elem(alloc, 8, BLOCK)?;
-    write_over(&mut disk, &mut blocks, &bytes)?;
-    let places = [0, BLOCK - 1, BLOCK + 511, BLOCK + 512, 3 * BLOCK];
-    let read = read_over(alloc, &mut disk, &blocks, places)?;
-    assert_eq!(rt; read, [Some(8), Some(8), Some(8), Some(0), None]);
-    Ok(())
+fn a_run_goes_on_over_blocks(rt: HostRuntime) {
+    let wanted = [Some(8), Some(8), Some(8), Some(0), None];
+    assert!(rt; told_of_written(rt.alloc()) == Ok(wanted));
 }

@@ -1,4 +1,4 @@
-ghost use Rattle.std.specs.Prelude.{◌≡◌, ◌+◌, ◌<◌, ◌≤◌, length};
+ghost use Rattle.std.specs.Prelude.{◌≡◌, ◌+◌, ◌<◌, ◌≤◌, IfOk, length};
 
 use std::alloc::Global;
 use std::num::NonZeroUsize;
@@ -55,12 +55,10 @@ fn sum(bytes: &[u8]) -> u64 {
     sum
 }
 
-// One call: the sum of what was read, or 1 after a write and 2 after a flush.
-fn call<D: Disk>(disk: &mut D, random: &mut Random) -> Result<u64, Fault> {
-    let kind = random.below(8);
-    let (at, sectors) = range(random);
-    let mut bytes = [0; 8192];
-    if at + sectors as u64 > disk.sectors() {
+// Writes bytes, reads as many, or flushes: the sum of what was read, or 1 after a write and 2 after a flush.
+fn call_with<D: Disk>(disk: &mut D, kind: u64, at: u64, bytes: &mut [u8]) -> Result<u64, Fault> {
+    let count = bytes.len() / 512;
+    if bytes.len() % 512 != 0 || at > disk.sectors() || count as u64 > disk.sectors() - at {
         return Err(Fault);
     }
     if kind == 7 {
@@ -68,12 +66,22 @@ fn call<D: Disk>(disk: &mut D, random: &mut Random) -> Result<u64, Fault> {
         return Ok(2);
     }
     if kind < 4 {
-        fill(&mut bytes, random);
-        disk.write(at, &bytes[..512 * sectors])?;
+        disk.write(at, bytes)?;
         return Ok(1);
     }
-    disk.read(at, &mut bytes[..512 * sectors])?;
-    Ok(sum(&bytes[..512 * sectors]))
+    disk.read(at, bytes)?;
+    Ok(sum(bytes))
+}
+
+// One random call.
+fn call<D: Disk>(disk: &mut D, random: &mut Random) -> Result<u64, Fault> {
+    let kind = random.below(8);
+    let (at, sectors) = range(random);
+    let mut bytes = [0; 8192];
+    if kind < 4 {
+        fill(&mut bytes, random);
+    }
+    call_with(disk, kind, at, &mut bytes[..512 * sectors])
 }
 
 // The same call, made again where it fails.
@@ -120,54 +128,93 @@ fn image<D: Disk>(disk: &mut D) -> Result<u64, Fault> {
     Ok(sum(&bytes))
 }
 
-// A cache of three slots over such a disk, of which some calls fail.
-fn cached(alloc: Global, first: u64, last: u64) -> Result<NodeCache<ReadCache<MemDisk>>, Fail> {
-    let mut disk = MemDisk::new(alloc, SECTORS)?;
-    disk.fail(first, last);
+// Such a cache over a disk in memory.
+type Cache = NodeCache<ReadCache<MemDisk>>;
+
+// A cache of two read blocks over a disk in memory.
+fn read_cached(alloc: Global, disk: MemDisk) -> Result<ReadCache<MemDisk>, Fault>
+    ensures { IfOk result (λ cache. cache.disk ≡ disk) }
+{
     let Some(room) = NonZeroUsize::new(2) else {
-        return Err(Fail::new("no room"));
+        return Err(Fault);
     };
-    let Ok(inner) = ReadCache::new(alloc, disk, BLOCKS, room) else {
-        return Err(Fail::new("no memory"));
-    };
-    match NodeCache::new(alloc, inner, BLOCKS, 3) {
+    match ReadCache::new(alloc, disk, BLOCKS, room) {
         Ok(cache) => Ok(cache),
-        Err(_) => Err(Fail::new("no memory")),
+        Err(_) => Err(Fault),
     }
 }
 
-// What random calls of a plain disk answer, and what is on it then.
-fn wanted(alloc: Global, calls: usize) -> Result<(u64, u64), Fail> {
-    let mut disk = MemDisk::new(alloc, SECTORS)?;
-    let all = answers(&mut disk, 5, calls)?;
-    Ok((all, image(&mut disk)?))
+// A cache of three slots over such a disk, of which some calls fail, or a fault where there is no memory for it.
+fn cached(alloc: Global, first: u64, last: u64) -> Result<Cache, Fault> {
+    let Ok(mut disk) = MemDisk::new(alloc, SECTORS) else {
+        return Err(Fault);
+    };
+    disk.fail(first, last);
+    let inner = read_cached(alloc, disk)?;
+    match NodeCache::new(alloc, inner, BLOCKS, 3) {
+        Ok(cache) => Ok(cache),
+        Err(_) => Err(Fault),
+    }
 }
 
-// The same of a cache, and what is on the disk under it after a flush.
-fn seen(alloc: Global, calls: usize, first: u64, last: u64) -> Result<(u64, u64), Fail> {
-    let mut cache = cached(alloc, first, last)?;
-    let all = answers(&mut cache, 5, calls)?;
-    flush_again(&mut cache)?;
+// What random calls answer, and what is on the disk then.
+fn answers_and_image<D: Disk>(disk: &mut D, calls: usize) -> Result<(u64, u64), Fault> {
+    let all = answers(disk, 5, calls)?;
+    Ok((all, image(disk)?))
+}
+
+// The same of a plain disk.
+fn wanted(alloc: Global, calls: usize) -> Result<(u64, u64), Fault> {
+    match MemDisk::new(alloc, SECTORS) {
+        Ok(mut disk) => answers_and_image(&mut disk, calls),
+        Err(_) => Err(Fault),
+    }
+}
+
+// What random calls answer, and then a flush.
+fn answers_and_flush<D: Disk>(disk: &mut D, calls: usize) -> Result<u64, Fault> {
+    let all = answers(disk, 5, calls)?;
+    flush_again(disk)?;
+    Ok(all)
+}
+
+// What is on the disk under a cache.
+fn image_under(cache: Cache) -> Result<u64, Fault> {
     let mut disk = cache.into_inner().into_inner();
     disk.fail(0, 0);
-    Ok((all, image(&mut disk)?))
+    image(&mut disk)
+}
+
+// What random calls of a cache answer, and what is on the disk under it after a flush.
+fn seen(alloc: Global, calls: usize, first: u64, last: u64) -> Result<(u64, u64), Fault> {
+    let mut cache = cached(alloc, first, last)?;
+    let all = answers_and_flush(&mut cache, calls);
+    let image = image_under(cache)?;
+    Ok((all?, image))
 }
 
 #[test]
 fn a_cache_answers_as_its_disk(rt: HostRuntime) -> Result<(), Fail> {
-    let alloc = rt.alloc();
-    assert_eq!(rt; seen(alloc, 2000, 0, 0)?, wanted(alloc, 2000)?);
+    let want = wanted(rt.alloc(), 2000)?;
+    assert!(rt; seen(rt.alloc(), 2000, 0, 0) == Ok(want));
     Ok(())
+}
+
+// The first call of which, where it and the three behind it fail, a cache answers something else than this.
+fn first_other(alloc: Global, want: (u64, u64)) -> Result<Option<u64>, Fault> {
+    for first in 1..60u64 {
+        if seen(alloc, 40, first, first + 3)? != want {
+            return Ok(Some(first));
+        }
+    }
+    Ok(None)
 }
 
 // Four calls one after another fail, at each place of the run in turn.
 #[test]
 fn faults_lose_nothing_of_a_cache(rt: HostRuntime) -> Result<(), Fail> {
-    let alloc = rt.alloc();
-    let want = wanted(alloc, 40)?;
-    for first in 1..60 {
-        assert_eq!(rt; seen(alloc, 40, first, first + 3)?, want);
-    }
+    let want = wanted(rt.alloc(), 40)?;
+    assert!(rt; first_other(rt.alloc(), want) == Ok(None));
     Ok(())
 }
 
@@ -202,17 +249,22 @@ fn filled_and_read<D: Disk>(disk: &mut D) -> Result<[u8; 3], Fault> {
     ])
 }
 
+// How often the disk under a cache was called.
+fn calls_under(cache: Cache) -> u64 {
+    cache.into_inner().into_inner().calls()
+}
+
 // The same of a cache, and how often the disk under it was called.
-fn read_after_flush(alloc: Global) -> Result<([u8; 3], u64), Fail> {
+fn read_after_flush(alloc: Global) -> Result<([u8; 3], u64), Fault> {
     let mut cache = cached(alloc, 0, 0)?;
-    let bytes = filled_and_read(&mut cache)?;
-    Ok((bytes, cache.into_inner().into_inner().calls()))
+    let bytes = filled_and_read(&mut cache);
+    let calls = calls_under(cache);
+    Ok((bytes?, calls))
 }
 
 #[test]
-fn flushed_blocks_are_read_in_memory(rt: HostRuntime) -> Result<(), Fail> {
-    assert_eq!(rt; read_after_flush(rt.alloc())?, ([1, 2, 3], 2));
-    Ok(())
+fn flushed_blocks_are_read_in_memory(rt: HostRuntime) {
+    assert!(rt; read_after_flush(rt.alloc()) == Ok(([1, 2, 3], 2)));
 }
 
 // The first byte of a block, where a shared read gives it.
@@ -237,11 +289,16 @@ fn shared_reads<D: SharedDisk>(disk: &mut D) -> Result<[Option<u8>; 4], Fault> {
     Ok([dirty, data, before, shared_block(disk, 4)])
 }
 
+// The same of a cache.
+fn shared_reads_of_cache(alloc: Global) -> Result<[Option<u8>; 4], Fault> {
+    let mut cache = cached(alloc, 0, 0)?;
+    shared_reads(&mut cache)
+}
+
 #[test]
-fn shared_reads_give_what_is_in_memory(rt: HostRuntime) -> Result<(), Fail> {
-    let told = shared_reads(&mut cached(rt.alloc(), 0, 0)?);
-    assert_eq!(rt; told, Ok([Some(3), Some(0), None, Some(0)]));
-    Ok(())
+fn shared_reads_give_what_is_in_memory(rt: HostRuntime) {
+    let told = shared_reads_of_cache(rt.alloc());
+    assert!(rt; told == Ok([Some(3), Some(0), None, Some(0)]));
 }
 
 // The first bytes of the last sector of block 2 and of the first one of block 3, where a shared read gives them.
@@ -256,10 +313,19 @@ fn shared_sectors<D: SharedDisk>(disk: &D) -> Option<(u8, u8)> {
     Some((bytes[0], bytes[512]))
 }
 
+// The same behind a write of block 3.
+fn filled_and_shared<D: SharedDisk>(disk: &mut D) -> Result<Option<(u8, u8)>, Fault> {
+    fill_block(disk, 3)?;
+    Ok(shared_sectors(disk))
+}
+
+// The same of a cache.
+fn shared_of_cache(alloc: Global) -> Result<Option<(u8, u8)>, Fault> {
+    let mut cache = cached(alloc, 0, 0)?;
+    filled_and_shared(&mut cache)
+}
+
 #[test]
-fn shared_reads_give_dirty_sectors(rt: HostRuntime) -> Result<(), Fail> {
-    let mut cache = cached(rt.alloc(), 0, 0)?;
-    fill_block(&mut cache, 3)?;
-    assert_eq!(rt; shared_sectors(&cache), Some((0, 3)));
-    Ok(())
+fn shared_reads_give_dirty_sectors(rt: HostRuntime) {
+    assert!(rt; shared_of_cache(rt.alloc()) == Ok(Some((0, 3))));
 }

@@ -1,7 +1,6 @@
 ghost use Rattle.std.specs.Prelude.{◌≡◌, ◌<◌};
 
 use std::alloc::Global;
-use std::test::Fail;
 use tp_counts::{Counts, StoreError};
 use tp_disk::{Disk, Fault, MemDisk};
 use tp_layout::{Damaged, Part, SlotId};
@@ -319,15 +318,19 @@ fn blank(alloc: Global) -> Result<MemDisk, Refusal> {
     }
 }
 
+/// The same on such a disk.
+fn answers_on_blank(alloc: Global) -> Result<(Answers, Answers), Refusal> {
+    let mut disk = blank(alloc)?;
+    answers_of_both(alloc, &mut disk)
+}
+
 #[test]
-fn a_fault_is_told(rt: HostRuntime) -> Result<(), Fail> {
-    let told = answers_of_both(rt.alloc(), &mut blank(rt.alloc())?);
+fn a_fault_is_told(rt: HostRuntime) {
     // The counts of metadata are two blocks, those of data are one.
     let fault = Err(Refusal::Fault);
     let of_metadata = [[fault; 2], [fault; 2], [Ok(()); 2]];
     let of_data = [[fault; 2], [Ok(()); 2], [Ok(()); 2]];
-    assert!(rt; told == Ok((of_metadata, of_data)));
-    Ok(())
+    assert!(rt; answers_on_blank(rt.alloc()) == Ok((of_metadata, of_data)));
 }
 
 /// Stores counts into area A of a disk, on which the call of this number fails while others are stored into area B. The
@@ -390,14 +393,18 @@ fn counts_behind(
     Ok((newest, counts_left(alloc, disk, &[0; 8_768])?))
 }
 
+/// The same on a disk of zeros.
+fn counts_on_blank(alloc: Global, failing: u64) -> Result<(OfTwo, OfTwo), Refusal> {
+    let mut disk = blank(alloc)?;
+    counts_behind(alloc, &mut disk, failing)
+}
+
 #[test]
-fn a_stop_leaves_the_other_area(rt: HostRuntime) -> Result<(), Fail> {
+fn a_stop_leaves_the_other_area(rt: HostRuntime) {
     let old = (Some((1, 1)), Some((0, 0)));
     for failing in [4, 5, 6] {
-        let left = counts_behind(rt.alloc(), &mut blank(rt.alloc())?, failing);
-        assert!(rt; left == Ok((old, old)));
+        assert!(rt; counts_on_blank(rt.alloc(), failing) == Ok((old, old)));
     }
-    Ok(())
 }
 
 /// What a read of the data's counts answers in area B and in area A, where a byte of the first is not 0 that stands behind
@@ -412,11 +419,17 @@ fn reads_of_data(alloc: Global, disk: &mut MemDisk) -> Result<[Result<(), Refusa
     ])
 }
 
+/// The same on a disk of zeros.
+fn reads_on_blank(alloc: Global) -> Result<[Result<(), Refusal>; 2], Fault> {
+    match blank(alloc) {
+        Ok(mut disk) => reads_of_data(alloc, &mut disk),
+        Err(_) => Err(Fault),
+    }
+}
+
 #[test]
-fn other_bytes_are_damaged(rt: HostRuntime) -> Result<(), Fail> {
-    let read = reads_of_data(rt.alloc(), &mut blank(rt.alloc())?);
-    assert!(rt; read == Ok([Err(Refusal::Damaged), Ok(())]));
-    Ok(())
+fn other_bytes_are_damaged(rt: HostRuntime) {
+    assert!(rt; reads_on_blank(rt.alloc()) == Ok([Err(Refusal::Damaged), Ok(())]));
 }
 
 /// The least block that is zero in both.
@@ -510,11 +523,15 @@ fn data_counts(alloc: Global, blocks: u64) -> Result<Counts, Refusal> {
     }
 }
 
+/// The same of new counts.
+fn first_other_of_new(alloc: Global) -> Result<Option<u32>, Refusal> {
+    let mut counts = data_counts(alloc, 40)?;
+    Ok(first_other_change(&mut counts))
+}
+
 #[test]
-fn counts_follow_plain_lists(rt: HostRuntime) -> Result<(), Fail> {
-    let other = first_other_change(&mut data_counts(rt.alloc(), 40)?);
-    assert!(rt; other == None);
-    Ok(())
+fn counts_follow_plain_lists(rt: HostRuntime) {
+    assert!(rt; first_other_of_new(rt.alloc()) == Ok(None));
 }
 
 /// What `find_free` says of counts of 3000 blocks that are full: then with a block of the last run free, with one of the
@@ -537,11 +554,16 @@ fn over_runs(counts: &mut Counts) -> [Option<u64>; 6] {
     [full, far, near, again, lost, counts.find_free()]
 }
 
+/// The same of new counts.
+fn over_new_runs(alloc: Global) -> Result<[Option<u64>; 6], Refusal> {
+    let mut counts = data_counts(alloc, 3000)?;
+    Ok(over_runs(&mut counts))
+}
+
 #[test]
-fn full_runs_are_passed_over(rt: HostRuntime) -> Result<(), Fail> {
-    let found = over_runs(&mut data_counts(rt.alloc(), 3000)?);
-    assert!(rt; found == [None, Some(2050), Some(3), Some(2050), Some(2050), Some(3)]);
-    Ok(())
+fn full_runs_are_passed_over(rt: HostRuntime) {
+    let wanted = [None, Some(2050), Some(3), Some(2050), Some(2050), Some(3)];
+    assert!(rt; over_new_runs(rt.alloc()) == Ok(wanted));
 }
 
 /// As many data blocks as a pool has at most: 1024 runs.
@@ -579,22 +601,24 @@ fn are_found_again(counts: &mut Counts, blocks: &[u64], turns: u32) -> bool {
     true
 }
 
+/// The same of counts that are all named.
+fn are_found_in_full(alloc: Global, blocks: &[u64], turns: u32) -> Result<bool, Refusal> {
+    let mut counts = all_named(alloc)?;
+    Ok(are_found_again(&mut counts, blocks, turns))
+}
+
 /// A look begins where the last one ended. It takes a second; where each began at the first block it would be minutes.
 #[test]
-fn a_look_begins_where_the_last_one_ended(rt: HostRuntime) -> Result<(), Fail> {
-    let mut counts = all_named(rt.alloc())?;
-    let found = are_found_again(&mut counts, &[MOST - 1], 60_000_000);
-    assert!(rt; found);
-    Ok(())
+fn a_look_begins_where_the_last_one_ended(rt: HostRuntime) {
+    let found = are_found_in_full(rt.alloc(), &[MOST - 1], 60_000_000);
+    assert!(rt; found == Ok(true));
 }
 
 /// Of a run in which no block is free a look is at one block. It takes a second; where it was at sixteen after sixteen of them it would be minutes.
 #[test]
-fn a_full_run_is_one_step(rt: HostRuntime) -> Result<(), Fail> {
-    let mut counts = all_named(rt.alloc())?;
-    let found = are_found_again(&mut counts, &[0, MOST - 1], 400_000);
-    assert!(rt; found);
-    Ok(())
+fn a_full_run_is_one_step(rt: HostRuntime) {
+    let found = are_found_in_full(rt.alloc(), &[0, MOST - 1], 400_000);
+    assert!(rt; found == Ok(true));
 }
 
 /// What `find_free` says of so many blocks that are all named but this one.

@@ -78,11 +78,23 @@ fn told_and_calls(disk: &mut MemDisk) -> Result<(u64, Told, u64), Fault> {
     Ok((before, told, disk.calls()))
 }
 
+// What is told of a disk of 8 zero sectors by a function that has it by `&mut`.
+fn told_of_new<T, F: FnOnce(Global, &mut MemDisk) -> Result<T, Fault> + Drop>(
+    alloc: Global,
+    tell: F,
+) -> Result<T, Fault>
+    requires { F.IsAlwaysCallable tell }
+{
+    match MemDisk::new(alloc, 8) {
+        Ok(mut disk) => tell(alloc, &mut disk),
+        Err(_) => Err(Fault),
+    }
+}
+
 #[test]
-fn a_disk_in_memory_is_a_disk(rt: HostRuntime) -> Result<(), Fail> {
-    let told = told_and_calls(&mut MemDisk::new(rt.alloc(), 8)?);
+fn a_disk_in_memory_is_a_disk(rt: HostRuntime) {
+    let told = told_of_new(rt.alloc(), |_, disk| told_and_calls(disk));
     assert!(rt; told == Ok((0, A_DISK, 13)));
-    Ok(())
 }
 
 // How many sectors a disk has and how many calls it had, and then the fillings of sectors 3, 4 and 5.
@@ -142,10 +154,8 @@ fn first_not_picked(alloc: Global, disk: &mut MemDisk) -> Result<Option<usize>, 
 }
 
 #[test]
-fn a_stop_leaves_what_is_picked(rt: HostRuntime) -> Result<(), Fail> {
-    let other = first_not_picked(rt.alloc(), &mut MemDisk::new(rt.alloc(), 8)?);
-    assert!(rt; other == Ok(None));
-    Ok(())
+fn a_stop_leaves_what_is_picked(rt: HostRuntime) {
+    assert!(rt; told_of_new(rt.alloc(), first_not_picked) == Ok(None));
 }
 
 // What sector 3 of what a stop leaves is filled with, or this where there is no memory for it.
@@ -176,10 +186,8 @@ fn left_of_two(alloc: Global, disk: &mut MemDisk) -> Result<[u8; 3], Fault> {
 }
 
 #[test]
-fn a_flush_keeps_what_was_written(rt: HostRuntime) -> Result<(), Fail> {
-    let left = left_of_two(rt.alloc(), &mut MemDisk::new(rt.alloc(), 8)?);
-    assert!(rt; left == Ok([2, 5, 0]));
-    Ok(())
+fn a_flush_keeps_what_was_written(rt: HostRuntime) {
+    assert!(rt; told_of_new(rt.alloc(), left_of_two) == Ok([2, 5, 0]));
 }
 
 // Fills sector 3 with 6: what a stop leaves in it then, and what it is filled with.
@@ -205,10 +213,8 @@ fn beside_the_left(alloc: Global, disk: &mut MemDisk) -> Result<[u8; 3], Fault> 
 }
 
 #[test]
-fn what_a_stop_left_is_a_disk_of_its_own(rt: HostRuntime) -> Result<(), Fail> {
-    let told = beside_the_left(rt.alloc(), &mut MemDisk::new(rt.alloc(), 8)?);
-    assert!(rt; told == Ok([2, 6, 2]));
-    Ok(())
+fn what_a_stop_left_is_a_disk_of_its_own(rt: HostRuntime) {
+    assert!(rt; told_of_new(rt.alloc(), beside_the_left) == Ok([2, 6, 2]));
 }
 
 // How many calls a disk had, what two writes, a flush and a read of sector 3 answered of which the last three were to fail, and how many
@@ -226,11 +232,10 @@ fn failed_three(disk: &mut MemDisk) -> Result<Failed, Fault> {
 }
 
 #[test]
-fn the_calls_that_were_asked_for_fail(rt: HostRuntime) -> Result<(), Fail> {
-    let told = failed_three(&mut MemDisk::new(rt.alloc(), 8)?);
+fn the_calls_that_were_asked_for_fail(rt: HostRuntime) {
+    let told = told_of_new(rt.alloc(), |_, disk| failed_three(disk));
     let answers = [Ok(()), Err(Fault), Err(Fault)];
     assert!(rt; told == Ok((2, answers, Err(Fault), 6)));
-    Ok(())
 }
 
 // What sector 3 is filled with behind three stops, each of which picks another write of it.
@@ -250,10 +255,8 @@ fn picked_and_filled(alloc: Global, disk: &mut MemDisk) -> Result<([u8; 3], u8),
 
 // The failed write is the newest value, and the failed flush kept nothing.
 #[test]
-fn a_failed_call_keeps_nothing(rt: HostRuntime) -> Result<(), Fail> {
-    let told = picked_and_filled(rt.alloc(), &mut MemDisk::new(rt.alloc(), 8)?);
-    assert!(rt; told == Ok(([1, 2, 7], 7)));
-    Ok(())
+fn a_failed_call_keeps_nothing(rt: HostRuntime) {
+    assert!(rt; told_of_new(rt.alloc(), picked_and_filled) == Ok(([1, 2, 7], 7)));
 }
 
 // What sector 3 of such a disk is filled with, and what a flush and a read answer behind two new ranges.
@@ -268,10 +271,9 @@ fn behind_new_ranges(disk: &mut MemDisk) -> Result<[u8; 2], Fault> {
 
 // A new range is in place of the one before, also where it names calls of the past.
 #[test]
-fn a_new_range_of_failures_replaces_the_old(rt: HostRuntime) -> Result<(), Fail> {
-    let told = behind_new_ranges(&mut MemDisk::new(rt.alloc(), 8)?);
+fn a_new_range_of_failures_replaces_the_old(rt: HostRuntime) {
+    let told = told_of_new(rt.alloc(), |_, disk| behind_new_ranges(disk));
     assert!(rt; told == Ok([7, 7]));
-    Ok(())
 }
 
 // Fills sector 3 with 1 to 4: what it held behind each of these calls, and what it had to hold by those that were accepted.
@@ -329,10 +331,14 @@ fn shown_of_opened(opened: Result<FileDisk, OpenError>) -> Result<(u64, [u8; 8])
     }
 }
 
-// Removes a file.
-fn remove<R: Files<File = File>>(rt: &R, name: &str) -> Result<(), Fault> {
+// Removes a file, behind which this was told.
+fn removed<R: Files<File = File>, T: Drop>(
+    rt: &R,
+    name: &str,
+    told: Result<T, Fault>,
+) -> Result<T, Fault> {
     match remove_file(rt, name) {
-        Ok(()) => Ok(()),
+        Ok(()) => told,
         Err(_) => Err(Fault),
     }
 }
@@ -340,9 +346,8 @@ fn remove<R: Files<File = File>>(rt: &R, name: &str) -> Result<(), Fault> {
 // What is told of a file that is made, and how many sectors it has and what they are filled with when it is opened again.
 fn made_and_opened<R: Files<File = File>>(rt: &R) -> Result<(Told, (u64, [u8; 8])), Fault> {
     let told = told_of_opened(FileDisk::create(rt, "kept.img", 8))?;
-    let kept = shown_of_opened(FileDisk::open(rt, "kept.img"))?;
-    remove(rt, "kept.img")?;
-    Ok((told, kept))
+    let kept = shown_of_opened(FileDisk::open(rt, "kept.img"));
+    Ok((told, removed(rt, "kept.img", kept)?))
 }
 
 #[test]
@@ -399,9 +404,8 @@ fn long_file<R: Files<File = File>>(
     rt: &R,
     alloc: Global,
 ) -> Result<(Option<usize>, [u8; 2]), Fault> {
-    let told = long_write(alloc, FileDisk::create(rt, "long.img", 302))?;
-    remove(rt, "long.img")?;
-    Ok(told)
+    let told = long_write(alloc, FileDisk::create(rt, "long.img", 302));
+    removed(rt, "long.img", told)
 }
 
 // A long write takes several calls of the system: here two of 64 KiB and a shorter one.
@@ -443,8 +447,7 @@ fn shared_of_file<R: Files<File = File>>(rt: &R) -> Result<Option<u8>, Fault> {
         Ok(mut disk) => filled_and_shared(&mut disk),
         Err(_) => Err(Fault),
     };
-    remove(rt, "looked.img")?;
-    shared
+    removed(rt, "looked.img", shared)
 }
 
 // The same of a disk in memory, and what is told by a reader of it.
@@ -481,9 +484,8 @@ fn sectors_of(opened: Result<FileDisk, OpenError>) -> Result<u64, Fault> {
 // How many sectors a file has of three and a part of one.
 fn part_of_a_sector<R: Files<File = File>>(rt: &R) -> Result<u64, Fault> {
     make_file(rt, "part.img", 3 * 512 + 100)?;
-    let sectors = sectors_of(FileDisk::open(rt, "part.img"))?;
-    remove(rt, "part.img")?;
-    Ok(sectors)
+    let sectors = sectors_of(FileDisk::open(rt, "part.img"));
+    removed(rt, "part.img", sectors)
 }
 
 #[test]
@@ -524,9 +526,8 @@ fn made_again<R: Files<File = File>>(rt: &R) -> Result<((u64, [u8; 2]), u64), Fa
     make_file(rt, "again.img", 3 * 512 + 100)?;
     fill_opened(FileDisk::open(rt, "again.img"))?;
     let told = two_of_opened(FileDisk::create(rt, "again.img", 5))?;
-    let length = length_of(rt, "again.img")?;
-    remove(rt, "again.img")?;
-    Ok((told, length))
+    let length = length_of(rt, "again.img");
+    Ok((told, removed(rt, "again.img", length)?))
 }
 
 // Creating sets the length of a file that is there, and what it held stays.
@@ -542,8 +543,7 @@ fn beside_another<R: Files<File = File>>(rt: &R) -> Result<[Result<u64, Fault>; 
     let resized = sectors_of(FileDisk::create(rt, "one.img", 3));
     let length = length_of(rt, "one.img");
     let sectors = sectors_of(first);
-    remove(rt, "one.img")?;
-    Ok([refused, resized, length, sectors])
+    removed(rt, "one.img", Ok([refused, resized, length, sectors]))
 }
 
 // A file is one disk's alone: another one neither opens it nor sets its length.
@@ -556,9 +556,8 @@ fn a_file_is_one_disk_at_a_time(rt: HostRuntime) {
 // How many sectors a file has that is made, and then opened.
 fn made_then_opened<R: Files<File = File>>(rt: &R) -> Result<[u64; 2], Fault> {
     let made = sectors_of(FileDisk::create(rt, "free.img", 8))?;
-    let opened = sectors_of(FileDisk::open(rt, "free.img"))?;
-    remove(rt, "free.img")?;
-    Ok([made, opened])
+    let opened = sectors_of(FileDisk::open(rt, "free.img"));
+    Ok([made, removed(rt, "free.img", opened)?])
 }
 
 #[test]
@@ -578,9 +577,8 @@ fn mode_of<R: Files<File = File>>(rt: &R, name: &str) -> Result<u32, Fault> {
 fn folder_and_made<R: Files<File = File>>(rt: &R) -> Result<(Result<u64, Fault>, u64, u32), Fault> {
     let refused = sectors_of(FileDisk::open(rt, "."));
     let sectors = sectors_of(FileDisk::create(rt, "owned.img", 8))?;
-    let mode = mode_of(rt, "owned.img")?;
-    remove(rt, "owned.img")?;
-    Ok((refused, sectors, mode))
+    let mode = mode_of(rt, "owned.img");
+    Ok((refused, sectors, removed(rt, "owned.img", mode)?))
 }
 
 // A directory is no disk, and a file that is made is its owner's.
@@ -605,8 +603,7 @@ fn shortened<R: Files<File = File>>(rt: &R) -> Result<[Result<u8, Fault>; 2], Fa
         Ok(mut disk) => shorten(rt, &mut disk),
         Err(_) => Err(Fault),
     };
-    remove(rt, "short.img")?;
-    told
+    removed(rt, "short.img", told)
 }
 
 // What is told of files that are absent, or would be too large.
@@ -649,7 +646,11 @@ fn are_told<R: Files<File = File>>(rt: &R, alloc: Global) -> [bool; 4] {
             FileDisk::create(rt, ".", 8),
             "cannot be opened: Is a directory (os error 21)",
         ),
-        is_told(alloc, FileDisk::open_to_read(rt, "."), "is no regular file"),
+        is_told(
+            alloc,
+            FileDisk::open_to_read(rt, "."),
+            "is no regular file and no block device",
+        ),
         is_told(
             alloc,
             FileDisk::create(rt, "large.img", (1 << 54) + 1),
@@ -690,7 +691,7 @@ fn in_use_and_made<R: Files<File = File>>(
     alloc: Global,
 ) -> Result<(bool, Result<u64, Fault>, bool), Fault> {
     let in_use = is_told_in_use(rt, alloc, "told.img");
-    remove(rt, "told.img")?;
+    let in_use = removed(rt, "told.img", Ok(in_use))?;
     match made_by_link(rt) {
         Ok((sectors, is_there)) => Ok((in_use, sectors, is_there)),
         Err(_) => Err(Fault),
@@ -740,8 +741,7 @@ fn is_trouble_of_file_told<R: Files<File = File>>(
         Ok(mut disk) => is_shortening_told(rt, alloc, &mut disk),
         Err(_) => Err(Fault),
     };
-    remove(rt, "trouble.img")?;
-    told
+    removed(rt, "trouble.img", told)
 }
 
 #[test]
@@ -766,9 +766,8 @@ fn told_of_read(opened: Result<FileDisk, OpenError>) -> Result<Unwritten, Fault>
 // The same of a file that is filled, and then opened to read.
 fn filled_and_read<R: Files<File = File>>(rt: &R) -> Result<Unwritten, Fault> {
     fill_opened(FileDisk::create(rt, "read.img", 4))?;
-    let told = told_of_read(FileDisk::open_to_read(rt, "read.img"))?;
-    remove(rt, "read.img")?;
-    Ok(told)
+    let told = told_of_read(FileDisk::open_to_read(rt, "read.img"));
+    removed(rt, "read.img", told)
 }
 
 // A disk that was opened to read gives what the file holds, and is never written.
@@ -790,9 +789,7 @@ fn made_and_read_by_two<R: Files<File = File>>(
     rt: &R,
 ) -> Result<(u64, [Result<u64, Fault>; 3]), Fault> {
     let sectors = sectors_of(FileDisk::create(rt, "shared.img", 4))?;
-    let told = read_by_two(rt);
-    remove(rt, "shared.img")?;
-    Ok((sectors, told))
+    removed(rt, "shared.img", Ok((sectors, read_by_two(rt))))
 }
 
 #[test]
@@ -807,8 +804,7 @@ fn read_beside_a_writer<R: Files<File = File>>(rt: &R) -> Result<[Result<u64, Fa
     let absent = sectors_of(FileDisk::open_to_read(rt, "unwritten.img"));
     let folder = sectors_of(FileDisk::open_to_read(rt, "."));
     let sectors = sectors_of(disk);
-    remove(rt, "written.img")?;
-    Ok([written, absent, folder, sectors])
+    removed(rt, "written.img", Ok([written, absent, folder, sectors]))
 }
 
 #[test]

@@ -35,6 +35,13 @@ fn fresh_but(changes: &[Change]) -> [u8; 512] {
     sector
 }
 
+/// Puts a field in its place behind the head, where a block has one.
+fn put_field(block: &mut [u8; 4096], i: usize, field: u64) {
+    if i < 504 {
+        block[64 + 8 * i..72 + 8 * i].copy_from_slice(&field.to_le_bytes());
+    }
+}
+
 /// A block whose head says this kind, level, own number and count, with these fields of 8 bytes from offset 64 on.
 fn block_of(head: (u8, u8, u8, u8), fields: &[u64]) -> [u8; 4096] {
     let mut block = [0; 4096];
@@ -42,28 +49,42 @@ fn block_of(head: (u8, u8, u8, u8), fields: &[u64]) -> [u8; 4096] {
         &mut block,
         &[(0, head.0), (4, head.1), (8, head.2), (16, head.3)],
     );
-    for (place, field) in block[64..].chunks_exact_mut(8).zip(fields.iter()) {
-        place.copy_from_slice(&field.to_le_bytes());
+    for i in 0..fields.len() {
+        put_field(&mut block, i, fields[i]);
     }
     block
 }
 
-#[test]
-fn fresh_superblock(rt: HostRuntime) -> Result<(), Fail> {
-    let superblock = Superblock {
+/// Whether a superblock is written as this sector and belongs into this slot, and whether it is read there as it is, and in the
+/// other slot as a bad one.
+fn is_stored(superblock: &Superblock, wanted: &[u8; 512], slot: SlotId) -> [bool; 4] {
+    let mut sector = [7u8; 512];
+    write_super(superblock, &mut sector);
+    [
+        sector == *wanted,
+        superblock.slot() == slot,
+        read_super(&sector, slot) == Slot::Good(*superblock),
+        read_super(&sector, slot.other()) == Slot::Bad,
+    ]
+}
+
+/// The superblock of that fresh pool, with this held root.
+fn fresh(held_root: Mb) -> Result<Superblock, Refusal> {
+    Ok(Superblock {
         version: Version::OwnSizes,
         needs_check: false,
         sequence: 0,
         transaction_id: 0,
         geometry: Geometry::new(128, 16, 2048, 4)?,
         root: Mb::new(8),
-        held_root: Mb::new(0),
-    };
-    let mut sector = [7u8; 512];
-    write_super(&superblock, &mut sector);
-    let slots = (read_super(&sector, SlotId::Zero), superblock.slot());
-    assert!(rt; sector == fresh_but(&[]));
-    assert_eq!(rt; slots, (Slot::Good(superblock), SlotId::Zero));
+        held_root,
+    })
+}
+
+#[test]
+fn fresh_superblock(rt: HostRuntime) -> Result<(), Fail> {
+    let stored = is_stored(&fresh(Mb::new(0))?, &fresh_but(&[]), SlotId::Zero);
+    assert!(rt; stored == [true; 4]);
     Ok(())
 }
 
@@ -74,9 +95,9 @@ fn slots_have_their_number_and_sector(rt: HostRuntime) {
     assert_eq!(rt; (zero.other(), one.number(), sectors), (one, 1, (0, 8)));
 }
 
-#[test]
-fn superblock_of_a_later_commit(rt: HostRuntime) -> Result<(), Fail> {
-    let superblock = Superblock {
+/// A superblock of the first version that needs a check, with the greatest sequence, sizes and root.
+fn later() -> Result<Superblock, Refusal> {
+    Ok(Superblock {
         version: Version::OneSize,
         needs_check: true,
         sequence: u64::MAX,
@@ -84,37 +105,28 @@ fn superblock_of_a_later_commit(rt: HostRuntime) -> Result<(), Fail> {
         geometry: Geometry::new(2048, 16_777_216, 65_536, 1_048_576)?,
         root: Mb::new(65_535),
         held_root: Mb::new(0),
-    };
-    let mut sector = [7u8; 512];
-    write_super(&superblock, &mut sector);
-    let slots = (
-        read_super(&sector, SlotId::One),
-        read_super(&sector, SlotId::Zero),
-    );
-    assert!(rt; &sector[12..56] == LATER.as_slice());
-    assert_eq!(rt;
-        (slots, superblock.slot()),
-        ((Slot::Good(superblock), Slot::Bad), SlotId::One)
-    );
+    })
+}
+
+/// Its sector.
+fn later_sector() -> [u8; 512] {
+    let mut sector = fresh_but(&[(8, 1)]);
+    sector[12..56].copy_from_slice(&LATER);
+    sector
+}
+
+#[test]
+fn superblock_of_a_later_commit(rt: HostRuntime) -> Result<(), Fail> {
+    let stored = is_stored(&later()?, &later_sector(), SlotId::One);
+    assert!(rt; stored == [true; 4]);
     Ok(())
 }
 
 #[test]
 fn superblock_with_a_held_root(rt: HostRuntime) -> Result<(), Fail> {
-    let superblock = Superblock {
-        version: Version::OwnSizes,
-        needs_check: false,
-        sequence: 0,
-        transaction_id: 0,
-        geometry: Geometry::new(128, 16, 2048, 4)?,
-        root: Mb::new(8),
-        held_root: Mb::new(2047),
-    };
-    let mut sector = [7u8; 512];
-    write_super(&superblock, &mut sector);
-    let slot = read_super(&sector, SlotId::Zero);
-    assert!(rt; sector == fresh_but(&[(56, 0xff), (57, 7)]));
-    assert_eq!(rt; slot, Slot::Good(superblock));
+    let sector = fresh_but(&[(56, 0xff), (57, 7)]);
+    let stored = is_stored(&fresh(Mb::new(2047))?, &sector, SlotId::Zero);
+    assert!(rt; stored == [true; 4]);
     Ok(())
 }
 
@@ -158,10 +170,10 @@ const KINDS: [(Change, Change, SlotId, &str); 13] = [
 
 /// The changes of the first slot that is of another kind.
 fn of_another_kind() -> Option<(Change, Change)> {
-    for (first, second, slot, kind) in KINDS {
-        let read = read_super(&fresh_but(&[first, second]), slot);
-        if kind_of(&read) != kind {
-            return Some((first, second));
+    for (first, second, slot, kind) in &KINDS {
+        let read = read_super(&fresh_but(&[*first, *second]), *slot);
+        if kind_of(&read) != *kind {
+            return Some((*first, *second));
         }
     }
     None
@@ -199,9 +211,9 @@ const BAD: [(&str, Change); 20] = [
 
 /// The first rule that a slot may break and is not bad.
 fn rule_without_effect() -> Option<&'static str> {
-    for (rule, change) in BAD {
-        if read_super(&fresh_but(&[change]), SlotId::Zero) != Slot::Bad {
-            return Some(rule);
+    for (rule, change) in &BAD {
+        if read_super(&fresh_but(&[*change]), SlotId::Zero) != Slot::Bad {
+            return Some(*rule);
         }
     }
     None
@@ -263,15 +275,18 @@ fn shown(view: &NodeView<'_>, key: u64) -> Shown {
     )
 }
 
+/// What is shown of a leaf of the device tree at block 8, and whether its node is written as the same block.
+fn shown_of_leaf(bytes: &[u8; 4096]) -> Result<(Shown, bool), Damaged> {
+    let view = NodeView::read(bytes, Mb::new(8), TreeKind::Device)?;
+    Ok((shown(&view, 5), written_again(&view) == *bytes))
+}
+
 #[test]
-fn empty_device_leaf(rt: HostRuntime) -> Result<(), Fail> {
+fn empty_device_leaf(rt: HostRuntime) {
     let mut bytes = [0; 4096];
     bytes[..20].copy_from_slice(&LEAF);
-    let view = NodeView::read(&bytes, Mb::new(8), TreeKind::Device)?;
-    let told = (shown(&view, 5), written_again(&view) == bytes);
     let wanted = ((TreeKind::Device, 0, Mb::new(8)), (true, 0, None));
-    assert_eq!(rt; told, (wanted, true));
-    Ok(())
+    assert!(rt; shown_of_leaf(&bytes) == Ok((wanted, true)));
 }
 
 /// The entry at a place and its key.
@@ -346,7 +361,7 @@ fn four_kinds_of_node(rt: HostRuntime) {
         read_of(&device, TreeKind::Device, &entries),
         read_of(&long, TreeKind::Device, &records),
     ];
-    assert_eq!(rt; read, [good(3), good(3), good(3), good(2)]);
+    assert!(rt; read == [good(3), good(3), good(3), good(2)]);
 }
 
 #[test]
@@ -358,26 +373,35 @@ fn fields_are_of_eight_bytes(rt: HostRuntime) {
     );
 }
 
-#[test]
-fn searches(rt: HostRuntime) -> Result<(), Fail> {
-    let block = block_of((2, 1, 9, 4), &[10, 0, 20, 0, 30, 0, 40, 0]);
-    let view = NodeView::read(&block, Mb::new(9), TreeKind::Mapping)?;
-    let wanted = [
-        (0, 0),
-        (9, 0),
-        (10, 1),
-        (11, 1),
-        (19, 1),
-        (20, 2),
-        (39, 3),
-        (40, 4),
-        (41, 4),
-        (u64::MAX, 4),
-    ];
-    for (key, rank) in wanted {
-        assert_eq!(rt; view.rank(key), rank, "{key}");
+/// Keys, and their ranks in a node with the keys 10, 20, 30 and 40.
+const RANKS: [(u64, usize); 10] = [
+    (0, 0),
+    (9, 0),
+    (10, 1),
+    (11, 1),
+    (19, 1),
+    (20, 2),
+    (39, 3),
+    (40, 4),
+    (41, 4),
+    (u64::MAX, 4),
+];
+
+/// The first of these keys that has another rank in a node.
+fn first_other_rank(block: &[u8; 4096]) -> Result<Option<u64>, Damaged> {
+    let view = NodeView::read(block, Mb::new(9), TreeKind::Mapping)?;
+    for (key, rank) in &RANKS {
+        if view.rank(*key) != *rank {
+            return Ok(Some(*key));
+        }
     }
-    Ok(())
+    Ok(None)
+}
+
+#[test]
+fn searches(rt: HostRuntime) {
+    let block = block_of((2, 1, 9, 4), &[10, 0, 20, 0, 30, 0, 40, 0]);
+    assert!(rt; first_other_rank(&block) == Ok(None));
 }
 
 /// What a read of a leaf of two records tells, and which damage is found in it, where these bytes of it are changed.
@@ -409,9 +433,9 @@ const DAMAGES: [(&str, Change, Refusal); 15] = [
 
 /// The first rule that a node may break and is not damaged, or damaged in another way.
 fn damage_without_effect() -> Option<&'static str> {
-    for (rule, change, refusal) in DAMAGES {
-        if damage_of(&[change]) != (Some(Damaged), Some(refusal)) {
-            return Some(rule);
+    for (rule, change, refusal) in &DAMAGES {
+        if damage_of(&[*change]) != (Some(Damaged), Some(*refusal)) {
+            return Some(*rule);
         }
     }
     None
@@ -432,17 +456,17 @@ fn size_at(view: &NodeView<'_>, i: usize) -> Option<u64> {
     }
 }
 
+/// The sizes that two entries of a block tell, and whether its node is written as the same block.
+fn sizes_of(block: &[u8; 4096]) -> Result<(Option<u64>, Option<u64>, bool), Damaged> {
+    let view = NodeView::read(block, Mb::new(9), TreeKind::Device)?;
+    let same = written_again(&view) == *block;
+    Ok((size_at(&view, 0), size_at(&view, 1), same))
+}
+
 #[test]
-fn sizes_of_records(rt: HostRuntime) -> Result<(), Fail> {
+fn sizes_of_records(rt: HostRuntime) {
     let block = block_of((1, 0, 9, 2), &[10, 11, 12, 13, 20, 21, 22, 1 << 63]);
-    let view = NodeView::read(&block, Mb::new(9), TreeKind::Device)?;
-    let told = (
-        size_at(&view, 0),
-        size_at(&view, 1),
-        written_again(&view) == block,
-    );
-    assert_eq!(rt; told, (Some(13), Some(1 << 63), true));
-    Ok(())
+    assert!(rt; sizes_of(&block) == Ok((Some(13), Some(1 << 63), true)));
 }
 
 /// A block of a node of this kind, level and number of entries, of which entry i has key 3 * i.
@@ -479,10 +503,7 @@ fn full_nodes(rt: HostRuntime) -> Result<(), Fail> {
         read_full(&records, TreeKind::Device, (375, 374)),
         read_full(&short, TreeKind::Mapping, (753, 752)),
     ];
-    assert_eq!(rt;
-        read,
-        [Ok((126, 126, 125, true)), Ok((252, 252, 251, true))]
-    );
+    assert!(rt; read == [Ok((126, 126, 125, true)), Ok((252, 252, 251, true))]);
     Ok(())
 }
 
@@ -494,6 +515,6 @@ fn a_node_is_neither_too_full_nor_too_high(rt: HostRuntime) -> Result<(), Fail> 
         NodeView::read(&over, Mb::new(9), TreeKind::Mapping).err(),
         NodeView::read(&high, Mb::new(9), TreeKind::Mapping).err(),
     ];
-    assert_eq!(rt; read, [Some(Damaged); 2]);
+    assert!(rt; read == [Some(Damaged); 2]);
     Ok(())
 }

@@ -1,3 +1,4 @@
+use std::alloc::{AllocError, Global};
 use std::test::Fail;
 use tp_model::{DevId, Geometry, Mb, NbdError, Pb, Refusal, Vb};
 
@@ -20,13 +21,13 @@ fn geometry_of_the_example_pool(rt: HostRuntime) -> Result<(), Fail> {
         geometry.volume_sectors() * 512,
         geometry.image_sectors() * 512,
     ];
-    assert_eq!(rt;
-        (counts, sectors, bytes),
-        (
-            [2, 1, 3, 8],
-            [16_384, 16_768, 16_896, 64],
-            [1_048_576, 8_650_752],
-        )
+    assert!(rt;
+        (counts, sectors, bytes)
+            == (
+                [2, 1, 3, 8],
+                [16_384, 16_768, 16_896, 64],
+                [1_048_576, 8_650_752],
+            )
     );
     Ok(())
 }
@@ -70,7 +71,7 @@ fn first_other(sizes: &[[u64; 4]], wanted: Option<Refusal>) -> Option<[u64; 4]> 
 fn geometries_at_their_limits(rt: HostRuntime) {
     let within = first_other(&WITHIN, None);
     let outside = first_other(&OUTSIDE, Some(Refusal::BadGeometry));
-    assert_eq!(rt; (within, outside), (None, None));
+    assert!(rt; (within, outside) == (None, None));
 }
 
 #[test]
@@ -86,7 +87,7 @@ fn ids_at_their_limit(rt: HostRuntime) {
         Ok(DevId::new(16_777_215)),
         Err(Refusal::BadDeviceId),
     ];
-    assert_eq!(rt; (ids, told), (wanted, (7, true)));
+    assert!(rt; (ids, told) == (wanted, (7, true)));
 }
 
 const REFUSALS: [(Refusal, &str, u32); 29] = [
@@ -121,20 +122,55 @@ const REFUSALS: [(Refusal, &str, u32); 29] = [
     (Refusal::BadRecordSize, "37 BadRecordSize", 5),
 ];
 
-#[test]
-fn refusals_tell_their_number_and_name(rt: HostRuntime) -> Result<(), Fail> {
-    for (refusal, text, _) in &REFUSALS {
-        let printed = format!(in rt.alloc(); "{refusal}")?;
-        let numbered = format!(in rt.alloc(); "{} {refusal:?}", refusal.number())?;
-        assert_eq!(rt; (printed.as_str(), numbered.as_str()), (*text, *text));
+/// Whether this text was made.
+fn is_made(made: Result<String, AllocError>, text: &str) -> bool {
+    match made {
+        Ok(made) => made.as_str() == text,
+        Err(_) => false,
     }
-    Ok(())
+}
+
+/// The number of the first refusal that is printed as another text.
+fn first_of_other_text(alloc: Global) -> Option<u8> {
+    for (refusal, text, _) in &REFUSALS {
+        if !is_made(format!(in alloc; "{refusal}"), text) {
+            return Some(refusal.number());
+        }
+    }
+    None
+}
+
+/// The number of the first refusal of which its number and name are another text.
+fn first_of_other_name(alloc: Global) -> Option<u8> {
+    for (refusal, text, _) in &REFUSALS {
+        if !is_made(format!(in alloc; "{} {refusal:?}", refusal.number()), text) {
+            return Some(refusal.number());
+        }
+    }
+    None
+}
+
+#[test]
+fn refusals_tell_their_number_and_name(rt: HostRuntime) {
+    let others = (
+        first_of_other_text(rt.alloc()),
+        first_of_other_name(rt.alloc()),
+    );
+    assert!(rt; others == (None, None));
+}
+
+/// The number of the first refusal that has another error on the wire.
+fn first_of_other_error() -> Option<u8> {
+    for (refusal, _, code) in &REFUSALS {
+        if refusal.nbd_error().code() != *code {
+            return Some(refusal.number());
+        }
+    }
+    None
 }
 
 #[test]
 fn refusals_have_an_error_on_the_wire(rt: HostRuntime) {
-    for (refusal, text, code) in &REFUSALS {
-        assert_eq!(rt; refusal.nbd_error().code(), *code, "{text}");
-    }
-    assert_eq!(rt; NbdError::Invalid.code(), 22);
+    let told = (first_of_other_error(), NbdError::Invalid.code());
+    assert!(rt; told == (None, 22));
 }

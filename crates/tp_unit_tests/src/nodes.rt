@@ -6,8 +6,6 @@ ghost use Rattle.tp_layout.specs.Entries.{found, with_entry};
 ghost use Rattle.tp_layout.specs.declared.entry.Entry.{Entry};
 
 use std::alloc::{AllocError, Global};
-use std::process::Abort;
-use std::test::Fail;
 use tp_layout::{Entry, Node, TreeKind};
 use tp_model::Mb;
 use tp_nodes::{
@@ -150,38 +148,53 @@ fn changed(
     Ok(is_same(node, plain, numbers.next() % keys))
 }
 
-/// Changes at keys below `keys`, of which a node may have room for some only.
-fn changes(
-    rt: &impl Abort,
-    alloc: Global,
-    kind: TreeKind,
-    level: u32,
-    keys: u64,
-) -> Result<(), Fail>
+/// Many changes at keys below `keys`: whether the node is the same as the list behind each two of them.
+fn changed_often(node: &mut Node, plain: &mut Vec<Entry>, keys: u64) -> Result<bool, AllocError>
+    requires good { IsNode (node_value node.old) }
+    requires some { 0 < keys }
+{
+    let mut numbers = Numbers { state: 7 };
+    let mut same = true;
+    for round in 0..1500 {
+        let still = changed(node, plain, &mut numbers, keys)?;
+        same = same && still;
+    }
+    Ok(same)
+}
+
+/// Changes at keys below `keys`, of which a node may have room for some only: whether it stays the same as a list.
+fn changes(alloc: Global, kind: TreeKind, level: u32, keys: u64) -> bool
     requires level { level ≤ most_level kind }
     requires some { 0 < keys }
 {
     let mut node = empty(kind, level, Mb::new(9));
     let mut plain = Vec::new(alloc);
-    let mut numbers = Numbers { state: 7 };
-    let mut same = true;
-    for round in 0..1500 {
-        let still = changed(&mut node, &mut plain, &mut numbers, keys)?;
-        same = same && still;
+    match changed_often(&mut node, &mut plain, keys) {
+        Ok(same) => same && plain.len() > 10,
+        Err(_) => false,
     }
-    assert_eq!(rt; (same, plain.len() > 10), (true, true));
-    Ok(())
+}
+
+/// The same of each kind of node.
+fn changes_of_each(alloc: Global, keys: u64) -> [bool; 4]
+    requires { 0 < keys }
+{
+    [
+        changes(alloc, TreeKind::Mapping, 0, keys),
+        changes(alloc, TreeKind::Mapping, 3, keys),
+        changes(alloc, TreeKind::Device, 2, keys),
+        changes(alloc, TreeKind::Device, 0, keys),
+    ]
 }
 
 #[test]
-fn changes_of_each_kind(rt: HostRuntime) -> Result<(), Fail> {
-    for keys in [40, 300, 3000] {
-        changes(&rt, rt.alloc(), TreeKind::Mapping, 0, keys)?;
-        changes(&rt, rt.alloc(), TreeKind::Mapping, 3, keys)?;
-        changes(&rt, rt.alloc(), TreeKind::Device, 2, keys)?;
-        changes(&rt, rt.alloc(), TreeKind::Device, 0, keys)?;
-    }
-    Ok(())
+fn changes_of_each_kind(rt: HostRuntime) {
+    let same = [
+        changes_of_each(rt.alloc(), 40),
+        changes_of_each(rt.alloc(), 300),
+        changes_of_each(rt.alloc(), 3000),
+    ];
+    assert!(rt; same == [[true; 4]; 3]);
 }
 
 /// Puts an entry in where its key is new and there is room.
@@ -264,14 +277,8 @@ fn refilled(
     Ok(Some((again.as_slice() == all.as_slice(), left.entries.len())))
 }
 
-/// Refills two nodes of these numbers of entries.
-fn refills(
-    rt: &impl Abort,
-    alloc: Global,
-    kind: TreeKind,
-    level: u32,
-    counts: (u64, u64),
-) -> Result<(), Fail>
+/// Refills two nodes of these numbers of entries: whether they have these, and then the same entries and half of them each.
+fn refills(alloc: Global, kind: TreeKind, level: u32, counts: (u64, u64)) -> bool
     requires level { level ≤ most_level kind }
     requires left { counts.0 ≤ 252 }
     requires right { counts.1 ≤ 252 }
@@ -279,10 +286,11 @@ fn refills(
     let mut left = filled(kind, level, 5, counts.0);
     let mut right = filled(kind, level, 1_000_000, counts.1);
     let lens = (left.entries.len() as u64, right.entries.len() as u64);
-    let told = refilled(alloc, &mut left, &mut right)?;
     let half = (counts.0 + counts.1) as usize / 2;
-    assert_eq!(rt; (lens, told), (counts, Some((true, half))));
-    Ok(())
+    match refilled(alloc, &mut left, &mut right) {
+        Ok(told) => (lens, told) == (counts, Some((true, half))),
+        Err(_) => false,
+    }
 }
 
 /// Joins two nodes: whether the first one has all entries then. `None` where the keys of the right one are not above its own, or
@@ -319,51 +327,83 @@ fn halved(node: &mut Node, all: &[Entry]) -> Option<((TreeKind, u32, Mb), bool)>
     Some(((upper.kind, upper.level, upper.own), have))
 }
 
-/// Joins two nodes of these numbers of entries. A full node is then split again.
-fn joins(
-    rt: &impl Abort,
-    alloc: Global,
-    kind: TreeKind,
-    level: u32,
-    counts: (u64, u64),
-) -> Result<(), Fail>
+/// Joins two nodes, and splits a full one again: whether the first one had all entries, and then each half had its own.
+fn joined_and_halved(node: &mut Node, right: &Node, all: &[Entry]) -> bool
+    requires left { IsNode (node_value node.old) }
+    requires right { IsNode (node_value right.now) }
+    requires kind { right.now.kind ≡ node.old.kind }
+    requires level { right.now.level ≡ node.old.level }
+{
+    let (kind, level) = (node.kind, node.level);
+    let joined = joined(node, right, all);
+    let told = halved(node, all);
+    let wanted = if all.len() == kind.most_entries(level) {
+        Some(((kind, level, Mb::new(77)), true))
+    } else {
+        None
+    };
+    (joined, told) == (Some(true), wanted)
+}
+
+/// The same of two nodes of these numbers of entries.
+fn joins(alloc: Global, kind: TreeKind, level: u32, counts: (u64, u64)) -> bool
     requires level { level ≤ most_level kind }
     requires left { counts.0 ≤ 252 }
     requires right { counts.1 ≤ 252 }
 {
     let mut node = filled(kind, level, 5, counts.0);
     let right = filled(kind, level, 1_000_000, counts.1);
-    let all = both(alloc, &node, &right)?;
-    let joined = joined(&mut node, &right, &all);
-    let told = halved(&mut node, &all);
-    let wanted = if all.len() == kind.most_entries(level) {
-        Some(((kind, level, Mb::new(77)), true))
-    } else {
-        None
-    };
-    assert_eq!(rt; (joined, told), (Some(true), wanted));
-    Ok(())
+    match both(alloc, &node, &right) {
+        Ok(all) => joined_and_halved(&mut node, &right, &all),
+        Err(_) => false,
+    }
 }
 
-fn halves_of(rt: &impl Abort, alloc: Global, kind: TreeKind, level: u32) -> Result<(), Fail>
+/// Whether nodes of a kind are refilled as they should be.
+fn are_refilled(alloc: Global, kind: TreeKind, level: u32) -> [bool; 4]
     requires { level ≤ most_level kind }
 {
     let most = kind.most_entries(level) as u64;
     let least = most / 2;
-    refills(rt, alloc, kind, level, (least - 1, least + 1))?;
-    refills(rt, alloc, kind, level, (least + 1, least - 1))?;
-    refills(rt, alloc, kind, level, (least - 1, most))?;
-    refills(rt, alloc, kind, level, (most, least - 1))?;
-    joins(rt, alloc, kind, level, (least - 1, least))?;
-    joins(rt, alloc, kind, level, (least, least))?;
-    joins(rt, alloc, kind, level, (most, 0))?;
-    joins(rt, alloc, kind, level, (0, most))
+    [
+        refills(alloc, kind, level, (least - 1, least + 1)),
+        refills(alloc, kind, level, (least + 1, least - 1)),
+        refills(alloc, kind, level, (least - 1, most)),
+        refills(alloc, kind, level, (most, least - 1)),
+    ]
+}
+
+/// Whether they are joined and split as they should be.
+fn are_joined(alloc: Global, kind: TreeKind, level: u32) -> [bool; 4]
+    requires { level ≤ most_level kind }
+{
+    let most = kind.most_entries(level) as u64;
+    let least = most / 2;
+    [
+        joins(alloc, kind, level, (least - 1, least)),
+        joins(alloc, kind, level, (least, least)),
+        joins(alloc, kind, level, (most, 0)),
+        joins(alloc, kind, level, (0, most)),
+    ]
+}
+
+/// Both of a kind and level.
+fn halves_of(alloc: Global, kind: TreeKind, level: u32) -> [[bool; 4]; 2]
+    requires { level ≤ most_level kind }
+{
+    [
+        are_refilled(alloc, kind, level),
+        are_joined(alloc, kind, level),
+    ]
 }
 
 #[test]
-fn halves_of_each_kind(rt: HostRuntime) -> Result<(), Fail> {
-    halves_of(&rt, rt.alloc(), TreeKind::Mapping, 0)?;
-    halves_of(&rt, rt.alloc(), TreeKind::Mapping, 1)?;
-    halves_of(&rt, rt.alloc(), TreeKind::Device, 1)?;
-    halves_of(&rt, rt.alloc(), TreeKind::Device, 0)
+fn halves_of_each_kind(rt: HostRuntime) {
+    let told = [
+        halves_of(rt.alloc(), TreeKind::Mapping, 0),
+        halves_of(rt.alloc(), TreeKind::Mapping, 1),
+        halves_of(rt.alloc(), TreeKind::Device, 1),
+        halves_of(rt.alloc(), TreeKind::Device, 0),
+    ];
+    assert!(rt; told == [[[true; 4]; 2]; 4]);
 }

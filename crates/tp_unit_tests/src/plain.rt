@@ -1,4 +1,4 @@
-use std::test::Fail;
+use std::alloc::{AllocError, Global};
 use tp_model::{Mode, NbdError, Refusal};
 use tp_plain::{
     Asked, Change, Facts, PoolStatus, Request, Slot, VolumeStatus, form_error, is_exclusive, need,
@@ -16,63 +16,92 @@ const FRESH: PoolStatus = PoolStatus {
     held_root: 0,
 };
 
-#[test]
-fn lines_of_pools(rt: HostRuntime) -> Result<(), Fail> {
-    let full = PoolStatus {
-        used_metadata: 10,
-        used_data: 4,
-        ..FRESH
-    };
-    let read_only = PoolStatus {
-        used_metadata: 10,
-        mode: Mode::ReadOnly,
-        needs_check: true,
-        ..FRESH
-    };
-    let failed = PoolStatus {
-        mode: Mode::Failed,
-        ..FRESH
-    };
-    let lines = [
-        (
-            FRESH,
-            "0 9/2048 0/4 - rw no_discard_passdown error_if_no_space - 512",
-        ),
-        (
-            full,
-            "0 10/2048 4/4 - out_of_data_space no_discard_passdown error_if_no_space - 512",
-        ),
-        (
-            read_only,
-            "0 10/2048 0/4 - ro no_discard_passdown error_if_no_space needs_check 512",
-        ),
-        (failed, "Fail"),
-    ];
-    for (status, line) in lines {
-        assert_eq!(rt; pool_line(rt.alloc(), &status)?.as_str(), line);
+const FULL: PoolStatus = PoolStatus {
+    used_metadata: 10,
+    used_data: 4,
+    ..FRESH
+};
+
+const CHECKED: PoolStatus = PoolStatus {
+    used_metadata: 10,
+    mode: Mode::ReadOnly,
+    needs_check: true,
+    ..FRESH
+};
+
+const FAILED_POOL: PoolStatus = PoolStatus {
+    mode: Mode::Failed,
+    ..FRESH
+};
+
+/// What is told of pools, and their lines.
+const POOLS: [(PoolStatus, &str); 4] = [
+    (
+        FRESH,
+        "0 9/2048 0/4 - rw no_discard_passdown error_if_no_space - 512",
+    ),
+    (
+        FULL,
+        "0 10/2048 4/4 - out_of_data_space no_discard_passdown error_if_no_space - 512",
+    ),
+    (
+        CHECKED,
+        "0 10/2048 0/4 - ro no_discard_passdown error_if_no_space needs_check 512",
+    ),
+    (FAILED_POOL, "Fail"),
+];
+
+/// Whether this line was made.
+fn is_made(made: Result<String, AllocError>, line: &str) -> bool {
+    match made {
+        Ok(made) => made.as_str() == line,
+        Err(_) => false,
     }
-    Ok(())
+}
+
+/// The first of these pools that has another line.
+fn first_other_pool(alloc: Global) -> Option<usize> {
+    for (i, (status, line)) in POOLS.iter().enumerate() {
+        if !is_made(pool_line(alloc, status), line) {
+            return Some(i);
+        }
+    }
+    None
 }
 
 #[test]
-fn lines_of_volumes(rt: HostRuntime) -> Result<(), Fail> {
-    let lines = [
-        (Mode::Writable, 0, None, "0 -"),
-        (Mode::Writable, 2, Some(1), "256 255"),
-        (Mode::ReadOnly, 1, Some(0), "128 127"),
-        (Mode::Writable, 2, Some(2), "256 383"),
-        (Mode::Failed, 2, Some(2), "Fail"),
-    ];
-    for (mode, mapped_blocks, highest_block, line) in lines {
+fn lines_of_pools(rt: HostRuntime) {
+    assert!(rt; first_other_pool(rt.alloc()) == None);
+}
+
+/// The mode, the number of mapped blocks and the highest one of volumes, and their lines.
+const VOLUMES: [(Mode, u32, Option<u32>, &str); 5] = [
+    (Mode::Writable, 0, None, "0 -"),
+    (Mode::Writable, 2, Some(1), "256 255"),
+    (Mode::ReadOnly, 1, Some(0), "128 127"),
+    (Mode::Writable, 2, Some(2), "256 383"),
+    (Mode::Failed, 2, Some(2), "Fail"),
+];
+
+/// The first of these volumes that has another line.
+fn first_other_volume(alloc: Global) -> Option<usize> {
+    for (i, (mode, mapped_blocks, highest_block, line)) in VOLUMES.iter().enumerate() {
         let status = VolumeStatus {
-            mode,
+            mode: *mode,
             block_sectors: 128,
-            mapped_blocks,
-            highest_block,
+            mapped_blocks: *mapped_blocks,
+            highest_block: *highest_block,
         };
-        assert_eq!(rt; volume_line(rt.alloc(), &status)?.as_str(), line);
+        if !is_made(volume_line(alloc, &status), line) {
+            return Some(i);
+        }
     }
-    Ok(())
+    None
+}
+
+#[test]
+fn lines_of_volumes(rt: HostRuntime) {
+    assert!(rt; first_other_volume(rt.alloc()) == None);
 }
 
 #[test]
@@ -90,7 +119,7 @@ fn room_of_requests(rt: HostRuntime) {
         need(128, &[], 0, &empty, across),
         need(128, &[], 0, &empty, whole),
     );
-    assert_eq!(rt; needs, (2, 16));
+    assert!(rt; needs == (2, 16));
 }
 
 #[test]
@@ -125,32 +154,42 @@ fn room_beside_other_volumes(rt: HostRuntime) {
         need(128, &slots, 0, &labels, zeroes(true)),
         need(128, &slots, 0, &labels, trim),
     ];
-    assert_eq!(rt; (told, needs), ((2, (false, true)), [1, 1, 2, 0]));
+    assert!(rt; (told, needs) == ((2, (false, true)), [1, 1, 2, 0]));
+}
+
+/// The kind, the flags, the offset and the length of requests, and their error.
+const REQUESTS: [((u16, u16, u64, u32), Option<NbdError>); 10] = [
+    ((1, 0, 511, 512), Some(NbdError::Invalid)),
+    ((1, 0, 1_048_576, 512), Some(NbdError::NoSpace)),
+    ((0, 0, 1_048_576, 512), Some(NbdError::Invalid)),
+    ((0, 0, 1_048_576, 0), None),
+    ((5, 0, 0, 0), Some(NbdError::Invalid)),
+    ((1, 2, 0, 0), Some(NbdError::Invalid)),
+    ((6, 2, 0, 512), None),
+    ((0, 1, 0, 0), None),
+    ((3, 0, 0, 512), Some(NbdError::Invalid)),
+    ((4, 0, u64::MAX - 511, 512), Some(NbdError::Invalid)),
+];
+
+/// The first of these requests that has another error.
+fn first_other_request() -> Option<usize> {
+    for (i, ((kind, flags, offset, bytes), error)) in REQUESTS.iter().enumerate() {
+        let request = Request {
+            kind: *kind,
+            flags: *flags,
+            offset: *offset,
+            bytes: *bytes,
+        };
+        if form_error(1_048_576, &request) != *error {
+            return Some(i);
+        }
+    }
+    None
 }
 
 #[test]
 fn errors_of_requests(rt: HostRuntime) {
-    let cases = [
-        ((1, 0, 511, 512), Some(NbdError::Invalid)),
-        ((1, 0, 1_048_576, 512), Some(NbdError::NoSpace)),
-        ((0, 0, 1_048_576, 512), Some(NbdError::Invalid)),
-        ((0, 0, 1_048_576, 0), None),
-        ((5, 0, 0, 0), Some(NbdError::Invalid)),
-        ((1, 2, 0, 0), Some(NbdError::Invalid)),
-        ((6, 2, 0, 512), None),
-        ((0, 1, 0, 0), None),
-        ((3, 0, 0, 512), Some(NbdError::Invalid)),
-        ((4, 0, u64::MAX - 511, 512), Some(NbdError::Invalid)),
-    ];
-    for ((kind, flags, offset, bytes), error) in cases {
-        let request = Request {
-            kind,
-            flags,
-            offset,
-            bytes,
-        };
-        assert_eq!(rt; form_error(1_048_576, &request), error, "{kind} {offset}");
-    }
+    assert!(rt; first_other_request() == None);
 }
 
 const FACTS: Facts = Facts {
@@ -205,35 +244,62 @@ const WRITE: Asked = Asked::Write { sectors: 1 };
 
 const DELETE_HELD: Asked = Asked::Delete { is_held: true };
 
-#[test]
-fn tests_come_in_their_order(rt: HostRuntime) {
-    let cases = [
-        (FACTS, WRITE, Some(Refusal::NoMetadataSpace)),
-        (FACTS, Asked::Trim { sectors: 1 }, None),
-        (FACTS, Asked::CreateThin, Some(Refusal::Exists)),
-        (ABSENT, Asked::CreateThin, Some(Refusal::NoMetadataSpace)),
-        (FACTS, DELETE_HELD, Some(Refusal::Busy)),
-        (READ_ONLY, WRITE, Some(Refusal::ReadOnly)),
-        (READ_ONLY, DELETE_HELD, Some(Refusal::ReadOnly)),
-        (FAILED, Asked::Read, Some(Refusal::Failed)),
-        (FACTS, Asked::Flush, None),
-        (FACTS, Asked::Hold, None),
-        (READ_ONLY, Asked::VolumeBlocks, None),
-        (FAILED, Asked::VolumeBlocks, Some(Refusal::Failed)),
-        (ABSENT, Asked::VolumeBlocks, Some(Refusal::NoSuchDevice)),
-    ];
-    for (facts, asked, refusal) in cases {
-        assert_eq!(rt; refusal_of(&facts, asked), refusal, "{asked:?}");
+/// What is known, what is asked, and the refusal.
+type Case = (Facts, Asked, Option<Refusal>);
+
+/// The first of these cases that has another refusal.
+fn first_other_case(cases: &[Case]) -> Option<usize> {
+    for (i, (facts, asked, refusal)) in cases.iter().enumerate() {
+        if refusal_of(facts, *asked) != *refusal {
+            return Some(i);
+        }
     }
+    None
 }
 
-/// Of a volume that nobody holds, the growth to so many blocks.
-fn grow(blocks: u64) -> Asked {
-    Asked::Grow {
-        is_held: false,
-        blocks,
-    }
+const CASES: [Case; 15] = [
+    (FACTS, WRITE, Some(Refusal::NoMetadataSpace)),
+    (FACTS, Asked::Trim { sectors: 1 }, None),
+    (FACTS, Asked::CreateThin, Some(Refusal::Exists)),
+    (ABSENT, Asked::CreateThin, Some(Refusal::NoMetadataSpace)),
+    (FACTS, DELETE_HELD, Some(Refusal::Busy)),
+    (READ_ONLY, WRITE, Some(Refusal::ReadOnly)),
+    (READ_ONLY, DELETE_HELD, Some(Refusal::ReadOnly)),
+    (FAILED, Asked::Read, Some(Refusal::Failed)),
+    (FACTS, Asked::Flush, None),
+    (FACTS, Asked::Hold, None),
+    (READ_ONLY, Asked::VolumeBlocks, None),
+    (FAILED, Asked::VolumeBlocks, Some(Refusal::Failed)),
+    (ABSENT, Asked::VolumeBlocks, Some(Refusal::NoSuchDevice)),
+    (READ_ONLY, Asked::Walk, None),
+    (ABSENT, Asked::Walk, Some(Refusal::NoSuchDevice)),
+];
+
+#[test]
+fn tests_come_in_their_order(rt: HostRuntime) {
+    assert!(rt; first_other_case(&CASES) == None);
 }
+
+/// Of a volume that nobody holds, the growth to the blocks that it has, and to fewer, the most that it may have, and more.
+const GROW: Asked = Asked::Grow {
+    is_held: false,
+    blocks: 4,
+};
+
+const GROW_LESS: Asked = Asked::Grow {
+    is_held: false,
+    blocks: 3,
+};
+
+const GROW_MOST: Asked = Asked::Grow {
+    is_held: false,
+    blocks: 16_777_216,
+};
+
+const GROW_OVER: Asked = Asked::Grow {
+    is_held: false,
+    blocks: 16_777_217,
+};
 
 /// Of a volume that is held, the growth to one block.
 const GROW_HELD: Asked = Asked::Grow {
@@ -241,64 +307,63 @@ const GROW_HELD: Asked = Asked::Grow {
     blocks: 1,
 };
 
+const GROWTHS: [Case; 10] = [
+    (FAILED, GROW_HELD, Some(Refusal::Failed)),
+    (READ_ONLY, GROW_HELD, Some(Refusal::ReadOnly)),
+    (ABSENT, GROW_HELD, Some(Refusal::NoSuchDevice)),
+    (FACTS, GROW_HELD, Some(Refusal::Busy)),
+    (FACTS, GROW_LESS, Some(Refusal::BadSize)),
+    (FACTS, GROW_OVER, Some(Refusal::BadSize)),
+    (FACTS, GROW, Some(Refusal::NoMetadataSpace)),
+    (ROOMY, GROW_LESS, Some(Refusal::BadSize)),
+    (ROOMY, GROW, None),
+    (ROOMY, GROW_MOST, None),
+];
+
 #[test]
 fn tests_of_growth_come_in_their_order(rt: HostRuntime) {
-    let cases = [
-        (FAILED, GROW_HELD, Some(Refusal::Failed)),
-        (READ_ONLY, GROW_HELD, Some(Refusal::ReadOnly)),
-        (ABSENT, GROW_HELD, Some(Refusal::NoSuchDevice)),
-        (FACTS, GROW_HELD, Some(Refusal::Busy)),
-        (FACTS, grow(3), Some(Refusal::BadSize)),
-        (FACTS, grow(16_777_217), Some(Refusal::BadSize)),
-        (FACTS, grow(4), Some(Refusal::NoMetadataSpace)),
-        (ROOMY, grow(3), Some(Refusal::BadSize)),
-        (ROOMY, grow(4), None),
-        (ROOMY, grow(16_777_216), None),
-    ];
-    for (facts, asked, refusal) in cases {
-        assert_eq!(rt; refusal_of(&facts, asked), refusal, "{asked:?}");
-    }
+    assert!(rt; first_other_case(&GROWTHS) == None);
 }
+
+const DELETE: Asked = Asked::Delete { is_held: false };
+
+const HELD_ROOTS: [Case; 15] = [
+    (FAILED, Asked::HeldRead, Some(Refusal::Failed)),
+    (READ_ONLY, Asked::HeldRead, Some(Refusal::NoHeldRoot)),
+    (HELD, Asked::HeldRead, Some(Refusal::NoSuchDevice)),
+    (COPIED, Asked::HeldRead, None),
+    (FAILED, Asked::ReserveMetadataSnap, Some(Refusal::Failed)),
+    (
+        READ_ONLY,
+        Asked::ReserveMetadataSnap,
+        Some(Refusal::ReadOnly),
+    ),
+    (
+        HELD,
+        Asked::ReserveMetadataSnap,
+        Some(Refusal::HeldRootExists),
+    ),
+    (
+        FACTS,
+        Asked::ReserveMetadataSnap,
+        Some(Refusal::NoMetadataSpace),
+    ),
+    (ROOMY, Asked::ReserveMetadataSnap, None),
+    (
+        READ_ONLY,
+        Asked::ReleaseMetadataSnap,
+        Some(Refusal::ReadOnly),
+    ),
+    (ROOMY, Asked::ReleaseMetadataSnap, Some(Refusal::NoHeldRoot)),
+    (HELD_AND_FULL, Asked::ReleaseMetadataSnap, None),
+    (HELD, DELETE, None),
+    (HELD_AND_FULL, DELETE, Some(Refusal::NoMetadataSpace)),
+    (HELD_AND_FULL, DELETE_HELD, Some(Refusal::Busy)),
+];
 
 #[test]
 fn tests_of_a_held_root_come_in_their_order(rt: HostRuntime) {
-    let delete = Asked::Delete { is_held: false };
-    let cases = [
-        (FAILED, Asked::HeldRead, Some(Refusal::Failed)),
-        (READ_ONLY, Asked::HeldRead, Some(Refusal::NoHeldRoot)),
-        (HELD, Asked::HeldRead, Some(Refusal::NoSuchDevice)),
-        (COPIED, Asked::HeldRead, None),
-        (FAILED, Asked::ReserveMetadataSnap, Some(Refusal::Failed)),
-        (
-            READ_ONLY,
-            Asked::ReserveMetadataSnap,
-            Some(Refusal::ReadOnly),
-        ),
-        (
-            HELD,
-            Asked::ReserveMetadataSnap,
-            Some(Refusal::HeldRootExists),
-        ),
-        (
-            FACTS,
-            Asked::ReserveMetadataSnap,
-            Some(Refusal::NoMetadataSpace),
-        ),
-        (ROOMY, Asked::ReserveMetadataSnap, None),
-        (
-            READ_ONLY,
-            Asked::ReleaseMetadataSnap,
-            Some(Refusal::ReadOnly),
-        ),
-        (ROOMY, Asked::ReleaseMetadataSnap, Some(Refusal::NoHeldRoot)),
-        (HELD_AND_FULL, Asked::ReleaseMetadataSnap, None),
-        (HELD, delete, None),
-        (HELD_AND_FULL, delete, Some(Refusal::NoMetadataSpace)),
-        (HELD_AND_FULL, DELETE_HELD, Some(Refusal::Busy)),
-    ];
-    for (facts, asked, refusal) in cases {
-        assert_eq!(rt; refusal_of(&facts, asked), refusal, "{asked:?}");
-    }
+    assert!(rt; first_other_case(&HELD_ROOTS) == None);
 }
 
 #[test]
@@ -318,5 +383,5 @@ fn tests_of_messages(rt: HostRuntime) {
         Some(Refusal::StaleTransactionId),
         None,
     ];
-    assert_eq!(rt; refusals, wanted);
+    assert!(rt; refusals == wanted);
 }

@@ -4,7 +4,6 @@ ghost use Rattle.tp_model.specs.Pool.{hold_total};
 use crate::table::Table;
 use nbd_session::{MAX_ANSWER, Phase, Profile, Session, feed};
 use std::alloc::{AllocError, Global};
-use std::test::Fail;
 use tp_model::{DevId, Geometry, Refusal, Volumes};
 
 /// The client flags, and LIST.
@@ -80,81 +79,108 @@ fn told(alloc: Global, first: u32, count: u32, text: &[u8]) -> Result<Vec<u8>, R
     told_of(alloc, Profile::Strict, first, count, Some(16), text)
 }
 
+/// Whether these bytes were sent, or this refused.
+fn is_sent(sent: Result<Vec<u8>, Refusal>, wanted: &[u8]) -> Result<bool, Refusal> {
+    match sent {
+        Ok(sent) => Ok(sent.as_slice() == wanted),
+        Err(refusal) => Err(refusal),
+    }
+}
+
+/// Whether what was sent begins with these bytes, or this refused.
+fn is_begun(sent: Result<Vec<u8>, Refusal>, wanted: &[u8]) -> Result<bool, Refusal> {
+    match sent {
+        Ok(sent) => Ok(sent.starts_with(wanted)),
+        Err(refusal) => Err(refusal),
+    }
+}
+
+/// How many bytes were sent, or this refused.
+fn length_of(sent: Result<Vec<u8>, Refusal>) -> Result<usize, Refusal> {
+    match sent {
+        Ok(sent) => Ok(sent.len()),
+        Err(refusal) => Err(refusal),
+    }
+}
+
 /// Where a session stands of which nothing was read.
 const FRESH: Phase = Phase::Flags {
     profile: Profile::Strict,
 };
 
-#[test]
-fn a_new_session_greets(rt: HostRuntime) -> Result<(), Fail> {
-    let mut session = Session::open(rt.alloc(), Profile::Strict)?;
-    assert!(rt; session.phase() == FRESH);
-    assert!(rt; session.greeting() == b"NBDMAGICIHAVEOPT\x00\x03".as_slice());
-    assert!(rt; session.phase() == FRESH);
-    Ok(())
+/// Whether a session is fresh before and behind its greeting, and greets as it should.
+fn greets(session: &mut Session) -> [bool; 3] {
+    [
+        session.phase() == FRESH,
+        session.greeting() == b"NBDMAGICIHAVEOPT\x00\x03".as_slice(),
+        session.phase() == FRESH,
+    ]
+}
+
+/// The same of a new session.
+fn new_greets(alloc: Global) -> Result<[bool; 3], Refusal> {
+    let mut session = Session::open(alloc, Profile::Strict)?;
+    Ok(greets(&mut session))
 }
 
 #[test]
-fn list_two_volumes(rt: HostRuntime) -> Result<(), Fail> {
-    let sent = told(rt.alloc(), 9, 2, LIST)?;
-    assert!(rt;
-        sent.as_slice()
-            == b"\0\x03\xe8\x89\x04\x55\x65\xa9\0\0\0\x03\0\0\0\x02\0\0\0\x05\0\0\0\x019\
+fn a_new_session_greets(rt: HostRuntime) {
+    assert!(rt; new_greets(rt.alloc()) == Ok([true; 3]));
+}
+
+#[test]
+fn list_two_volumes(rt: HostRuntime) {
+    let sent = is_sent(
+        told(rt.alloc(), 9, 2, LIST),
+        b"\0\x03\xe8\x89\x04\x55\x65\xa9\0\0\0\x03\0\0\0\x02\0\0\0\x05\0\0\0\x019\
 \0\x03\xe8\x89\x04\x55\x65\xa9\0\0\0\x03\0\0\0\x02\0\0\0\x06\0\0\0\x0210\
-\0\x03\xe8\x89\x04\x55\x65\xa9\0\0\0\x03\0\0\0\x01\0\0\0\0"
-                .as_slice()
+\0\x03\xe8\x89\x04\x55\x65\xa9\0\0\0\x03\0\0\0\x01\0\0\0\0",
     );
-    Ok(())
+    assert!(rt; sent == Ok(true));
 }
 
 #[test]
-fn the_greatest_id_is_the_last_of_a_list(rt: HostRuntime) -> Result<(), Fail> {
-    let sent = told(rt.alloc(), 16_777_215, 1, LIST)?;
-    assert!(rt;
-        sent.as_slice()
-            == b"\0\x03\xe8\x89\x04\x55\x65\xa9\0\0\0\x03\0\0\0\x02\0\0\0\x0c\0\0\0\x0816777215\
-\0\x03\xe8\x89\x04\x55\x65\xa9\0\0\0\x03\0\0\0\x01\0\0\0\0"
-                .as_slice()
+fn the_greatest_id_is_the_last_of_a_list(rt: HostRuntime) {
+    let sent = is_sent(
+        told(rt.alloc(), 16_777_215, 1, LIST),
+        b"\0\x03\xe8\x89\x04\x55\x65\xa9\0\0\0\x03\0\0\0\x02\0\0\0\x0c\0\0\0\x0816777215\
+\0\x03\xe8\x89\x04\x55\x65\xa9\0\0\0\x03\0\0\0\x01\0\0\0\0",
     );
-    Ok(())
+    assert!(rt; sent == Ok(true));
 }
 
 #[test]
-fn a_list_with_data_is_invalid(rt: HostRuntime) -> Result<(), Fail> {
-    let sent = told(rt.alloc(), 9, 2, LIST_DATA)?;
-    assert!(rt;
-        sent.as_slice()
-            == b"\0\x03\xe8\x89\x04\x55\x65\xa9\0\0\0\x03\x80\0\0\x03\0\0\0\0".as_slice()
+fn a_list_with_data_is_invalid(rt: HostRuntime) {
+    let sent = is_sent(
+        told(rt.alloc(), 9, 2, LIST_DATA),
+        b"\0\x03\xe8\x89\x04\x55\x65\xa9\0\0\0\x03\x80\0\0\x03\0\0\0\0",
     );
-    Ok(())
+    assert!(rt; sent == Ok(true));
 }
 
 /// The lengths of the lists of as many volumes as a pool may have, each with a name of 8 digits, and of one more.
 fn longest(alloc: Global) -> Result<(usize, usize), Refusal> {
-    let most = told(alloc, 10_000_000, 65_536, LIST)?;
-    let more = told(alloc, 10_000_000, 65_537, LIST)?;
-    Ok((most.len(), more.len()))
+    let most = length_of(told(alloc, 10_000_000, 65_536, LIST))?;
+    let more = length_of(told(alloc, 10_000_000, 65_537, LIST))?;
+    Ok((most, more))
 }
 
 #[test]
-fn the_longest_list_fits_and_one_of_more_ends_the_session(rt: HostRuntime) -> Result<(), Fail> {
-    assert_eq!(rt; longest(rt.alloc()), Ok((2_097_172, 0)));
-    Ok(())
+fn the_longest_list_fits_and_one_of_more_ends_the_session(rt: HostRuntime) {
+    assert!(rt; longest(rt.alloc()) == Ok((2_097_172, 0)));
 }
 
 #[test]
-fn a_volume_is_the_least_from_its_own_id_on(rt: HostRuntime) -> Result<(), Fail> {
-    let sent = told(rt.alloc(), 9, 2, INFO)?;
-    assert!(rt;
-        sent.as_slice()
-            == b"\0\x03\xe8\x89\x04\x55\x65\xa9\0\0\0\x06\0\0\0\x03\0\0\0\x0c\0\0\0\0\0\0\0\x10\0\0\0\x6f\
+fn a_volume_is_the_least_from_its_own_id_on(rt: HostRuntime) {
+    let sent = is_sent(
+        told(rt.alloc(), 9, 2, INFO),
+        b"\0\x03\xe8\x89\x04\x55\x65\xa9\0\0\0\x06\0\0\0\x03\0\0\0\x0c\0\0\0\0\0\0\0\x10\0\0\0\x6f\
 \0\x03\xe8\x89\x04\x55\x65\xa9\0\0\0\x06\0\0\0\x03\0\0\0\x0e\0\x03\0\0\x02\0\0\0\x10\0\0\x10\0\0\
 \0\x03\xe8\x89\x04\x55\x65\xa9\0\0\0\x06\0\0\0\x01\0\0\0\0\
 \0\x03\xe8\x89\x04\x55\x65\xa9\0\0\0\x06\x80\0\0\x06\0\0\0\0\
-\0\x03\xe8\x89\x04\x55\x65\xa9\0\0\0\x06\x80\0\0\x06\0\0\0\0"
-                .as_slice()
+\0\x03\xe8\x89\x04\x55\x65\xa9\0\0\0\x06\x80\0\0\x06\0\0\0\0",
     );
-    Ok(())
+    assert!(rt; sent == Ok(true));
 }
 
 /// What INFO tells of the volume 9, in a read-only pool, to a session that is extended, and that it is unknown.
@@ -170,70 +196,77 @@ fn is_both(text: &[u8], first: &[u8], second: &[u8]) -> bool {
     text.starts_with(first) && text.get(first.len()..) == Some(second)
 }
 
+/// Whether these two were sent, or this refused.
+fn are_sent(sent: Result<Vec<u8>, Refusal>, first: &[u8], second: &[u8]) -> Result<bool, Refusal> {
+    match sent {
+        Ok(sent) => Ok(is_both(&sent, first, second)),
+        Err(refusal) => Err(refusal),
+    }
+}
+
 #[test]
-fn the_empty_name_is_that_of_the_default(rt: HostRuntime) -> Result<(), Fail> {
+fn the_empty_name_is_that_of_the_default(rt: HostRuntime) {
     let profile = Profile::extended(Some(DevId::new(9)));
-    let sent = offered(rt.alloc(), profile, NAMELESS)?;
-    assert!(rt; is_both(&sent, EXTENDED, EXTENDED));
-    Ok(())
+    let sent = offered(rt.alloc(), profile, NAMELESS);
+    assert!(rt; are_sent(sent, EXTENDED, EXTENDED) == Ok(true));
 }
 
 #[test]
-fn a_default_that_is_not_there_is_unknown(rt: HostRuntime) -> Result<(), Fail> {
+fn a_default_that_is_not_there_is_unknown(rt: HostRuntime) {
     let profile = Profile::extended(Some(DevId::new(8)));
-    let sent = offered(rt.alloc(), profile, NAMELESS)?;
-    assert!(rt; is_both(&sent, UNKNOWN, EXTENDED));
-    Ok(())
+    let sent = offered(rt.alloc(), profile, NAMELESS);
+    assert!(rt; are_sent(sent, UNKNOWN, EXTENDED) == Ok(true));
 }
 
 #[test]
-fn without_a_default_the_empty_name_is_unknown(rt: HostRuntime) -> Result<(), Fail> {
-    let sent = offered(rt.alloc(), Profile::extended(None), NAMELESS)?;
-    assert!(rt; is_both(&sent, UNKNOWN, EXTENDED));
-    Ok(())
+fn without_a_default_the_empty_name_is_unknown(rt: HostRuntime) {
+    let sent = offered(rt.alloc(), Profile::extended(None), NAMELESS);
+    assert!(rt; are_sent(sent, UNKNOWN, EXTENDED) == Ok(true));
+}
+
+/// Whether a text begins as `UNKNOWN`, and has the flags of a strict session in the answer behind it.
+fn is_unknown_and_strict(text: &[u8]) -> bool {
+    text.starts_with(UNKNOWN) && text.get(50..52) == Some(b"\0\x6f".as_slice())
+}
+
+/// The same of what a strict session is sent for `NAMELESS`.
+fn is_strict_told(alloc: Global) -> Result<bool, Refusal> {
+    let sent = offered(alloc, Profile::Strict, NAMELESS)?;
+    Ok(is_unknown_and_strict(&sent))
 }
 
 #[test]
-fn a_strict_session_knows_no_default(rt: HostRuntime) -> Result<(), Fail> {
-    let sent = offered(rt.alloc(), Profile::Strict, NAMELESS)?;
-    assert!(rt; sent.starts_with(UNKNOWN) && sent.get(50..52) == Some(b"\0\x6f".as_slice()));
-    Ok(())
+fn a_strict_session_knows_no_default(rt: HostRuntime) {
+    assert!(rt; is_strict_told(rt.alloc()) == Ok(true));
 }
 
 #[test]
-fn the_size_that_is_told_is_the_volumes_own(rt: HostRuntime) -> Result<(), Fail> {
-    let sent = told_of(rt.alloc(), Profile::Strict, 9, 1, Some(33), INFO)?;
-    assert!(rt;
-        sent.get(..32)
-            == Some(
-                b"\0\x03\xe8\x89\x04\x55\x65\xa9\0\0\0\x06\0\0\0\x03\0\0\0\x0c\0\0\0\0\0\0\0\x21\0\0\0\x6f".as_slice()
-            )
+fn the_size_that_is_told_is_the_volumes_own(rt: HostRuntime) {
+    let sent = is_begun(
+        told_of(rt.alloc(), Profile::Strict, 9, 1, Some(33), INFO),
+        b"\0\x03\xe8\x89\x04\x55\x65\xa9\0\0\0\x06\0\0\0\x03\0\0\0\x0c\0\0\0\0\0\0\0\x21\0\0\0\x6f",
     );
-    Ok(())
+    assert!(rt; sent == Ok(true));
 }
 
 #[test]
-fn a_refused_size_ends_the_session(rt: HostRuntime) -> Result<(), Fail> {
-    assert_eq!(rt;
-        told_of(rt.alloc(), Profile::Strict, 9, 2, None, INFO)?.len(),
-        0
+fn a_refused_size_ends_the_session(rt: HostRuntime) {
+    let sent = told_of(rt.alloc(), Profile::Strict, 9, 2, None, INFO);
+    assert!(rt; length_of(sent) == Ok(0));
+}
+
+#[test]
+fn a_refused_hold_ends_the_session(rt: HostRuntime) {
+    assert!(rt; length_of(told(rt.alloc(), 9, 2, GO)) == Ok(0));
+}
+
+#[test]
+fn abort_is_acknowledged_whatever_its_data(rt: HostRuntime) {
+    let sent = is_sent(
+        told(rt.alloc(), 9, 2, ABORT),
+        b"\0\x03\xe8\x89\x04\x55\x65\xa9\0\0\0\x02\0\0\0\x01\0\0\0\0",
     );
-    Ok(())
-}
-
-#[test]
-fn a_refused_hold_ends_the_session(rt: HostRuntime) -> Result<(), Fail> {
-    assert_eq!(rt; told(rt.alloc(), 9, 2, GO)?.len(), 0);
-    Ok(())
-}
-
-#[test]
-fn abort_is_acknowledged_whatever_its_data(rt: HostRuntime) -> Result<(), Fail> {
-    let sent = told(rt.alloc(), 9, 2, ABORT)?;
-    assert!(rt;
-        sent.as_slice() == b"\0\x03\xe8\x89\x04\x55\x65\xa9\0\0\0\x02\0\0\0\x01\0\0\0\0".as_slice()
-    );
-    Ok(())
+    assert!(rt; sent == Ok(true));
 }
 
 /// So many zero bytes.
@@ -275,12 +308,19 @@ fn put_in(alloc: Global, first: u32, text: &[u8]) -> Result<(Vec<u8>, usize), Re
     put(alloc, &mut table, text, MAX_ANSWER)
 }
 
+/// Whether these bytes were put into a buffer, or this refused.
+fn is_put(told: Result<(Vec<u8>, usize), Refusal>, wanted: &[u8]) -> Result<bool, Refusal> {
+    match told {
+        Ok((out, sent)) => Ok(out.get(..sent) == Some(wanted)),
+        Err(refusal) => Err(refusal),
+    }
+}
+
 #[test]
-fn an_answer_is_put_into_a_given_buffer(rt: HostRuntime) -> Result<(), Fail> {
-    let (out, sent) = put_in(rt.alloc(), 9, ABORT)?;
-    assert!(rt;
-        out.get(..sent)
-            == Some(b"\0\x03\xe8\x89\x04\x55\x65\xa9\0\0\0\x02\0\0\0\x01\0\0\0\0".as_slice())
+fn an_answer_is_put_into_a_given_buffer(rt: HostRuntime) {
+    let put = is_put(
+        put_in(rt.alloc(), 9, ABORT),
+        b"\0\x03\xe8\x89\x04\x55\x65\xa9\0\0\0\x02\0\0\0\x01\0\0\0\0",
     );
-    Ok(())
+    assert!(rt; put == Ok(true));
 }

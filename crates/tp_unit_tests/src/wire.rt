@@ -47,7 +47,7 @@ fn request_of(text: &[u8]) -> Option<(Request, usize)> {
 #[test]
 fn greeting_is_written_in_its_place(rt: HostRuntime) {
     let mut out = [0xffu8; 20];
-    assert_eq!(rt; put_greeting(&mut out, 1), 19);
+    assert!(rt; put_greeting(&mut out, 1) == 19);
     assert!(rt; out == *b"\xffNBDMAGICIHAVEOPT\x00\x03\xff");
 }
 
@@ -64,10 +64,7 @@ fn go_is_an_option(rt: HostRuntime) {
     );
     let (option, data) = option_of(GO_FRAME).unwrap_or((0, b""));
     let named = info_name(data) == Some(b"0".as_slice());
-    assert_eq!(rt;
-        (lengths, flags, option, named),
-        ((4, 16, 23), true, OPTION_GO, true)
-    );
+    assert!(rt; (lengths, flags, option, named) == ((4, 16, 23), true, OPTION_GO, true));
 }
 
 /// The replies to GO for a volume of 1048576 bytes, and where they end.
@@ -90,7 +87,7 @@ fn go_replies() -> (usize, [u8; 86]) {
 #[test]
 fn replies_to_go(rt: HostRuntime) {
     let (end, out) = go_replies();
-    assert_eq!(rt; end, 86);
+    assert!(rt; end == 86);
     assert!(rt; out == GO_REPLIES);
 }
 
@@ -134,7 +131,7 @@ fn request_and_its_reply(rt: HostRuntime) {
         put_simple_reply_head(&mut out, 0, 28, 2),
     );
     let replied = out == *b"\x67\x44\x66\x98\0\0\0\x1c\0\0\0\0\0\0\0\x02";
-    assert_eq!(rt; (read, lengths, replied), (true, (28, 16), true));
+    assert!(rt; (read, lengths, replied) == (true, (28, 16), true));
 }
 
 #[test]
@@ -157,10 +154,7 @@ fn connections_end_at_the_fixed_part(rt: HostRuntime) {
         wanted(Kind::Options, other),
         wanted(Kind::Options, most),
     ];
-    assert_eq!(rt;
-        (flags, options, lengths),
-        ([true; 4], [true; 2], [16, 16, 16 + 8192])
-    );
+    assert!(rt; (flags, options, lengths) == ([true; 4], [true; 2], [16, 16, 16 + 8192]));
 }
 
 #[test]
@@ -179,7 +173,7 @@ fn a_write_has_its_payload_behind_it(rt: HostRuntime) {
         is_malformed(Kind::Requests, more),
         request_of(unknown).is_some(),
     );
-    assert_eq!(rt; (lengths, read), ([MAX_FRAME, 28, 28], (true, true)));
+    assert!(rt; (lengths, read) == ([MAX_FRAME, 28, 28], (true, true)));
 }
 
 #[test]
@@ -190,13 +184,13 @@ fn list_and_export_name_are_options(rt: HostRuntime) {
         option_of(list) == Some((OPTION_LIST, b"".as_slice())),
         option_of(export_name) == Some((OPTION_EXPORT_NAME, b"0".as_slice())),
     ];
-    assert_eq!(rt; read, [true; 2]);
+    assert!(rt; read == [true; 2]);
 }
 
 #[test]
 fn a_listed_name_stands_behind_its_length(rt: HostRuntime) {
     let mut out = [0xffu8; 26];
-    assert_eq!(rt; put_server_reply(&mut out, 0, b"0"), 25);
+    assert!(rt; put_server_reply(&mut out, 0, b"0") == 25);
     assert!(rt;
         out == *b"\0\x03\xe8\x89\x04\x55\x65\xa9\0\0\0\x03\0\0\0\x02\0\0\0\x05\0\0\0\x010\xff"
     );
@@ -213,7 +207,7 @@ fn export_name_is_answered_with_zeroes_or_without(rt: HostRuntime) {
     wants[10..134].copy_from_slice(&[0; 124]);
     let end = put_export_reply(&mut out, 0, 1_048_576, 0x6d, false);
     let with = (end, out == wants);
-    assert_eq!(rt; (without, with), ((10, true), (134, true)));
+    assert!(rt; (without, with) == ((10, true), (134, true)));
 }
 
 #[test]
@@ -245,7 +239,7 @@ fn errors_carry_no_data(rt: HostRuntime) {
         option == *b"\0\x03\xe8\x89\x04\x55\x65\xa9\0\0\0\x07\x80\0\0\x03\0\0\0\0",
         reply == *b"\x67\x44\x66\x98\0\0\0\x16\0\0\0\0\0\0\0\x09",
     );
-    assert_eq!(rt; (ends, are_written), ((20, 16), (true, true)));
+    assert!(rt; (ends, are_written) == ((20, 16), (true, true)));
 }
 
 #[test]
@@ -255,7 +249,7 @@ fn a_wrong_request_magic_ends_at_its_fixed_part(rt: HostRuntime) {
         wanted(Kind::Requests, &wrong[..27]),
         wanted(Kind::Requests, wrong),
     );
-    assert_eq!(rt; lengths, (28, 28));
+    assert!(rt; lengths == (28, 28));
     assert!(rt; matches!(first(Kind::Requests, wrong), Some(Frame::Malformed)));
 }
 
@@ -266,5 +260,5 @@ fn abort_may_have_data(rt: HostRuntime) {
         wanted(Kind::Options, abort),
         option_of(abort) == Some((OPTION_ABORT, b"xyz".as_slice())),
     );
-    assert_eq!(rt; told, (19, true));
+    assert!(rt; told == (19, true));
 }

@@ -15,7 +15,7 @@ use Rattle.tp_model.specs.declared.refusal.Refusal.TheVariants.{Failed, Fault, N
 use Rattle.tp_model.specs.Refusals.{nbd_code, nbd_error}
 use Rattle.tp_model.specs.Sectors.{sectors_of}
 use Rattle.tp_model.specs.Pool.{PlainPool, outline_of, volume_sectors}
-use Rattle.tp_model.specs.Calls.{Call, Answer, Done, Edits, Flush, Found, Gave, HasCause, Hold, Line, holds_after, Makes, NextId, Read, Refused, Sized, Takes, VolumeBlocks, Write, after_refusal, is_failed, refusal_of, reply, volume_blocks}
+use Rattle.tp_model.specs.Calls.{Call, Answer, Done, Edits, Flush, Found, Gave, HasCause, Hold, Line, holds_after, Makes, NextId, Read, Refused, Sized, Listed, Takes, VolumeBlocks, Write, after_refusal, is_failed, refusal_of, reply, volume_blocks}
 use Rattle.tp_model.proofs.DiskLaws.{concat-chopped}
 use Rattle.nbd_wire.specs.declared.Kind.{Kind}
 use Rattle.nbd_wire.specs.declared.Kind.TheVariants as kinds
@@ -93,6 +93,7 @@ caused failures more (Gave xs) c = omega (arith, c)
 caused failures more (Line bytes) c = omega (arith, c)
 caused failures more (Found id) c = omega (arith, c)
 caused failures more (Sized blocks) c = omega (arith, c)
+caused failures more (Listed slots) c = omega (arith, c)
 caused failures more (Refused Fault) c = omega (arith, c)
 caused failures more (Refused reason) c = omega (arith, c)
 

@@ -9,7 +9,7 @@ use Rattle.tp_model.specs.declared.refusal.Refusal.{Refusal}
 use Rattle.tp_model.specs.declared.refusal.Refusal.TheVariants.{Exists, Failed, Fault, NoSuchDevice, ReadOnly}
 use Rattle.tp_model.specs.Geometry.{Geometry}
 use Rattle.tp_model.specs.Pool.{PlainPool, is_now}
-use Rattle.tp_model.specs.Calls.{Answer, Call, CreateSnap, Delete, Done, Found, Gave, Line, Makes, Refused, Sized, Status, Takes, after_refusal, exists, is_failed, is_read_only, refusal_of, reply, volume_of}
+use Rattle.tp_model.specs.Calls.{Answer, Call, CreateSnap, Delete, Done, Found, Gave, Line, Makes, Refused, Sized, Listed, Status, Takes, after_refusal, exists, is_failed, is_read_only, refusal_of, reply, volume_of}
 use Rattle.tp_model.specs.Status.{pool_line}
 use Rattle.tp_model.specs.Disk.{DiskState}
 use Rattle.tp_model.proofs.Maps.{get_insert, get_remove, same_nat_map}
@@ -68,6 +68,7 @@ line_in Done = []
 line_in (Gave sectors) = []
 line_in (Found id) = []
 line_in (Sized blocks) = []
+line_in (Listed slots) = []
 line_in (Refused reason) = []
 
 line_told : (s made after : PlainPool) (text : List ℕ) → Takes s Status (Line text) made after → text ≡ pool_line s

@@ -10,6 +10,7 @@ use Rattle.tp_hub.specs.Told.{Told}
 use Rattle.tp_hub.specs.Runs.{Incoming, Runs, turns_in}
 use Rattle.tp_hub.specs.Serving.{AllLeaveSo, AreLeaving, HubState, sessions_of}
 use Rattle.tp_hub.specs.Lives.{AreHubLives, ArePlainLives, HubLife, IsHubLife}
+use Rattle.tp_users.specs.Lived.{IsFirstLife, IsLived, IsNextLife}
 use Rattle.tp_users.specs.Lives.{AreTwoLives, IsLed, IsOpenedAs, Tells}
 use Rattle.tp_hub.proofs.Tracing.{goes_join}
 
@@ -116,3 +117,23 @@ module _ {D : Type 0} (view : View D) (laws : ViewLaws view) where
         second_tells = y.1.tells;
         image_is = y.1.left_is;
       }
+
+  -- ---- the same by what is known of each life
+
+  pub lived : (d last : D) (events : List Incoming) (before after : Told) (image : view.Image) → Led d events before after last → view.may_leave last image → IsLived view d events before after image
+  lived d last events before after image led stop = record { last = last; led = led; left = stop }
+
+  pub first_lived : (s : PlainPool) (d : D) (events : List Incoming) (before after : Told) (image : view.Image) → IsOpenedAs view s d → IsLived view d events before after image → IsFirstLife view s events before after image
+  first_lived s d events before after image opened life = record { pool = d; opened = opened; life = life }
+
+  pub next_lived : (from : view.Image) (d : D) (events : List Incoming) (before after : Told) (image : view.Image) → IsOpened view from d → IsLived view d events before after image
+      → IsNextLife view from events before after image
+  next_lived from d events before after image opened life = record { pool = d; opened = opened; life = life }
+
+  pub found_after : HubLaw → (s : PlainPool) (events : List Incoming) (before after : Told) (image : view.Image) → IsFirstLife view s events before after image → (found : PlainPool) × view.stands_for image found
+  found_after law s events before after image l = found_behind law s l.pool l.life.last events before after image l.opened l.life.led l.life.left
+
+  pub two_lived : HubLaw → (s : PlainPool) (events more : List Incoming) (before after again last : Told) (left image : view.Image) → IsFirstLife view s events before after left
+      → IsNextLife view left more again last image → AreTwoLives view s events more before after again last image
+  two_lived law s events more before after again last left image one two =
+      two_lives law s one.pool one.life.last two.pool two.life.last events more before after again last left image one.opened one.life.led one.life.left two.opened two.life.led two.life.left

@@ -16,3 +16,4 @@ mod Growth
 mod Copies
 mod Freeing
 mod Leading
+mod Walks

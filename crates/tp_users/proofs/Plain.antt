@@ -15,7 +15,7 @@ use Rattle.tp_model.specs.declared.mode.Mode.{Mode}
 use Rattle.tp_model.specs.declared.mode.Mode.TheVariants as mode
 use Rattle.tp_model.specs.Sectors.{Sector, sectors_of, zero_sector}
 use Rattle.tp_model.specs.Pool.{PlainPool, Volume, device_count, different, is_exclusive, is_now, used, volume_sectors}
-use Rattle.tp_model.specs.Calls.{Answer, Call, CreateThin, Done, Edits, Gave, Line, Found, Read, Refused, Sized, Takes, Write, refusal_of, reply, exists, is_within, first_from, Makes, after_refusal, sector_after, new_volume, has_metadata_room, has_data_room, need, effect_at, is_failed, is_owning}
+use Rattle.tp_model.specs.Calls.{Answer, Call, CreateThin, Done, Edits, Gave, Line, Found, Read, Refused, Sized, Listed, Takes, Write, refusal_of, reply, exists, is_within, first_from, Makes, after_refusal, sector_after, new_volume, has_metadata_room, has_data_room, need, effect_at, is_failed, is_owning}
 use Rattle.tp_model.proofs.DiskLaws.{concat-chopped, length-sectors_of}
 use Rattle.tp_model.proofs.Maps.{entries_empty, entries_insert, get_empty, get_insert}
 use Rattle.tp_image.specs.Fresh.{empty_pool}
@@ -231,6 +231,7 @@ sectors_in Done = []
 sectors_in (Line bytes) = []
 sectors_in (Found id) = []
 sectors_in (Sized blocks) = []
+sectors_in (Listed slots) = []
 sectors_in (Refused reason) = []
 
 -- the bytes are those that it bears

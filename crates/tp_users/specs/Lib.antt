@@ -2,3 +2,5 @@ pub mod Users
 pub mod First
 pub mod Left
 pub mod Lives
+pub mod Lived
+pub mod Walked

@@ -1,6 +1,9 @@
 //! The first session is answered.
-ghost use Rattle.std.specs.Prelude.{◌≡◌, ◌++◌, ◌<◌, ℕ, List, IfErr, IfOk, OnOk, length};
-ghost use Rattle.tp_model.specs.Pool.{PlainPool};
+ghost use Rattle.std.specs.Prelude.{◌≡◌, ◌++◌, ◌<◌, [], ℕ, List, IfErr, IfOk, OnOk, length};
+ghost use Rattle.tp_model.specs.Pool.{PlainPool, hold_total};
+ghost use Rattle.nbd_session.specs.declared.phase.Phase.TheVariants.{Flags};
+ghost use Rattle.nbd_session.specs.declared.phase.Profile.TheVariants.{Strict};
+ghost use Rattle.nbd_session.specs.Session.{State, state};
 ghost use Rattle.nbd_session.specs.Clauses.{IsReady};
 ghost use Rattle.nbd_session.specs.Talk.{Converses};
 ghost use Rattle.tp_users.specs.First.{Counted, CountedCall, FirstIsAnswered, IsFirstAnswer, counted, first_text, outline_of_counted};
@@ -42,6 +45,24 @@ fn converse<V: Volumes>(
     }
 }
 
+/// Opens a session, and feeds it all that a client sends at once.
+fn converse_anew<V: Volumes>(
+    alloc: Global,
+    pool: &mut V,
+    text: &[u8],
+    out: &mut Vec<u8>,
+) -> Result<(), Refusal>
+    requires { hold_total (V.view.outline pool.old).holds < 64 }
+    ensures talks { OnOk result ((s : PlainPool) → V.view.shows pool.old s
+        → (new : State) × (c : Counted)
+        × Converses outline_of_counted CountedCall (state (Flags Strict) []) text.now (counted s (V.view.failures pool.old)) out.old.items out.new.items new c
+        × (c.failures ≡ V.view.failures pool.new)) }
+    ensures only { IfErr result (λ reason. reason ≡ Refusal.Memory) }
+{
+    let mut session = Session::open(alloc, Profile::Strict)?;
+    converse(&mut session, pool, text, out)
+}
+
 /// Serves one client over a blank pool in memory: all that it sends at once, the answers added to `out` behind what stands there. A first
 /// session is answered as `first_session_is_answered` says: whole, where the disk of the pool that is handed back never failed.
 ///
@@ -56,9 +77,8 @@ pub fn serve_first(
     ensures only { IfErr result (λ reason. IsOutside reason) }
 {
     let mut pool = blank_pool(alloc, DevId::new(0))?;
-    let mut session = Session::open(alloc, Profile::Strict)?;
     first_session_is_answered();
     images_use_bounded_metadata::<Meta>();
-    converse(&mut session, &mut pool, text, out)?;
+    converse_anew(alloc, &mut pool, text, out)?;
     Ok(pool)
 }

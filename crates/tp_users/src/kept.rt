@@ -15,8 +15,25 @@ use tp_meta::Meta;
 use tp_model::{DevId, Refusal};
 use tp_pool::Pool;
 
+/// Flushes a pool: the disk that is left of it where it is stopped then, in a way of one's choice.
+pub(crate) fn flush_and_leave(
+    alloc: Global,
+    pool: &mut Pool<MemDisk, Meta>,
+    picks: &[u64],
+) -> Result<MemDisk, Refusal>
+    ensures kept { IfOk result (λ disk. (s : PlainPool) → shows geometry_of StandsFor pool.old s → IsKept s (mem_state disk)) }
+    ensures only { (s : PlainPool) → shows geometry_of StandsFor pool.old s → s.mode ≡ mode.Writable → IfErr result (λ reason. IsOutside reason) }
+{
+    pool.flush()?;
+    picks_are_stops();
+    match pool.disk().stop(alloc, picks) {
+        Ok(disk) => Ok(disk),
+        Err(_) => Err(Refusal::Memory),
+    }
+}
+
 /// Flushes a pool, and stops it in a way of one's choice.
-pub(crate) fn flush_and_stop(
+fn flush_and_stop(
     alloc: Global,
     pool: Pool<MemDisk, Meta>,
     picks: &[u64],
@@ -25,12 +42,7 @@ pub(crate) fn flush_and_stop(
     ensures only { (s : PlainPool) → shows geometry_of StandsFor pool s → s.mode ≡ mode.Writable → IfErr result (λ reason. IsOutside reason) }
 {
     let mut pool = pool;
-    pool.flush()?;
-    picks_are_stops();
-    match pool.disk().stop(alloc, picks) {
-        Ok(disk) => Ok(disk),
-        Err(_) => Err(Refusal::Memory),
-    }
+    flush_and_leave(alloc, &mut pool, picks)
 }
 
 /// Closes a pool.

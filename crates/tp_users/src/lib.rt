@@ -19,6 +19,7 @@ mod sharing;
 mod snapshots;
 mod spared;
 mod uncached;
+mod walked;
 mod zeroed;
 
 pub use blank::blank_pool;
@@ -41,4 +42,5 @@ pub use sharing::readers_agree;
 pub use snapshots::snapshot_costs_three_blocks;
 pub use spared::{trim_spares_parts_of_blocks, trimmed_blocks_read_zero};
 pub use uncached::hub_on_its_disk_lives_twice;
+pub use walked::has_slot;
 pub use zeroed::zeroes_are_read;

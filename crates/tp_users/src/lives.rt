@@ -3,6 +3,7 @@ ghost use Rattle.std.specs.Prelude.{◌≡◌, ◌⊎◌, ◌<◌, All, IfErr, I
 ghost use Rattle.std.specs.FinMap.{empty};
 ghost use Rattle.tp_model.specs.Clauses.{IsOpened, PoolCall, TracedCall, outline_of_traced};
 ghost use Rattle.tp_model.specs.Disk.{IsSettled, seen};
+ghost use Rattle.tp_model.specs.Pool.{PlainPool};
 ghost use Rattle.tp_disk.specs.Memory.{mem_state};
 ghost use Rattle.tp_image.specs.Fresh.{empty_pool};
 ghost use Rattle.tp_check.specs.declared.error.CheckError.{CheckError};
@@ -11,6 +12,8 @@ ghost use Rattle.tp_pool.specs.Held.{IsSomePool};
 ghost use Rattle.tp_served.specs.Served.{cached};
 ghost use Rattle.nbd_session.specs.Clauses.{GoesWithTrace};
 ghost use Rattle.tp_hub.specs.Runs.{incoming, session_of, taken_of};
+ghost use Rattle.tp_users.specs.Left.{IsLeftUnder};
+ghost use Rattle.tp_users.specs.Lived.{IsFirstLife, IsLived, IsNextLife};
 ghost use Rattle.tp_users.specs.Lives.{AreTwoLives, IsLed, IsOpenedAs, IsStopped};
 ghost use Rattle.tp_users.specs.Users.{IsOutside};
 
@@ -93,6 +96,85 @@ fn opened(
     }
 }
 
+/// What a stop leaves of a disk, beside how much was taken before it.
+pub(crate) fn left_beside(
+    alloc: Global,
+    ran: Ran,
+    disk: &MemDisk,
+    picks: &[u64],
+) -> Result<(Ran, MemDisk), Refusal>
+    ensures left { IfOk result (λ r. (ran ≡ r.0) × IsStopped (mem_state disk.now) (mem_state r.1)) }
+    ensures only { IfErr result (λ reason. reason ≡ Refusal.Memory) }
+{
+    let left = stopped(alloc, disk, picks)?;
+    Ok((ran, left))
+}
+
+/// A hub over a pool takes events, and is stopped in a way of one's choice: how much was taken, and the disk that is left.
+fn lived(
+    alloc: Global,
+    pool: Served<ReadCache<MemDisk>, Meta>,
+    events: &[Event<'_>],
+    picks: &[u64],
+    out: &mut Answers,
+) -> Result<(Ran, MemDisk), Refusal>
+    requires numbers { All (λ e. session_of e < 64) events.now }
+    requires free { ((cached geometry_of StandsFor marks_of room_of changed_of).outline pool).holds ≡ empty }
+    ensures lived { IfOk result (λ r. IsLived (cached geometry_of StandsFor marks_of room_of changed_of) pool
+        (taken_of (map incoming events.now) r.0.events r.0.bytes) out.old out.new (seen (mem_state r.1).cells)) }
+    ensures honest { IfOk result (λ r. IsTrue (mem_state r.1).is_honest) }
+    ensures settled { IfOk result (λ r. IsSettled (mem_state r.1).cells) }
+    ensures left { IfOk result (λ r. (s : PlainPool) → IsOpenedAs (cached geometry_of StandsFor marks_of room_of changed_of) s pool
+        → IsLeftUnder geometry_of StandsFor marks_of room_of changed_of (seen (mem_state r.1).cells)) }
+    ensures only { IfErr result (λ reason. IsOutside reason) }
+{
+    let (pool, ran) = led(alloc, pool, events, out);
+    pool.facts();
+    left_beside(alloc, ran, pool.disk(), picks)
+}
+
+/// The first life: the pool is on a new disk in memory.
+fn first_life(
+    alloc: Global,
+    geometry: Geometry,
+    room: Room,
+    events: &[Event<'_>],
+    picks: &[u64],
+    out: &mut Answers,
+) -> Result<(Ran, MemDisk), Refusal>
+    requires { All (λ e. session_of e < 64) events.now }
+    ensures lived { IfOk result (λ r. IsFirstLife (cached geometry_of StandsFor marks_of room_of changed_of) (empty_pool geometry)
+        (taken_of (map incoming events.now) r.0.events r.0.bytes) out.old out.new (seen (mem_state r.1).cells)) }
+    ensures honest { IfOk result (λ r. IsTrue (mem_state r.1).is_honest) }
+    ensures settled { IfOk result (λ r. IsSettled (mem_state r.1).cells) }
+    ensures left { IfOk result (λ r. IsLeftUnder geometry_of StandsFor marks_of room_of changed_of (seen (mem_state r.1).cells)) }
+    ensures only { IfErr result (λ reason. IsOutside reason) }
+{
+    let pool = formatted(alloc, geometry, room)?;
+    lived(alloc, pool, events, picks, out)
+}
+
+/// A later life: the pool is opened from what a stop left.
+fn next_life(
+    alloc: Global,
+    disk: MemDisk,
+    room: Room,
+    events: &[Event<'_>],
+    picks: &[u64],
+    out: &mut Answers,
+) -> Result<(Ran, MemDisk), Refusal>
+    requires numbers { All (λ e. session_of e < 64) events.now }
+    requires honest { IsTrue (mem_state disk).is_honest }
+    requires settled { IsSettled (mem_state disk).cells }
+    requires found { (s : PlainPool) × (cached geometry_of StandsFor marks_of room_of changed_of).stands_for (seen (mem_state disk).cells) s }
+    ensures lived { IfOk result (λ r. IsNextLife (cached geometry_of StandsFor marks_of room_of changed_of) (seen (mem_state disk).cells)
+        (taken_of (map incoming events.now) r.0.events r.0.bytes) out.old out.new (seen (mem_state r.1).cells)) }
+    ensures only { IfErr result (λ reason. IsOutside reason) }
+{
+    let pool = opened(alloc, disk, room)?;
+    lived(alloc, pool, events, picks, out)
+}
+
 /// A hub on caches over a new disk in memory takes events, and is stopped in a way of one's choice; then one that is opened from what that left takes events,
 /// and is stopped too. Both lives are lives of the plain hub: what was answered is what plain volumes answer, from the pool without volumes on, and in the
 /// second life from one that may be found after the stop. How much each took, and the disk that the last stop left.
@@ -117,12 +199,8 @@ pub fn hub_lives_twice(
     ensures only { IfErr result (λ reason. IsOutside reason) }
 {
     hub_lives_are_plain::<Served<ReadCache<MemDisk>, Meta>>();
-    let pool = formatted(alloc, geometry, room)?;
-    let (pool, one) = led(alloc, pool, first, told);
-    let disk = stopped(alloc, pool.disk(), picks)?;
-    let pool = opened(alloc, disk, room)?;
-    let (pool, two) = led(alloc, pool, second, told_again);
-    let disk = stopped(alloc, pool.disk(), last_picks)?;
+    let (one, disk) = first_life(alloc, geometry, room, first, picks, told)?;
+    let (two, disk) = next_life(alloc, disk, room, second, last_picks, told_again)?;
     Ok((one, two, disk))
 }
 
@@ -134,6 +212,17 @@ fn not_made(refusal: Refusal) -> CheckError
         Refusal::Fault => CheckError::Fault,
         _ => CheckError::Memory,
     }
+}
+
+/// How much was taken, where the disk that was left then is found clean.
+fn taken_if_clean(alloc: Global, ran: Ran, disk: MemDisk) -> Result<Ran, CheckError>
+    requires honest { IsTrue (mem_state disk).is_honest }
+    requires left { IsLeftUnder geometry_of StandsFor marks_of room_of changed_of (seen (mem_state disk).cells) }
+    ensures { IfErr result (λ e. (e ≡ CheckError.Fault) ⊎ (e ≡ CheckError.Memory)) }
+{
+    let mut disk = disk;
+    check_left_under::<Meta, MemDisk>(alloc, &mut disk)?;
+    Ok(ran)
 }
 
 /// A hub on caches over a new disk in memory takes events, and is stopped in a way of one's choice; then what that left is checked: it is clean, or the
@@ -149,16 +238,8 @@ pub fn hub_leaves_a_clean_image(
     requires { All (λ e. session_of e < 64) events.now }
     ensures { IfErr result (λ e. (e ≡ CheckError.Fault) ⊎ (e ≡ CheckError.Memory)) }
 {
-    let pool = match formatted(alloc, geometry, room) {
-        Ok(pool) => pool,
-        Err(refusal) => return Err(not_made(refusal)),
-    };
-    let (pool, ran) = led(alloc, pool, events, out);
-    pool.facts();
-    let mut disk = match stopped(alloc, pool.disk(), picks) {
-        Ok(disk) => disk,
-        Err(refusal) => return Err(not_made(refusal)),
-    };
-    check_left_under::<Meta, MemDisk>(alloc, &mut disk)?;
-    Ok(ran)
+    match first_life(alloc, geometry, room, events, picks, out) {
+        Ok((ran, disk)) => taken_if_clean(alloc, ran, disk),
+        Err(refusal) => Err(not_made(refusal)),
+    }
 }

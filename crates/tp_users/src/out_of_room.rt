@@ -31,6 +31,27 @@ fn is_read_only(found: Mode) -> bool
     }
 }
 
+/// Asks a pool for a volume: the disk that is left of it where the volume was refused for want of metadata room, and it is stopped then, in a way of
+/// one's choice.
+fn leave_short_pool(
+    alloc: Global,
+    pool: &mut Pool<MemDisk, Meta>,
+    created: DevId,
+    picks: &[u64],
+) -> Result<Option<MemDisk>, Refusal>
+    ensures { IfOk result (λ left. IfSome left (λ disk. (s : PlainPool) → shows geometry_of StandsFor pool.old s → IsKept (short s) (mem_state disk))) }
+{
+    let answer = pool.create_thin(created);
+    if !lacks_metadata(&answer) {
+        return Ok(None);
+    }
+    picks_are_stops();
+    match pool.disk().stop(alloc, picks) {
+        Ok(disk) => Ok(Some(disk)),
+        Err(_) => Err(Refusal::Memory),
+    }
+}
+
 /// Asks a pool for a volume, and stops it in a way of one's choice: the disk that is left, where the volume was refused for want of metadata
 /// room. It holds what was kept then: the same pool, which wants a check.
 pub fn stop_short_pool(
@@ -42,15 +63,7 @@ pub fn stop_short_pool(
     ensures { IfOk result (λ left. IfSome left (λ disk. (s : PlainPool) → shows geometry_of StandsFor pool s → IsKept (short s) (mem_state disk))) }
 {
     let mut pool = pool;
-    let answer = pool.create_thin(created);
-    if !lacks_metadata(&answer) {
-        return Ok(None);
-    }
-    picks_are_stops();
-    match pool.disk().stop(alloc, picks) {
-        Ok(disk) => Ok(Some(disk)),
-        Err(_) => Err(Refusal::Memory),
-    }
+    leave_short_pool(alloc, &mut pool, created, picks)
 }
 
 /// Takes the disk out of a pool, which is to be read-only.

@@ -1,18 +1,38 @@
 //! A snapshot keeps its bytes.
 ghost use Rattle.std.specs.Prelude.{◌≡◌, ◌+◌, ◌/◌, ◌%◌, ◌≤◌, List, ℕ, IfOk, OnOk, length};
 ghost use Rattle.tp_model.specs.Pool.{PlainPool};
-ghost use Rattle.tp_model.specs.PoolStops.{reopened};
+ghost use Rattle.tp_disk.specs.Memory.{mem_state};
 ghost use Rattle.tp_meta.specs.Standing.{StandsFor, geometry_of};
 ghost use Rattle.tp_pool.specs.Held.{shows};
-ghost use Rattle.tp_users.specs.Users.{Bears, users_geometry};
+ghost use Rattle.tp_users.specs.Users.{Bears, IsKept, users_geometry};
 
 use crate::blank::written_pool;
-use crate::kept::{flush_and_stop, open_again};
+use crate::kept::{flush_and_leave, open_again};
 use std::alloc::Global;
 use tp_disk::MemDisk;
 use tp_meta::Meta;
 use tp_model::{DevId, Refusal};
 use tp_pool::Pool;
+
+/// Makes a snapshot of a volume, and then writes other bytes to the volume.
+fn part(
+    pool: &mut Pool<MemDisk, Meta>,
+    origin: DevId,
+    copy: DevId,
+    sector: u64,
+    second: &[u8],
+) -> Result<(), Refusal>
+    requires geometry { geometry_of pool.old.metadata ≡ users_geometry }
+    requires whole { length second.now % 512 ≡ 0 }
+    requires range { sector + length second.now / 512 ≤ 2048 }
+    ensures shows { OnOk result ((first : List ℕ) → length second.now ≡ length first → (s : PlainPool) → Bears origin sector first s → shows geometry_of StandsFor pool.old s
+        → (after : PlainPool) × Bears origin sector second.now after × Bears copy sector first after × shows geometry_of StandsFor pool.new after) }
+    ensures geometry { OnOk result (geometry_of pool.new.metadata ≡ users_geometry) }
+{
+    pool.create_snap(copy, origin)?;
+    pool.write(origin, sector, second, false)?;
+    Ok(())
+}
 
 /// A pool in memory with a volume, and a snapshot of it from before other bytes were written to it.
 fn parted_pool(
@@ -30,21 +50,8 @@ fn parted_pool(
     ensures geometry { IfOk result (λ pool. geometry_of pool.metadata ≡ users_geometry) }
 {
     let mut pool = written_pool(alloc, origin, sector, first)?;
-    pool.create_snap(copy, origin)?;
-    pool.write(origin, sector, second, false)?;
+    part(&mut pool, origin, copy, sector, second)?;
     Ok(pool)
-}
-
-/// Flushes a pool, stops it in a way of one's choice, and opens it again.
-pub(crate) fn stop_and_open(
-    alloc: Global,
-    pool: Pool<MemDisk, Meta>,
-    picks: &[u64],
-) -> Result<Pool<MemDisk, Meta>, Refusal>
-    ensures { IfOk result (λ again. (s : PlainPool) → shows geometry_of StandsFor pool s → shows geometry_of StandsFor again (reopened s)) }
-{
-    let disk = flush_and_stop(alloc, pool, picks)?;
-    open_again(alloc, disk)
 }
 
 /// Reads the same sectors of two volumes.
@@ -69,6 +76,75 @@ fn read_both(
     pool.read(origin, sector, of_origin)?;
     pool.read(copy, sector, of_copy)?;
     Ok(())
+}
+
+/// Reads the same sectors of two volumes, and flushes the pool: the disk that is left of it where it is stopped then, in a way of one's choice.
+fn read_and_leave(
+    alloc: Global,
+    pool: &mut Pool<MemDisk, Meta>,
+    origin: DevId,
+    copy: DevId,
+    sector: u64,
+    of_origin: &mut [u8],
+    of_copy: &mut [u8],
+    picks: &[u64],
+) -> Result<MemDisk, Refusal>
+    requires geometry { geometry_of pool.old.metadata ≡ users_geometry }
+    requires whole { length of_origin.old % 512 ≡ 0 }
+    requires range { sector + length of_origin.old / 512 ≤ 2048 }
+    requires same { length of_copy.old ≡ length of_origin.old }
+    ensures { IfOk result (λ disk. (s : PlainPool) (first second : List ℕ) → shows geometry_of StandsFor pool.old s → Bears origin sector second s → Bears copy sector first s
+        → length second ≡ length of_origin.old → length first ≡ length of_origin.old → (of_origin.new ≡ second) × (of_copy.new ≡ first) × IsKept s (mem_state disk)) }
+{
+    read_both(pool, origin, copy, sector, of_origin, of_copy)?;
+    flush_and_leave(alloc, pool, picks)
+}
+
+/// The disk that is left of a pool in memory with a volume and a snapshot of it from before other bytes were written to it, of which both were read.
+fn parted_disk(
+    alloc: Global,
+    origin: DevId,
+    copy: DevId,
+    sector: u64,
+    first: &[u8],
+    second: &[u8],
+    picks: &[u64],
+    of_origin: &mut [u8],
+    of_copy: &mut [u8],
+) -> Result<MemDisk, Refusal>
+    requires whole { length first.now % 512 ≡ 0 }
+    requires range { sector + length first.now / 512 ≤ 2048 }
+    requires same { length second.now ≡ length first.now }
+    requires of_origin { length of_origin.old ≡ length first.now }
+    requires of_copy { length of_copy.old ≡ length first.now }
+    ensures before { IfOk result (λ disk. (of_origin.new ≡ second.now) × (of_copy.new ≡ first.now)) }
+    ensures kept { IfOk result (λ disk. (s : PlainPool) × Bears origin sector second.now s × Bears copy sector first.now s × IsKept s (mem_state disk)) }
+{
+    let mut pool = parted_pool(alloc, origin, copy, sector, first, second)?;
+    read_and_leave(
+        alloc, &mut pool, origin, copy, sector, of_origin, of_copy, picks,
+    )
+}
+
+/// Opens a pool that was kept, and reads the same sectors of two volumes of it.
+fn open_and_read(
+    alloc: Global,
+    disk: MemDisk,
+    origin: DevId,
+    copy: DevId,
+    sector: u64,
+    of_origin: &mut [u8],
+    of_copy: &mut [u8],
+) -> Result<(), Refusal>
+    requires kept { (s : PlainPool) × (bytes : List ℕ) × Bears origin sector bytes s × IsKept s (mem_state disk) }
+    requires whole { length of_origin.old % 512 ≡ 0 }
+    requires range { sector + length of_origin.old / 512 ≤ 2048 }
+    requires same { length of_copy.old ≡ length of_origin.old }
+    ensures { OnOk result ((s : PlainPool) (first second : List ℕ) → IsKept s (mem_state disk) → Bears origin sector second s → Bears copy sector first s
+        → length second ≡ length of_origin.old → length first ≡ length of_origin.old → (of_origin.new ≡ second) × (of_copy.new ≡ first)) }
+{
+    let mut pool = open_again(alloc, disk)?;
+    read_both(&mut pool, origin, copy, sector, of_origin, of_copy)
 }
 
 /// A snapshot keeps the bytes that its origin had: bytes are written to a blank volume, a snapshot of it is made, and other bytes are
@@ -98,9 +174,8 @@ pub fn snapshot_keeps_its_bytes(
     ensures before { OnOk result ((of_origin.new ≡ second.now) × (of_copy.new ≡ first.now)) }
     ensures again { OnOk result ((origin_again.new ≡ second.now) × (copy_again.new ≡ first.now)) }
 {
-    let mut pool = parted_pool(alloc, origin, copy, sector, first, second)?;
-    read_both(&mut pool, origin, copy, sector, of_origin, of_copy)?;
-    let mut pool = stop_and_open(alloc, pool, picks)?;
-    read_both(&mut pool, origin, copy, sector, origin_again, copy_again)?;
-    Ok(())
+    let disk = parted_disk(
+        alloc, origin, copy, sector, first, second, picks, of_origin, of_copy,
+    )?;
+    open_and_read(alloc, disk, origin, copy, sector, origin_again, copy_again)
 }

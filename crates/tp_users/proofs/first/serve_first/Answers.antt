@@ -1,12 +1,10 @@
-use Rattle.std.proofs.Common.{◌≡◌, ℕ, ◌<◌, List, [], ◌++◌, length, sym, subst, ap, arith}
+use Rattle.std.proofs.Common.{◌≡◌, ℕ, ◌<◌, List, [], ◌++◌, length, refl, subst, ap, arith}
 use Rattle.tp_model.specs.Pool.{PlainPool, hold_total}
 use Rattle.nbd_session.specs.declared.phase.Phase.TheVariants.{Flags}
 use Rattle.nbd_session.specs.declared.phase.Profile.TheVariants.{Strict}
 use Rattle.nbd_session.specs.Session.{State, state}
-use Rattle.nbd_session.specs.Clauses.{IsReady}
 use Rattle.nbd_session.specs.Talk.{Converses, Talks}
-use Rattle.tp_meta.specs.Standing.{geometry_of}
-use Rattle.tp_pool.specs.Held.{HasUse, more_held, outline}
+use Rattle.tp_pool.specs.Held.{HasUse}
 use Rattle.tp_holders.specs.Holders.{Holding, holds_of}
 use Rattle.tp_holders.proofs.Rows.{total_is}
 use Rattle.tp_users.specs.First.{Counted, CountedCall, FirstIsAnswered, IsFirstAnswer, counted, first_text, outline_of_counted}
@@ -26,13 +24,12 @@ answered payload text before after s was failures c old new law long is blank bo
     let first = law payload talk.0 (counted s was) c new long blank bounded (subst (λ (x : List ℕ). Talks outline_of_counted CountedCall (Flags Strict) x (counted s was) talk.0 new c) is talks) in
     (talk.0, talk.1, subst (λ n. IsFirstAnswer payload (0 < n) talk.0) same (subst (λ n. IsFirstAnswer payload (n < c.failures) talk.0) none first))
 
-pub converse-requires : goal.converse-requires
-converse-requires c =
-    subst (λ (t : State). IsReady t.phase (outline geometry_of c.in_ok-pool.pool) (λ id. more_held (geometry_of c.in_ok-pool.pool.metadata) c.in_ok-pool.pool.holders id)) (sym c.in_ok-session.ensures.opened) (none_held c.in_ok-pool.pool.holders c.in_ok-pool.ensures.holders)
+pub converse_anew-requires : goal.converse_anew-requires
+converse_anew-requires c = none_held c.in_ok-pool.pool.holders c.in_ok-pool.ensures.holders
 
 pub returns-clause-answered : goal.returns-clause-answered
 returns-clause-answered c = λ payload long is.
     let w = c.in_ok-pool.ensures.shows in
-    let talk = c.in_ok-converse.ensures.talks w.0 w.2 in
-    answered payload c.args.text.now c.args.out.now.items c.converse.new.out.items w.0 c.in_ok-pool.pool.disk.failures c.converse.new.pool.disk.failures talk.0 c.in_ok-session.session c.converse.new.session c.first_session_is_answered.ensures long is
-    (subst (λ (n : ℕ). IsBlank n w.0) c.new.ensures w.1) (c.images_use_bounded_metadata.ensures.shown c.in_ok-pool.pool w.0 w.2) c.in_ok-session.ensures.opened talk.1 c.in_ok-pool.ensures.failures talk.2
+    let talk = c.in_ok-converse_anew.ensures.talks w.0 w.2 in
+    answered payload c.args.text.now c.args.out.now.items c.converse_anew.new.out.items w.0 c.in_ok-pool.pool.disk.failures c.converse_anew.new.pool.disk.failures talk.1 (state (Flags Strict) []) talk.0 c.first_session_is_answered.ensures long is
+    (subst (λ (n : ℕ). IsBlank n w.0) c.new.ensures w.1) (c.images_use_bounded_metadata.ensures.shown c.in_ok-pool.pool w.0 w.2) refl talk.2 c.in_ok-pool.ensures.failures talk.3

@@ -1,9 +1,6 @@
-use Rattle.std.proofs.Common.{rules, ◌<◌, ◌^◌}
-use Rattle.tp_users.proofs.Freeing.{held_shown}
 use Rattle.tp_users.proofs.held.held_pool.Goals as goal
 
 pub returns-clause-shows : goal.returns-clause-shows
 returns-clause-shows c =
-    let low : c.args.id < 2 ^ 24 = search rules in
-    held_shown c.in_ok-pool.pool c.write.new.self c.reserve_metadata_snap.new.self c.write-2.new.self c.args.id c.args.sector c.args.first.now c.args.second.now low
-    c.in_ok-pool.ensures.shows c.requires.range c.requires.same c.in_ok-write.ensures.called c.in_ok-reserve_metadata_snap.ensures.called c.in_ok-write-2.ensures.called
+    let w = c.in_ok-pool.ensures.shows in
+    c.in_ok-hold_between.ensures.shows w.0 w.1 w.2
