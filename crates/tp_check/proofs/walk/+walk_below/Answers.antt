@@ -1,4 +1,4 @@
-use Rattle.std.proofs.Common.{◌≡◌, ℕ, List, ◌<◌, Bool, false, Some, get_or, length, refl, sym, ap, ◌∙◌, subst, arith}
+use Rattle.std.proofs.Common.{rules, ◌≡◌, ℕ, List, ◌<◌, Bool, false, Some, get_or, length, refl, sym, ap, ◌∙◌, subst, arith}
 use Rattle.std.specs.Prelude.{if◌then◌else◌, not, slice_get}
 use Rattle.std.proofs.lemmas.Option.{slice_get-get_or}
 use Rattle.std.proofs.lemmas.Result.{err_from_is_err_and}
@@ -17,6 +17,9 @@ use Rattle.tp_check.proofs.Walking.{child_begun, child_fault, inner_place, node_
 use Rattle.tp_check.proofs.walk.+walk_below.Given.{Over}
 use Rattle.tp_check.proofs.walk.+walk_below.Goals as goal
 use Rattle.tp_check.proofs.walk.+walk_below.Goals.{After-demand_under-child}
+
+pub returns-in-Some-clause-comes : goal.returns-in-Some-clause-comes
+returns-in-Some-clause-comes g t c = search rules
 
 pub returns-in_err-node-clause-state : goal.returns-in_err-node-clause-state
 returns-in_err-node-clause-state g t c =
