@@ -18,13 +18,9 @@ use Rattle.tp_model.proofs.Maps.{both_hold, found_first}
 use Rattle.tp_listings.specs.Looks.{ShowsStill}
 use Rattle.tp_listings.specs.Owned.{IsMarked, IsNext}
 use Rattle.tp_listings.specs.Refusing.{IsRefusal, IsRefusalOfAll}
-use Rattle.tp_listings.proofs.Looked.{blocks_still, sized}
+use Rattle.tp_listings.proofs.Looked.{blocks_still, is_refused, reason_in, sized}
 
 -- ---- the call
-
-is_refused : Answer → Bool
-is_refused (Refused reason) = true
-is_refused answer = false
 
 found_in : Answer → Option ℕ
 found_in (Found id) = id
@@ -170,10 +166,6 @@ next_volume view old one two s from asked id blocks mapped mine number o owners 
     )
 
 -- ---- refusals
-
-reason_in : Answer → Refusal
-reason_in (Refused reason) = reason
-reason_in answer = Memory
 
 refused_by : (s after : PlainPool) (told : Answer) (a : Bool) (reason : Refusal) → is_refused told ≡ false
     → MatchOption (first_failed ((a, Failed) ∷ [])) ((Refused reason ≡ told) × (after ≡ s)) (λ r. (Refused reason ≡ Refused r) × (after ≡ after_refusal r s)) → first_failed ((a, Failed) ∷ []) ≡ Some reason

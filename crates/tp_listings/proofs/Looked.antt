@@ -82,7 +82,7 @@ same_after s after answer listed true b h = h.1
 same_after s after answer listed false true h = h.1
 same_after s after answer listed false false h = h.1
 
-is_refused : Answer → Bool
+unfoldable pub is_refused : Answer → Bool
 is_refused (Refused reason) = true
 is_refused answer = false
 
@@ -161,7 +161,8 @@ lacks_as {D} {A} {C} view old new a given r is memory h =
 
 -- ---- refusals
 
-reason_in : Answer → Refusal
+-- why a call was refused, if it was
+unfoldable pub reason_in : Answer → Refusal
 reason_in (Refused reason) = reason
 reason_in answer = Memory
 

@@ -10,7 +10,7 @@ use Rattle.tp_model.specs.Calls.{Answer, Gave, HeldRead, Refused, Takes, after_r
 use Rattle.tp_model.specs.Clauses.{Meets, View}
 use Rattle.tp_listings.specs.Looks.{LooksOver, ShowsStill}
 use Rattle.tp_listings.specs.Refusing.{IsRefusalOfAll}
-use Rattle.tp_listings.proofs.Looked.{told, was_refused}
+use Rattle.tp_listings.proofs.Looked.{is_refused, reason_in, told, was_refused}
 
 -- the answer by the three tests
 By : PlainPool → PlainPool → Answer → Answer → Bool → Bool → Bool → Type 0
@@ -23,10 +23,6 @@ same_after s after answer gave true b c h = h.1
 same_after s after answer gave false true c h = h.1
 same_after s after answer gave false false true h = h.1
 same_after s after answer gave false false false h = h.1
-
-is_refused : Answer → Bool
-is_refused (Refused reason) = true
-is_refused answer = false
 
 lacks_root : Answer → Bool
 lacks_root (Refused NoHeldRoot) = true
@@ -78,10 +74,6 @@ takes_no_root : (s made after : PlainPool) (id sector count : ℕ) → Takes s (
 unfolding By lacks_root sectors_in
 takes_no_root s made after id sector count (inl step) = no_root s after (sectors_in (reply s (HeldRead id sector count))) (is_failed s.mode) (s.held_root == 0) (not (has_copy s id)) step.0
 takes_no_root s made after id sector count (inr fault) = absurd (false≢true (sym (ap lacks_root fault.0)))
-
-reason_in : Answer → Refusal
-reason_in (Refused reason) = reason
-reason_in answer = Failed
 
 other : (s after : PlainPool) (reason : Refusal) (ys : List Sector) (a b c : Bool) → By s after (Refused reason) (Gave ys) a b c → reason ≢ NoHeldRoot → reason ≢ NoSuchDevice → first_failed ((a, Failed) ∷ []) ≡ Some reason
 unfolding By is_refused reason_in

@@ -19,7 +19,7 @@ use Rattle.serde_json.proofs.Texts.{print-outline}
 use Rattle.serde_json.proofs.OnLiterals.{serde_json_on_literals}
 use Rattle.tp_listings.specs.declared.extent.Extent.{Extent}
 use Rattle.tp_listings.specs.declared.extent.Usage.{Usage}
-use Rattle.tp_texts.specs.Json.{AreExtents, AreUsages, DeltaReadsBack, RunsReadBack, UsagesReadBack, delta_items, exclusive_data, part_data, run_data, runs_items, usage_data, usages_items}
+use Rattle.tp_texts.specs.Json.{DeltaReadsBack, ExtentsFit, RunsReadBack, UsagesFit, UsagesReadBack, delta_items, exclusive_data, part_data, run_data, runs_items, usage_data, usages_items}
 
 -- ---- an array of values that read back, and hold no more than numbers
 
@@ -80,7 +80,7 @@ run_reads base unit first blocks low small near few = record {
     place : base + first * unit < 2 ^ 64
     place = omega (arith, small_size first unit near small, low)
 
-runs_read : (base unit : ℕ) (es : List Extent) → base ≤ 2 ^ 40 → unit ≤ 1048576 → AreExtents es → AllRead (runs_items base unit es)
+runs_read : (base unit : ℕ) (es : List Extent) → base ≤ 2 ^ 40 → unit ≤ 1048576 → ExtentsFit es → AllRead (runs_items base unit es)
 runs_read base unit [] low small are = tt
 runs_read base unit (e ∷ es) low small are = (run_reads base unit e.first e.blocks low small are.0 are.1, runs_read base unit es low small are.2)
 
@@ -116,7 +116,7 @@ hole_reads unit from end ds true small low there all = (part_reads unit false fr
     below = ltb-true from end there
 hole_reads unit from end ds false small low there all = all
 
-delta_read : (unit end from : ℕ) (es : List Extent) → unit ≤ 1048576 → end < 2 ^ 32 → AreExtents es → AllRead (delta_items unit end from es)
+delta_read : (unit end from : ℕ) (es : List Extent) → unit ≤ 1048576 → end < 2 ^ 32 → ExtentsFit es → AllRead (delta_items unit end from es)
 delta_read unit end from [] small low are = hole_reads unit from end no_items (nat_lt from end) small low refl tt
 delta_read unit end from (e ∷ es) small low are =
     hole_reads unit from e.first (item (part_data unit true e.first e.blocks) (delta_items unit end (e.first + e.blocks) es)) (nat_lt from e.first) small are.0 refl
@@ -158,7 +158,7 @@ usage_reads unit is_held u small id blocks mapped exclusive = record {
     size : (n : ℕ) → n < 2 ^ 32 → n * unit < 2 ^ 64
     size n few = omega (arith, small_size n unit few small)
 
-usages_read : (unit : ℕ) (is_held : Bool) (us : List Usage) → unit ≤ 1048576 → AreUsages us → AllRead (usages_items unit is_held us)
+usages_read : (unit : ℕ) (is_held : Bool) (us : List Usage) → unit ≤ 1048576 → UsagesFit us → AllRead (usages_items unit is_held us)
 usages_read unit is_held [] small are = tt
 usages_read unit is_held (u ∷ us) small are = (usage_reads unit is_held u small are.0 are.1 are.2 are.3, usages_read unit is_held us small are.4)
 

@@ -59,19 +59,19 @@ usages_json unit is_held us = compact_text (array (usages_items unit is_held us)
 
 -- ---- the texts read back as what was listed, with numbers as the program has them: 32 bits, a unit of 1 MiB at most
 
-abbrev pub AreExtents : List Extent → Type 0
-AreExtents [] = Unit {0}
-AreExtents (e ∷ es) = (e.first < 2 ^ 32) × (e.blocks < 2 ^ 32) × AreExtents es
+abbrev pub ExtentsFit : List Extent → Type 0
+ExtentsFit [] = Unit {0}
+ExtentsFit (e ∷ es) = (e.first < 2 ^ 32) × (e.blocks < 2 ^ 32) × ExtentsFit es
 
 abbrev pub RunsReadBack : Type 0
-RunsReadBack = (base unit : ℕ) (es : List Extent) → base ≤ 2 ^ 40 → unit ≤ 1048576 → AreExtents es → read (runs_json base unit es) ≡ Some (array (runs_items base unit es))
+RunsReadBack = (base unit : ℕ) (es : List Extent) → base ≤ 2 ^ 40 → unit ≤ 1048576 → ExtentsFit es → read (runs_json base unit es) ≡ Some (array (runs_items base unit es))
 
 abbrev pub DeltaReadsBack : Type 0
-DeltaReadsBack = (unit end : ℕ) (es : List Extent) → unit ≤ 1048576 → end < 2 ^ 32 → AreExtents es → read (delta_json unit end es) ≡ Some (array (delta_items unit end 0 es))
+DeltaReadsBack = (unit end : ℕ) (es : List Extent) → unit ≤ 1048576 → end < 2 ^ 32 → ExtentsFit es → read (delta_json unit end es) ≡ Some (array (delta_items unit end 0 es))
 
-abbrev pub AreUsages : List Usage → Type 0
-AreUsages [] = Unit {0}
-AreUsages (u ∷ us) = (u.id < 2 ^ 32) × (u.blocks < 2 ^ 32) × (u.mapped < 2 ^ 32) × (u.exclusive < 2 ^ 32) × AreUsages us
+abbrev pub UsagesFit : List Usage → Type 0
+UsagesFit [] = Unit {0}
+UsagesFit (u ∷ us) = (u.id < 2 ^ 32) × (u.blocks < 2 ^ 32) × (u.mapped < 2 ^ 32) × (u.exclusive < 2 ^ 32) × UsagesFit us
 
 abbrev pub UsagesReadBack : Type 0
-UsagesReadBack = (unit : ℕ) (is_held : Bool) (us : List Usage) → unit ≤ 1048576 → AreUsages us → read (usages_json unit is_held us) ≡ Some (array (usages_items unit is_held us))
+UsagesReadBack = (unit : ℕ) (is_held : Bool) (us : List Usage) → unit ≤ 1048576 → UsagesFit us → read (usages_json unit is_held us) ≡ Some (array (usages_items unit is_held us))
