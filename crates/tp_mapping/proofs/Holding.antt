@@ -38,7 +38,7 @@ none_some a x e f = cc
 
 -- ---- sizes
 
-if_most : (b : Bool) (x y n : ℕ) → x ≤ n → y ≤ n → (if b then x else y) ≤ n
+pub if_most : (b : Bool) (x y n : ℕ) → x ≤ n → y ≤ n → (if b then x else y) ≤ n
 if_most true x y n p q = p
 if_most false x y n p q = q
 
@@ -56,12 +56,6 @@ for_more g blocks n le = go (blocks == g.virtual_blocks) refl where
     by : (z : Bool) → (blocks == 0) ≡ z → n ≤ (if z then g.virtual_blocks else blocks)
     by true f = let q : blocks ≡ 0 = eqb-true blocks 0 f in omega (arith, le, q)
     by false f = le
-
-pub for_most : (g : Geometry) (blocks most : ℕ) → g.virtual_blocks ≤ most → blocks ≤ most → told_blocks g (size_for g blocks) ≤ most
-for_most g blocks most own le = go (blocks == g.virtual_blocks) where
-  go : (b : Bool) → told_blocks g (if b then 0 else blocks) ≤ most
-  go true = own
-  go false = if_most (blocks == 0) g.virtual_blocks blocks most own le
 
 -- the sizes are the same, and the counts of the last commit
 pub record SameCommit (t u : Tm) : Type 0 where

@@ -1,12 +1,8 @@
-pub mod Ranks
-pub mod Changing
 pub mod Uses
 pub mod Within
 pub mod Filling
 pub mod Tops
 pub mod Used
-pub mod Stands
-pub mod Frees
 pub mod Rooted
 pub mod Holding
 pub mod Copies

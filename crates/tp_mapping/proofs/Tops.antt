@@ -1,5 +1,5 @@
 -- The greatest virtual block of a device's slots is that of the last one.
-use Rattle.std.proofs.Common.{◌≡◌, ◌≢◌, subst, ℕ, zero, suc, ◌+◌, ◌≤◌, List, [], ◌∷◌, length, get_or, refl, sym, ap, ◌∙◌, arith, inl, inr, Some, None}
+use Rattle.std.proofs.Common.{◌≡◌, ◌≢◌, subst, ℕ, suc, ◌≤◌, List, [], ◌∷◌, refl, sym, ap, ◌∙◌, arith, inl, inr, Some, None}
 use Rattle.std.specs.Prelude.{IsSome, Option}
 use Rattle.std.proofs.lemmas.Bool.{cases_eq, false≢true}
 use Rattle.tp_sharing.specs.Volumes.{BlockSlot, SlotsAscend, Volumes, device_of, place_in, place_or_none}
@@ -7,13 +7,6 @@ use Rattle.tp_sharing.proofs.Lists.{some_eq}
 use Rattle.tp_mapping.specs.Mapping.{IsHighest, slots_or_none}
 use Rattle.tp_sharing.proofs.Slots.{place_here, place_later}
 use Rattle.tp_mapping.specs.Slots.{last_block}
-
-pub last_at : (d : BlockSlot) (xs : List BlockSlot) (i : ℕ) → i + 1 ≡ length xs → last_block xs ≡ Some (get_or xs i d).block
-last_at d [] i h = absurd (omega (arith, h))
-last_at d (x ∷ []) zero h = refl
-last_at d (x ∷ []) (suc i) h = absurd (omega (arith, h))
-last_at d (x ∷ y ∷ ys) zero h = absurd (omega (arith, h))
-last_at d (x ∷ y ∷ ys) (suc i) h = last_at d (y ∷ ys) i (omega (arith, h))
 
 abbrev TopOf : List BlockSlot → Option ℕ → Type 0
 TopOf xs None = (b : ℕ) → place_in b xs ≡ None

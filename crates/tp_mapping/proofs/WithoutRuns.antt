@@ -1,6 +1,6 @@
 -- Slots of a run of virtual blocks are taken, one after another.
-use Rattle.std.proofs.Common.{◌≡◌, ℕ, zero, suc, ◌+◌, ◌<◌, ◌≤◌, List, [], ◌∷◌, Option, None, Some, Result, Ok, Err, false, refl, sym, ap, ◌∙◌, arith, inl, inr}
-use Rattle.std.specs.Prelude.{IfErr, OnOk, is_some, ◌-◌}
+use Rattle.std.proofs.Common.{◌≡◌, ℕ, zero, suc, ◌+◌, ◌<◌, ◌≤◌, List, [], ◌∷◌, Option, None, Some, false, refl, sym, ap, ◌∙◌, arith, inl, inr}
+use Rattle.std.specs.Prelude.{is_some, ◌-◌}
 use Rattle.std.specs.Option.{option_map}
 use Rattle.std.proofs.lemmas.Bool.{cases_eq, false≢true}
 use Rattle.std.proofs.lemmas.Option.{none-some}
@@ -63,11 +63,6 @@ without_slot_absent id block ds none = changed_same id (without_place block) ds 
 
 -- ---- one more
 
-pub run_next : (id first n b : ℕ) (ds : Volumes) → b ≡ first + n → without_slot id b (without_run id first n ds) ≡ without_run id first (n + 1) ds
-run_next id first n b ds e =
-    let q : suc n ≡ n + 1 = omega arith in
-    ap (λ x. without_slot id x (without_run id first n ds)) e ∙ ap (λ k. without_run id first k ds) q
-
 pub places_next : (first n b : ℕ) (xs : List BlockSlot) → b ≡ first + n → without_place b (without_places first n xs) ≡ without_places first (n + 1) xs
 places_next first n b xs e =
     let q : suc n ≡ n + 1 = omega arith in
@@ -95,10 +90,6 @@ within_run g id first zero ds w = w
 within_run g id first (suc n) ds w = within_without_slot g (without_run id first n ds) (within_run g id first n ds w) id (first + n)
 
 -- ---- an answer that is no error
-
-pub always_ok : {T E P : Type 0} (Q : E → Type 0) (r : Result T E) → OnOk r P → IfErr r Q → ((e : E) → Q e → ⊥) → P
-always_ok Q (Ok x) p q never = p
-always_ok Q (Err e) p q never = absurd (never e q)
 
 pub none_when : {A : Type 0} (o : Option A) → is_some o ≡ false → o ≡ None
 none_when None e = refl

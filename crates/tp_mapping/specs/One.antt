@@ -18,9 +18,7 @@ use Rattle.tp_sharing.proofs.Changed.{kept_devices}
 use Rattle.tp_sharing.proofs.Later.{volumes_are_live}
 use Rattle.tp_stored.specs.Commit.{fixed_blocks, held_by}
 use Rattle.tp_tm.specs.Holds.{IsSpelled}
-use Rattle.tp_mapping.specs.Standing.{StandsFor}
 use Rattle.tp_mapping.specs.Trees.{StandForVolumes}
-use Rattle.tp_mapping.specs.declared.list.ListMapping.{ListMapping}
 use Rattle.tp_mapping.specs.declared.trees.TreeMapping.{TreeMapping}
 
 -- ---- trees of two stores
@@ -98,6 +96,3 @@ trees_stand_for_one m disk now kept next last a b =
     copies_alike a.store b.store held (fixed_blocks g) (2 ^ 24) a.sound.balanced alike m.tm.held_root
     (λ r here. omega (arith, here, occurrences-append r (held_refs m.tm.held_root) (fixed_blocks g))) a.sound.copy b.sound.copy g.metadata_blocks in
     b.listed ∙ ((λ i. now_same i ++ copies_same i) ∙ sym a.listed)
-
-pub list_stands_for_one : (m : ListMapping) (now kept next last : Volumes) → StandsFor m now kept → StandsFor m next last → next ≡ now
-list_stands_for_one m now kept next last a b = b.listed ∙ sym a.listed

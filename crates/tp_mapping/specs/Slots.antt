@@ -1,11 +1,6 @@
 -- Trusted reading: slots in a row, by place (own).
-use Rattle.std.specs.Prelude.{ℕ, suc, Bool, false, not, ◌==◌, ◌&&◌, ◌||◌, List, Option, None, Some, [], ◌∷◌, nat_lt, if◌then◌else◌}
+use Rattle.std.specs.Prelude.{ℕ, Bool, false, not, ◌==◌, ◌&&◌, ◌||◌, List, Option, None, Some, [], ◌∷◌}
 use Rattle.tp_sharing.specs.Volumes.{BlockSlot, Volumes}
-
--- how many slots stand before the first one with this virtual block or a greater one
-abbrev pub rank_in : ℕ → List BlockSlot → ℕ
-rank_in block [] = 0
-rank_in block (x ∷ xs) = if nat_lt x.block block then suc (rank_in block xs) else 0
 
 -- whether a slot has this data block
 abbrev pub has_place : ℕ → List BlockSlot → Bool

@@ -4,17 +4,14 @@
 //! lists: a slot is a virtual block that has a data block, and two slots with one data block share it.
 #![tactic(auto)]
 
-mod device;
 mod emptying;
 mod forest;
 mod held_runs;
-mod list;
 mod mapped;
 mod mapping;
 mod reserving;
 mod runs;
 mod sizes;
-mod slots;
 mod tree_changes;
 mod tree_mapping;
 mod tree_next;
@@ -23,7 +20,6 @@ mod tree_runs;
 mod trees;
 mod volume;
 
-pub use list::ListMapping;
 pub use mapped::Mapped;
 pub use mapping::{MOST_RUN, Mapping};
 pub use trees::TreeMapping;

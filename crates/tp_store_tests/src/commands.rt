@@ -6,7 +6,8 @@ ghost use Rattle.tp_model.specs.Geometry.{sectors_of_image};
 use crate::guarded::told_of_disk;
 use std::alloc::Global;
 use tp_disk::{Disk, MemDisk};
-use tp_mapping::{ListMapping, Mapped, Mapping, TreeMapping};
+use tp_list_mapping::ListMapping;
+use tp_mapping::{Mapped, Mapping, TreeMapping};
 use tp_meta::format;
 use tp_model::{DevId, Geometry, Mb, Pb, Refusal, Vb};
 

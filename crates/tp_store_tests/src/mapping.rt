@@ -5,7 +5,8 @@ use crate::guarded::told_of_disk;
 use arrayvec::ArrayVec;
 use std::alloc::Global;
 use tp_disk::{Disk, MemDisk};
-use tp_mapping::{ListMapping, Mapped, Mapping, TreeMapping};
+use tp_list_mapping::ListMapping;
+use tp_mapping::{Mapped, Mapping, TreeMapping};
 use tp_meta::format;
 use tp_model::{DevId, Geometry, Mb, Pb, Refusal, Vb};
 

@@ -1,0 +1,9 @@
+mod Ranks
+mod Changing
+mod Within
+mod Filling
+mod Tops
+mod Holding
+mod WithoutRuns
+mod Stands
+mod Frees

@@ -1,0 +1,4 @@
+pub mod Slots
+pub mod List
+pub mod Standing
+pub mod One
