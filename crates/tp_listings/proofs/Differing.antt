@@ -11,11 +11,11 @@ use Rattle.tp_listings.specs.Seeking.{IsFirst, IsPushed, IsUpTo, Reads, block_of
 use Rattle.tp_listings.proofs.Mapped.{later_reads}
 use Rattle.tp_listings.proofs.Runs.{more, none, same}
 
-up_to : (found : Option BlockSlot) (q : ℕ) → q ≤ block_of found → IsUpTo found q
+pub up_to : (found : Option BlockSlot) (q : ℕ) → q ≤ block_of found → IsUpTo found q
 up_to None q le = tt
 up_to (Some x) q le = le
 
-told_before : (found : Option BlockSlot) (q : ℕ) → q < block_of found → told found q ≡ None
+pub told_before : (found : Option BlockSlot) (q : ℕ) → q < block_of found → told found q ≡ None
 told_before None q lt = refl
 told_before (Some x) q lt = ap (λ b. if b then Some x.place else None) (ne_eqb x.block q (λ e. omega (arith, e, lt)))
 

@@ -49,12 +49,12 @@ none_before k q (x ∷ xs) h lt =
     found_behind q x xs (λ e. omega (arith, e, more, lt)) ∙ none_before k q xs parts.1 lt
 
 -- nor what is behind them
-none_behind : (q : ℕ) (xs : List (ℕ × ℕ)) → ((i : ℕ) (x : ℕ × ℕ) → slice_get xs i ≡ Some x → x.0 < q) → find nat_cmp q xs ≡ None
+pub none_behind : (q : ℕ) (xs : List (ℕ × ℕ)) → ((i : ℕ) (x : ℕ × ℕ) → slice_get xs i ≡ Some x → x.0 < q) → find nat_cmp q xs ≡ None
 none_behind q [] h = refl
 none_behind q (x ∷ xs) h = let l = h 0 x refl in found_behind q x xs (λ e. omega (arith, e, l)) ∙ none_behind q xs (λ i y e. h (suc i) y e)
 
 -- behind the keys that are before it the next one is found where it is the same
-found_next : (i q : ℕ) (xs : List (ℕ × ℕ)) (x : ℕ × ℕ) → T (is_sorted nat_cmp xs) → ((j : ℕ) (y : ℕ × ℕ) → j < i → slice_get xs j ≡ Some y → y.0 < q) → slice_get xs i ≡ Some x → q ≤ x.0
+pub found_next : (i q : ℕ) (xs : List (ℕ × ℕ)) (x : ℕ × ℕ) → T (is_sorted nat_cmp xs) → ((j : ℕ) (y : ℕ × ℕ) → j < i → slice_get xs j ≡ Some y → y.0 < q) → slice_get xs i ≡ Some x → q ≤ x.0
     → find nat_cmp q xs ≡ (if x.0 == q then Some x.1 else None)
 found_next i q [] x s before e h = absurd (none-some x e)
 found_next zero q (y ∷ ys) x s before e h =
@@ -99,12 +99,12 @@ at_place [] i lt = absurd (omega (arith, lt))
 at_place (x ∷ xs) zero lt = (x, refl)
 at_place (x ∷ xs) (suc i) lt = at_place xs i (omega (arith, lt))
 
-no_place : {A : Type 0} (xs : List A) (i : ℕ) → slice_get xs i ≡ None → length xs ≤ i
+pub no_place : {A : Type 0} (xs : List A) (i : ℕ) → slice_get xs i ≡ None → length xs ≤ i
 no_place [] i e = omega arith
 no_place (x ∷ xs) zero e = absurd (none-some x (sym e))
 no_place (x ∷ xs) (suc i) e = let l = no_place xs i e in omega (arith, l)
 
-inside : {A : Type 0} (xs : List A) (i : ℕ) (x : A) → slice_get xs i ≡ Some x → i < length xs
+pub inside : {A : Type 0} (xs : List A) (i : ℕ) (x : A) → slice_get xs i ≡ Some x → i < length xs
 inside [] i x e = absurd (none-some x e)
 inside (y ∷ ys) zero x e = omega arith
 inside (y ∷ ys) (suc i) x e = let l = inside ys i x e in omega (arith, l)
@@ -116,16 +116,16 @@ taken_most (suc n) (x ∷ xs) = let l = taken_most n xs in omega (arith, l)
 
 -- ---- slots as they are listed
 
-listed_length : (xs : List BlockSlot) → length (listed xs) ≡ length xs
+pub listed_length : (xs : List BlockSlot) → length (listed xs) ≡ length xs
 listed_length [] = refl
 listed_length (x ∷ xs) = let e = listed_length xs in omega (arith, e)
 
-listed_at : (xs : List BlockSlot) (i : ℕ) (x : BlockSlot) → slice_get xs i ≡ Some x → slice_get (listed xs) i ≡ Some (x.block, x.place)
+pub listed_at : (xs : List BlockSlot) (i : ℕ) (x : BlockSlot) → slice_get xs i ≡ Some x → slice_get (listed xs) i ≡ Some (x.block, x.place)
 listed_at [] i x e = absurd (none-some x e)
 listed_at (y ∷ ys) zero x e = ap (λ (z : BlockSlot). Some (z.block, z.place)) (same_Some y x e)
 listed_at (y ∷ ys) (suc i) x e = listed_at ys i x e
 
-from_listed : (xs : List BlockSlot) (i : ℕ) (y : ℕ × ℕ) → slice_get (listed xs) i ≡ Some y → (x : BlockSlot) × (slice_get xs i ≡ Some x) × (x.block ≡ y.0)
+pub from_listed : (xs : List BlockSlot) (i : ℕ) (y : ℕ × ℕ) → slice_get (listed xs) i ≡ Some y → (x : BlockSlot) × (slice_get xs i ≡ Some x) × (x.block ≡ y.0)
 from_listed [] i y e = absurd (none-some y e)
 from_listed (x ∷ xs) zero y e = (x, refl, ap (λ (z : ℕ × ℕ). z.0) (same_Some (x.block, x.place) y e))
 from_listed (x ∷ xs) (suc i) y e = from_listed xs i y e

@@ -12,3 +12,6 @@ mod Marking
 mod Owning
 mod Steps
 mod Surveys
+mod Paging
+mod Joining
+mod Turning

@@ -81,7 +81,7 @@ goes_on block xs last longer ends f n = record {
 }
 
 -- the last block of the last run
-ends_before : (block : ℕ) (xs : List Extent) (last : Extent) → 0 < last.blocks → ((b : ℕ) → Covers (xs ++ last ∷ []) b → b < block) → last.first + last.blocks ≤ block
+pub ends_before : (block : ℕ) (xs : List Extent) (last : Extent) → 0 < last.blocks → ((b : ℕ) → Covers (xs ++ last ∷ []) b → b < block) → last.first + last.blocks ≤ block
 ends_before block xs last some h = by last.blocks refl
   where
     by : (n : ℕ) → n ≡ last.blocks → last.first + last.blocks ≤ block
@@ -101,6 +101,33 @@ begins block xs last e not f n = record {
   still = λ b h. covers_left (xs ++ last ∷ []) (e ∷ []) b h;
   one = covers_right (xs ++ last ∷ []) (e ∷ []) block (one_in e block f n);
 }
+
+-- the last run begins no earlier than they do
+starts_behind : (from : ℕ) (xs : List Extent) (last : Extent) → AreApart from (xs ++ last ∷ []) → from ≤ last.first
+starts_behind from [] last h = h.0
+starts_behind from (x ∷ xs) last h = let l = starts_behind (x.first + x.blocks + 1) xs last h.2 in let m = h.0 in omega (arith, l, m)
+
+-- and behind the runs before it
+before_last : (from : ℕ) (xs : List Extent) (last : Extent) (b : ℕ) → AreApart from (xs ++ last ∷ []) → Covers xs b → b + 1 < last.first
+before_last from [] last b h c = absurd c
+before_last from (x ∷ xs) last b h (inl c) =
+    let l = starts_behind (x.first + x.blocks + 1) xs last h.2 in let r = c.1 in omega (arith, l, r)
+before_last from (x ∷ xs) last b h (inr c) = before_last (x.first + x.blocks + 1) xs last b h.2 c
+
+in_last : (block : ℕ) (last : Extent) (b : ℕ) → (last.first + last.blocks ≡ block → ⊥) → last.first + last.blocks ≤ block → b + 1 ≡ block → Covers (last ∷ []) b → ⊥
+in_last block last b not ends next (inl c) = let up = c.1 in not (omega (arith, up, ends, next))
+in_last block last b not ends next (inr c) = absurd c
+
+-- where the last run does not end before a block, no run does
+pub not_before : (block : ℕ) (xs : List Extent) (last : Extent) → (last.first + last.blocks ≡ block → ⊥) → AreApart 0 (xs ++ last ∷ []) → ((b : ℕ) → Covers (xs ++ last ∷ []) b → b < block)
+    → (before : ℕ) → before + 1 ≡ block → Covers (xs ++ last ∷ []) before → ⊥
+not_before block xs last not a h before next c =
+    let some = last_has 0 xs last a in
+    let ends = ends_before block xs last some h in
+    elim (covers_of xs (last ∷ []) before c) [
+      | inl l ↦ let early = before_last 0 xs last before a l in absurd (omega (arith, early, some, ends, next))
+      | inr r ↦ in_last block last before not ends next r
+    ]
 
 -- ---- runs of what holds of blocks
 

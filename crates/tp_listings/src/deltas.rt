@@ -13,7 +13,7 @@ use std::alloc::Global;
 use tp_model::{DevId, Refusal, Slot, Walked};
 
 /// The block of a slot, or the number behind all blocks where there is none.
-fn block_of(found: &Option<Slot>) -> u32
+pub(crate) fn block_of(found: &Option<Slot>) -> u32
     ensures { result ≡ block_of found.now }
 {
     match *found {
@@ -23,7 +23,7 @@ fn block_of(found: &Option<Slot>) -> u32
 }
 
 /// The data block at a block, where this is the first slot at it or behind it.
-fn place_at(found: &Option<Slot>, block: u32) -> Option<u32>
+pub(crate) fn place_at(found: &Option<Slot>, block: u32) -> Option<u32>
     ensures { result ≡ told found.now block }
 {
     let Some(slot) = *found else {
@@ -36,7 +36,7 @@ fn place_at(found: &Option<Slot>, block: u32) -> Option<u32>
 }
 
 /// Whether two blocks have not the same data block.
-fn differ(one: Option<u32>, other: Option<u32>) -> bool
+pub(crate) fn differ(one: Option<u32>, other: Option<u32>) -> bool
     ensures differ { IsTrue result → other ≢ one }
     ensures same { IsTrue (not result) → other ≡ one }
 {

@@ -1,7 +1,7 @@
 //! Runs of blocks, and what is known of a volume.
 
-/// A run of blocks: volumes' blocks, or data blocks. It has one block at least.
-#[derive(Clone, Copy, Debug, PartialEq, Eq)]
+/// A run of blocks: volumes' blocks, or data blocks. One that is listed has one block at least.
+#[derive(Clone, Copy, Debug, Default, PartialEq, Eq)]
 pub struct Extent {
     /// The number of its first block.
     pub first: u32,

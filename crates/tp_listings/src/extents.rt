@@ -1,12 +1,13 @@
 //! Lists of runs that grow block by block.
 ghost use Rattle.std.specs.Prelude.{◌≡◌, ◌+◌, ◌<◌, ◌==◌, ◌++◌, ◌∷◌, [], IfErr, OnOk};
+ghost use Rattle.tp_listings.specs.Pages.{joined};
 ghost use Rattle.tp_listings.specs.Seeking.{IsPushed};
 
 use crate::extent::Extent;
 use tp_model::Refusal;
 
 /// Whether a run ends before this block, which goes on with it.
-fn goes_on(run: Extent, block: u32) -> bool
+pub(crate) fn goes_on(run: Extent, block: u32) -> bool
     ensures { result ≡ (run.first + run.blocks == block) }
 {
     if block < run.first {
@@ -24,6 +25,26 @@ fn push_run(extents: &mut Vec<Extent>, run: Extent) -> Result<(), Refusal>
         Ok(()) => Ok(()),
         Err(_) => Err(Refusal::Memory),
     }
+}
+
+/// Puts a run behind the others, which goes on with the last one where that ends at it: Ok, or 10.
+pub fn add_run(extents: &mut Vec<Extent>, run: Extent) -> Result<(), Refusal>
+    requires { run.first + run.blocks < 4294967296 }
+    ensures added { OnOk result (extents.new.items ≡ joined extents.old.items (run ∷ [])) }
+    ensures refused { IfErr result (λ reason. reason ≡ Refusal.Memory) }
+{
+    let Some(last) = extents.pop() else {
+        return push_run(extents, run);
+    };
+    if goes_on(last, run.first) {
+        let longer = Extent {
+            first: last.first,
+            blocks: last.blocks + run.blocks,
+        };
+        return push_run(extents, longer);
+    }
+    push_run(extents, last)?;
+    push_run(extents, run)
 }
 
 /// Puts a block behind the others, which goes on with the last run where it is the next one: Ok, or 10.

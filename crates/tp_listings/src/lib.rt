@@ -9,12 +9,15 @@ mod laws;
 mod looking;
 mod maps;
 mod owners;
+mod pages;
 mod unowned;
 mod usage;
 
 pub use deltas::delta;
 pub use extent::{Extent, Usage};
-pub use laws::deltas_restore;
+pub use extents::add_run;
+pub use laws::{deltas_restore, pages_are_exact, pages_join};
 pub use maps::map;
+pub use pages::{MOST_RUNS, Page, Runs, page_of};
 pub use unowned::free;
 pub use usage::usages;

@@ -12,7 +12,7 @@ use tp_model::{DevId, MOST_SLOTS, Refusal, Slot, Slots, Vb, Walked};
 pub(crate) const MOST_BLOCKS: u32 = 16_777_216;
 
 /// The first place from `at` on of a slot whose block is not before `from`, or the end.
-fn skip(slots: &[Slot], at: usize, from: u32) -> usize
+pub(crate) fn skip(slots: &[Slot], at: usize, from: u32) -> usize
     ensures below { (i : ℕ) (x : BlockSlot) → at ≤ i → i < result → slice_get slots.now i ≡ Some x → x.block < from }
     ensures later { (x : BlockSlot) → slice_get slots.now result ≡ Some x → from ≤ x.block }
 {
@@ -32,7 +32,7 @@ fn is_used_up(slots: &[Slot], at: usize) -> bool
 }
 
 /// The slot at a place, if there is one.
-fn slot_of(slots: &[Slot], at: usize) -> Option<Slot>
+pub(crate) fn slot_of(slots: &[Slot], at: usize) -> Option<Slot>
     ensures { result ≡ slice_get slots.now at }
 {
     slots.get(at).copied()

@@ -4,10 +4,10 @@ ghost use Rattle.tp_model.specs.Calls.{CreateSnap, CreateThin, Delete, Done, Gro
 ghost use Rattle.tp_model.specs.Clauses.{Meets};
 
 use crate::status::LineBuffer;
-use tp_model::{DevId, Refusal, Volumes};
+use tp_model::{DevId, Refusal, Walked};
 
-/// The calls of a pool that are no requests of those who are served: its messages, and its status lines.
-pub trait Managed: Volumes {
+/// The calls of a pool that are no requests of those who are served: its messages, its status lines, and the walks over its volumes.
+pub trait Managed: Walked {
     /// Creates a volume of which nothing is mapped, and keeps it.
     ///
     /// Refused by `Failed`, `ReadOnly`, `Exists`, `TooManyDevices`, `NoMetadataSpace`, `Fault` or `Damaged`.

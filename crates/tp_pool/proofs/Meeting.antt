@@ -100,6 +100,16 @@ module _ {M : Type 0} (geometry : M → Geometry) (stands : M → DiskState → 
     met_line line no_holds holders (Ok n) c answered flushes = meeting (Line (line n)) refl (ap holds_of holders ∙ sym (no_holds (Line (line n)))) (told_alike old.holders new.holders holders) c answered flushes
     met_line line no_holds holders (Err reason) c answered flushes = meeting (Refused reason) refl (ap holds_of holders ∙ sym (no_holds (Refused reason))) (told_alike old.holders new.holders holders) c answered flushes
 
+    -- a call that tells something
+    pub met_told : (told : Answer) → is_sized told ≡ false → ((answer : Answer) → holds_after (holds_of old.holders) call answer ≡ holds_of old.holders)
+        → new.holders ≡ old.holders → (result : Result (Unit {0}) Refusal)
+        → MatchResult result (λ _. PoolCalled geometry stands old new call told) (λ reason. PoolRefused geometry stands old new call reason)
+        → MatchResult result (λ _. IsAnswered (view geometry stands) old new call told) (λ reason. IsAnswered (view geometry stands) old new call (Refused reason))
+        → MatchResult result (λ _. Flushes Whole old new call told) (λ reason. Flushes Whole old new call (Refused reason))
+        → MatchResult result (λ _. Meeting old new call told) (λ reason. Meeting old new call (Refused reason))
+    met_told told plain no_holds holders (Ok x) c answered flushes = meeting told plain (ap holds_of holders ∙ sym (no_holds told)) (told_alike old.holders new.holders holders) c answered flushes
+    met_told told plain no_holds holders (Err reason) c answered flushes = meeting (Refused reason) refl (ap holds_of holders ∙ sym (no_holds (Refused reason))) (told_alike old.holders new.holders holders) c answered flushes
+
   pub met_read : (old new : Held M) (id sector n : ℕ) (sectors : List Sector)
       → geometry new.metadata ≡ geometry old.metadata → new.holders ≡ old.holders
       → (result : Result (Unit {0}) Refusal)

@@ -2,7 +2,7 @@
 use crate::pool::Pool;
 use tp_disk::{Disk, SharedDisk};
 use tp_meta::Metadata;
-use tp_model::{DevId, Geometry, Mode, Refusal, SharedVolumes, Volumes};
+use tp_model::{DevId, Geometry, Mode, Refusal, SharedVolumes, Slots, Vb, Volumes, Walked};
 
 impl<D: Disk, M: Metadata> Volumes for Pool<D, M> {
     ghost use Rattle.tp_pool.specs.Flushes as flushes;
@@ -61,6 +61,12 @@ impl<D: Disk, M: Metadata> Volumes for Pool<D, M> {
     }
 
     ghost laws = { flushes.laws M.geometry M.stands M.marks M.room M.changed M.trees (λ m disk now kept st. ((M.within m disk now kept st).limits, (M.within m disk now kept st).volumes_now, (M.within m disk now kept st).copies)) M.bounded M.one };
+}
+
+impl<D: Disk, M: Metadata> Walked for Pool<D, M> {
+    fn walk(&mut self, id: DevId, from: Vb, slots: &mut Slots) -> Result<(), Refusal> {
+        self.walk(id, from, slots)
+    }
 }
 
 impl<D: SharedDisk, M: Metadata> SharedVolumes for Pool<D, M> {
