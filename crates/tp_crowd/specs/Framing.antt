@@ -10,7 +10,7 @@ use Rattle.nbd_wire.specs.Reading.{fixed_len, wanted}
 use Rattle.tp_hub.specs.declared.stream.Received.{Received}
 use Rattle.tp_hub.specs.declared.stream.Received.TheVariants.{Got, NotNow, End, Broken}
 use Rattle.tp_hub.specs.Streams.{Flushes, Gave, GaveAgain, GaveEnd, GaveNone, StreamCall, Took, TookAgain, TookNone}
-use Rattle.tp_hub.specs.Runs.{AsksFlush, AsksLine, AsksLineOf, Brings, Comes, Goes, Incoming, Orders}
+use Rattle.tp_hub.specs.Runs.{AsksDeltaOf, AsksFlush, AsksLine, AsksLineOf, AsksMapOf, AsksSizeOf, Brings, Comes, Goes, Incoming, Orders}
 
 -- Where a client stands: of which kind the frame is that has begun, or comes next, which bytes of its fixed part have come, and how many bytes of its data are
 -- missing.
@@ -133,6 +133,9 @@ IsRead (Goes session) = ⊥
 IsRead (Orders line) = ⊥
 IsRead AsksLine = ⊥
 IsRead (AsksLineOf volume) = ⊥
+IsRead (AsksSizeOf volume) = ⊥
+IsRead (AsksMapOf volume from) = ⊥
+IsRead (AsksDeltaOf old new from) = ⊥
 IsRead AsksFlush = ⊥
 
 -- ---- who was refused

@@ -3,7 +3,7 @@ use Rattle.std.proofs.Common.{◌≡◌, ℕ, zero, suc, ◌≤◌, List, [], �
 use Rattle.tp_model.specs.Clauses.{PoolCall, View}
 use Rattle.nbd_session.specs.Turns.{Sessions}
 use Rattle.tp_hub.specs.Told.{Answer, HasRoom, IsFull, Told, all_sent}
-use Rattle.tp_hub.specs.Runs.{AsksFlush, AsksLine, AsksLineOf, Brings, Comes, Goes, Incoming, Orders, IsPartOfNext, IsShortOfNext, Runs, Served, answered_in, events_in, taken_of}
+use Rattle.tp_hub.specs.Runs.{AsksDeltaOf, AsksFlush, AsksLine, AsksLineOf, AsksMapOf, AsksSizeOf, Brings, Comes, Goes, Incoming, Orders, IsPartOfNext, IsShortOfNext, Runs, Served, answered_in, events_in, taken_of}
 use Rattle.std.specs.Prelude.{drop}
 use Rattle.tp_hub.specs.Desks.{AreAsked, Exchange, IsAsked, IsBegun, IsCut, RunsSo}
 use Rattle.tp_hub.specs.Serving.{HubState}
@@ -19,6 +19,9 @@ nothing_taken (Goes n) zero zero e b = refl
 nothing_taken (Orders line) zero zero e b = refl
 nothing_taken AsksLine zero zero e b = refl
 nothing_taken (AsksLineOf volume) zero zero e b = refl
+nothing_taken (AsksSizeOf volume) zero zero e b = refl
+nothing_taken (AsksMapOf volume from) zero zero e b = refl
+nothing_taken (AsksDeltaOf old new from) zero zero e b = refl
 nothing_taken AsksFlush zero zero e b = refl
 nothing_taken event (suc k) bytes e b = absurd (omega (arith, e))
 nothing_taken event zero (suc k) e b = absurd (omega (arith, b))
@@ -29,6 +32,9 @@ cut_is at (Goes n) zero bytes le part = part
 cut_is at (Orders line) zero bytes le part = part
 cut_is at AsksLine zero bytes le part = part
 cut_is at (AsksLineOf volume) zero bytes le part = part
+cut_is at (AsksSizeOf volume) zero bytes le part = part
+cut_is at (AsksMapOf volume from) zero bytes le part = part
+cut_is at (AsksDeltaOf old new from) zero bytes le part = part
 cut_is at AsksFlush zero bytes le part = part
 cut_is at (Brings n piece) zero bytes le (inl none) = inl none
 cut_is at (Brings n piece) zero bytes le (inr some) = inr some.0
@@ -60,6 +66,12 @@ begun_is at AsksLine zero bytes before after le short same cut room marks has = 
 begun_is at AsksLine (suc k) bytes before after le short same cut room marks has = omega arith
 begun_is at (AsksLineOf volume) zero bytes before after le short same cut room marks has = absurd (has_still before after (same refl cut) room marks has short)
 begun_is at (AsksLineOf volume) (suc k) bytes before after le short same cut room marks has = omega arith
+begun_is at (AsksSizeOf volume) zero bytes before after le short same cut room marks has = absurd (has_still before after (same refl cut) room marks has short)
+begun_is at (AsksSizeOf volume) (suc k) bytes before after le short same cut room marks has = omega arith
+begun_is at (AsksMapOf volume from) zero bytes before after le short same cut room marks has = absurd (has_still before after (same refl cut) room marks has short)
+begun_is at (AsksMapOf volume from) (suc k) bytes before after le short same cut room marks has = omega arith
+begun_is at (AsksDeltaOf old new from) zero bytes before after le short same cut room marks has = absurd (has_still before after (same refl cut) room marks has short)
+begun_is at (AsksDeltaOf old new from) (suc k) bytes before after le short same cut room marks has = omega arith
 begun_is at AsksFlush zero bytes before after le short same cut room marks has = absurd (has_still before after (same refl cut) room marks has short)
 begun_is at AsksFlush (suc k) bytes before after le short same cut room marks has = omega arith
 

@@ -9,7 +9,7 @@ use Rattle.nbd_session.specs.declared.phase.Phase.TheVariants.{Flags, Options, T
 use Rattle.nbd_session.specs.Session.{State, has_ended, is_at_work}
 use Rattle.nbd_session.specs.Turns.{Sessions}
 use Rattle.tp_hub.specs.declared.event.Event.{Event}
-use Rattle.tp_hub.specs.Runs.{AsksFlush, AsksLine, AsksLineOf, Brings, Comes, Goes, Incoming, Orders, incoming, session_in}
+use Rattle.tp_hub.specs.Runs.{AsksDeltaOf, AsksFlush, AsksLine, AsksLineOf, AsksMapOf, AsksSizeOf, Brings, Comes, Goes, Incoming, Orders, incoming, session_in}
 use Rattle.tp_hub.specs.Parts.{BringIdle, IsIdle, StayIdle, is_parted_to}
 use Rattle.tp_hub.specs.Places.{IsIdleSlot}
 use Rattle.tp_hub.specs.Serving.{HubState, Slots, sessions_of, shown, slot_at}
@@ -49,6 +49,9 @@ text_in (Goes session) = []
 text_in (Orders line) = []
 text_in AsksLine = []
 text_in (AsksLineOf volume) = []
+text_in (AsksSizeOf volume) = []
+text_in (AsksMapOf volume from) = []
+text_in (AsksDeltaOf old new from) = []
 text_in AsksFlush = []
 
 pub same_session : (m n : ℕ) (piece text : List ℕ) → Brings m piece ≡ Brings n text → m ≡ n

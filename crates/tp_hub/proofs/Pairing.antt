@@ -11,6 +11,7 @@ use Rattle.nbd_session.specs.declared.phase.Profile.{Profile}
 use Rattle.nbd_session.specs.Session.{State, has_ended, is_at_work, state}
 use Rattle.nbd_session.specs.Turns.{AreTurns, Happened, Sessions, TakesTurn, Turn, closed, pool_after, sessions_after}
 use Rattle.tp_hub.specs.Told.{Answer, Grows, Says, Told}
+use Rattle.tp_pages.specs.Pages.{unit_of}
 use Rattle.tp_hub.specs.Runs.{AreServed, Brings, Comes, Incoming, IsAnswered, Runs, Served, TakesPiece, TakesText, answered_in, answers_in, answers_of, events_in, is_busy, taken_of, turns_in}
 use Rattle.tp_hub.specs.Pairs.{InTurn}
 use Rattle.tp_hub.proofs.Turning.{pool_join, sessions_join}
@@ -56,9 +57,9 @@ module _ {S : Type 0} (outline : S → Outline) (Calls : S → Call → calls.An
     says : answers ≡ Says n greeting ∷ []
 
   -- a client comes where the session is not open
-  came : (n : ℕ) (a : Profile) (at : Sessions) (p : S) (event : Incoming) (hs : List (Happened S)) (answers : List Answer) → event ≡ Comes n a → has_ended (at n).phase ≡ true → IsAnswered at event hs answers → AreTurns outline Calls at p hs → Came n a at p hs answers
-  came n a at p event hs answers comes ended answered are =
-      let b = of_true (has_ended (at n).phase) _ _ ended (subst (λ e. IsAnswered at e hs answers) comes answered) in
+  came : (unit n : ℕ) (a : Profile) (at : Sessions) (p : S) (event : Incoming) (hs : List (Happened S)) (answers : List Answer) → event ≡ Comes n a → has_ended (at n).phase ≡ true → IsAnswered unit at event hs answers → AreTurns outline Calls at p hs → Came n a at p hs answers
+  came unit n a at p event hs answers comes ended answered are =
+      let b = of_true (has_ended (at n).phase) _ _ ended (subst (λ e. IsAnswered unit at e hs answers) comes answered) in
       let h = b.1.0 in
       let one = subst (λ l. AreTurns outline Calls at p l) b.1.1 are in
       let t = subst (λ (turn : Turn). TakesTurn outline Calls at p turn h.sessions h.pool) b.1.2 one.0 in
@@ -74,29 +75,29 @@ module _ {S : Type 0} (outline : S → Outline) (Calls : S → Call → calls.An
   idle_flags phase a [] e = refl
   idle_flags phase a (byte ∷ bytes) e = ap is_at_work e
 
-  heard : (n : ℕ) (a : Profile) (at : Sessions) (event : Incoming) (piece : List ℕ) (hs : List (Happened S)) (answers : List Answer) → event ≡ Brings n piece → at n ≡ state (Flags a) [] → IsAnswered at event hs answers → TakesPiece at n piece hs × (answers ≡ answers_in hs)
-  heard n a at event piece hs answers brings flags answered =
+  heard : (unit n : ℕ) (a : Profile) (at : Sessions) (event : Incoming) (piece : List ℕ) (hs : List (Happened S)) (answers : List Answer) → event ≡ Brings n piece → at n ≡ state (Flags a) [] → IsAnswered unit at event hs answers → TakesPiece at n piece hs × (answers ≡ answers_in hs)
+  heard unit n a at event piece hs answers brings flags answered =
       of_false (is_busy (at n).phase piece) _ _ (idle_flags (at n).phase a piece (ap (λ (s : State). s.phase) flags))
-      (of_false (has_ended (at n).phase) _ _ (ap (λ (s : State). has_ended s.phase) flags) (subst (λ e. IsAnswered at e hs answers) brings answered))
+      (of_false (has_ended (at n).phase) _ _ (ap (λ (s : State). has_ended s.phase) flags) (subst (λ e. IsAnswered unit at e hs answers) brings answered))
 
   four_served : (a b : Profile) (p p' : S) (first second : List ℕ) (before after : Told) (at' : Sessions) (w x y z : Served S) → AreServed outline Calls closed p (w ∷ x ∷ y ∷ z ∷ [])
       → w.event ≡ Comes 0 a → x.event ≡ Comes 1 b → y.event ≡ Brings 0 first → z.event ≡ Brings 1 second
       → sessions_after closed (turns_in (w ∷ x ∷ y ∷ z ∷ [])) ≡ at' → pool_after p (turns_in (w ∷ x ∷ y ∷ z ∷ [])) ≡ p' → Grows before after (answered_in (w ∷ x ∷ y ∷ z ∷ []))
       → InTurn outline Calls a b p first second before after at' p'
   four_served a b p p' first second before after at' w x y z are ew ex ey ez sessions pool adds =
-      let cw = came 0 a closed p w.event w.turns w.answers ew refl are.0 are.1 in
+      let cw = came (unit_of (outline p).geometry) 0 a closed p w.event w.turns w.answers ew refl are.0 are.1 in
       let at1 = sessions_after closed w.turns in
       let p1 = pool_after p w.turns in
       let far : 1 ≢ 0 = λ e. absurd (omega (arith, e)) in
       let near : 0 ≢ 1 = λ e. absurd (omega (arith, e)) in
-      let cx = came 1 b at1 p1 x.event x.turns x.answers ex (ap (λ (s : State). has_ended s.phase) (cw.others 1 far)) are.2.0 are.2.1 in
+      let cx = came (unit_of (outline p1).geometry) 1 b at1 p1 x.event x.turns x.answers ex (ap (λ (s : State). has_ended s.phase) (cw.others 1 far)) are.2.0 are.2.1 in
       let greeted = sessions_after at1 x.turns in
       let p2 = pool_after p1 x.turns in
       let same : p2 ≡ p = cx.pool ∙ cw.pool in
       let flags0 : greeted 0 ≡ state (Flags a) [] = cx.others 0 near ∙ cw.flags in
-      let hy = heard 0 a greeted y.event first y.turns y.answers ey flags0 are.2.2.0 in
+      let hy = heard (unit_of (outline p2).geometry) 0 a greeted y.event first y.turns y.answers ey flags0 are.2.2.0 in
       let stays : sessions_after greeted y.turns 1 ≡ state (Flags b) [] = others_stay 0 1 far greeted p2 hy.0.text y.turns are.2.2.1 hy.0.takes ∙ cx.flags in
-      let hz = heard 1 b (sessions_after greeted y.turns) z.event second z.turns z.answers ez stays are.2.2.2.0 in
+      let hz = heard (unit_of (outline (pool_after p2 y.turns)).geometry) 1 b (sessions_after greeted y.turns) z.event second z.turns z.answers ez stays are.2.2.2.0 in
       record {
         greeted = greeted;
         greets = (flags0, cx.flags);

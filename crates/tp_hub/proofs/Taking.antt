@@ -22,7 +22,8 @@ use Rattle.nbd_session.specs.Turns.{AreTurns, Happened, Opens, Sessions, TakesTu
 use Rattle.nbd_session.specs.Turns as turns
 use Rattle.tp_hub.specs.Told.{Answer, Closes, Grows, IsFull, Refuses, Says, Told}
 use Rattle.tp_hub.specs.declared.event.Event.{Event}
-use Rattle.tp_hub.specs.Runs.{AreServed, AsksFlush, AsksLine, AsksLineOf, Brings, Comes, Goes, Incoming, Orders, IsAnswered, is_busy, IsPart, IsPartOfNext, IsShort, IsShortOfNext, Runs, Served, answered_in, answers_in, events_in, front_of, front_of_next, incoming, session_in, taken_of, turns_in}
+use Rattle.tp_pages.specs.Pages.{unit_of}
+use Rattle.tp_hub.specs.Runs.{AreServed, AsksDeltaOf, AsksFlush, AsksLine, AsksLineOf, AsksMapOf, AsksSizeOf, Brings, Comes, Goes, Incoming, Orders, IsAnswered, is_busy, IsPart, IsPartOfNext, IsShort, IsShortOfNext, Runs, Served, answered_in, answers_in, events_in, front_of, front_of_next, incoming, session_in, taken_of, turns_in}
 use Rattle.tp_hub.specs.Places.{HearsAnywhere, IsRest, IsTaken, KeepsServing, SlotTakes, put, taken_part, IsOpenSlot, IsReadySlot, TakesEvent}
 use Rattle.tp_hub.specs.Serving.{AreLeaving, LeaveTo, Serves, Slots, sessions_of, shown, slot_at, volume_in, volume_of, GoesOn}
 use Rattle.tp_hub.proofs.Placing.{HoldsMove, leaves_between, none_by, none_hold, none_open, open_at, put_is, put_other, put_same, ready_at, serves_set, sessions_set}
@@ -33,7 +34,7 @@ module _ {S : Type 0} (outline : S → Outline) (Calls : S → Call → calls.An
   pub runs_none : (at at' : Sessions) (p p' : S) (before after : Told) → at ≡ at' → p ≡ p' → Grows before after [] → Runs outline Calls at p [] before after at' p'
   runs_none at at' p p' before after same pool grows = record { served = []; are = tt; events_are = refl; sessions_are = same; pool_is = pool; adds = grows }
 
-  pub runs_one : (at at' : Sessions) (p p' : S) (event : Incoming) (hs : List (Happened S)) (answers : List Answer) (before after : Told) → IsAnswered at event hs answers → AreTurns outline Calls at p hs
+  pub runs_one : (at at' : Sessions) (p p' : S) (event : Incoming) (hs : List (Happened S)) (answers : List Answer) (before after : Told) → IsAnswered (unit_of (outline p).geometry) at event hs answers → AreTurns outline Calls at p hs
       → sessions_after at hs ≡ at' → pool_after p hs ≡ p' → Grows before after answers → Runs outline Calls at p (event ∷ []) before after at' p'
   runs_one at at' p p' event hs answers before after answered are sessions pool grows = record {
     served = record { event = event; turns = hs; answers = answers } ∷ [];
@@ -97,7 +98,7 @@ module _ {D : Type 0} (view : View D) where
 
   -- an event was refused
   pub takes_refused : (event : Incoming) (slot : Option State) (p : D) (reason : Refusal) (before after : Told) → Grows before after (Refuses reason ∷ [])
-      → ((at : Sessions) → at (session_in event) ≡ shown slot → IsAnswered {S = D} at event [] (Refuses reason ∷ [])) → SlotTakes view event slot p true 0 before after slot p
+      → ((at : Sessions) → at (session_in event) ≡ shown slot → IsAnswered {S = D} (unit_of (view.outline p).geometry) at event [] (Refuses reason ∷ [])) → SlotTakes view event slot p true 0 before after slot p
   takes_refused event slot p reason before after grows refused = record {
     runs = λ at is. runs_one view.outline (PoolCall view) at (put at (session_in event) (shown slot)) p p event [] (Refuses reason ∷ []) before after (refused at is) tt (sym (put_is at (session_in event) (shown slot) is)) refl grows;
     part = λ at is. refl;
@@ -115,6 +116,9 @@ module _ {D : Type 0} (view : View D) where
       short (Orders line) at = full
       short AsksLine at = full
       short (AsksLineOf volume) at = full
+      short (AsksSizeOf volume) at = full
+      short (AsksMapOf volume from) at = full
+      short (AsksDeltaOf old new from) at = full
       short AsksFlush at = full
 
   -- ---- a client comes

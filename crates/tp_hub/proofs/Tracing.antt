@@ -1,7 +1,8 @@
 -- A run over a pool that has a trace is a run of the traced plain pool; so are asks of a hub, and the end of all its sessions.
 use Rattle.std.proofs.Common.{◌≡◌, ℕ, Bool, true, false, List, [], ◌∷◌, ◌++◌, length, ◌⊎◌, inl, inr, refl, sym, ap, subst, ◌∙◌, arith}
-use Rattle.std.specs.Prelude.{Err, IfSome, MatchBool, MatchResult, None, Ok, Option, Result, Some, nat_lt}
-use Rattle.tp_model.specs.Pool.{PlainPool}
+use Rattle.std.specs.Prelude.{Err, IfSome, MatchBool, MatchOption, MatchResult, None, Ok, Option, Result, Some, nat_lt}
+use Rattle.tp_model.specs.declared.refusal.Refusal.{Refusal}
+use Rattle.tp_model.specs.Pool.{Outline, PlainPool}
 use Rattle.tp_model.specs.Clauses.{Continues, HasTrace, PoolCall, Traced, TracedCall, View, ViewLaws, outline_of_traced}
 use Rattle.tp_model.proofs.Running as running
 use Rattle.nbd_session.specs.Clauses.{GoesWithTrace}
@@ -12,6 +13,7 @@ use Rattle.nbd_session.proofs.Turning as turning
 use Rattle.tp_model.specs.Calls.{Call, Flush, Status, ThinStatus}
 use Rattle.tp_model.specs.Calls as calls
 use Rattle.tp_msg.specs.Messages.{reading}
+use Rattle.tp_pages.specs.Pages.{AsksDelta, AsksMap, AsksSize, Question, unit_of}
 use Rattle.tp_hub.specs.declared.client.Carried.{Carried}
 use Rattle.tp_hub.specs.declared.hub.Ran.{Ran}
 use Rattle.tp_hub.specs.Told.{Answer, Grows, Told}
@@ -19,7 +21,7 @@ use Rattle.tp_hub.specs.Desks.{AreAsked, Exchange, IsAsked, RanSo, RunsSo}
 use Rattle.tp_hub.specs.Serve.{HubRuns, IsServedBy, PlainRuns, with_pool}
 use Rattle.tp_hub.specs.Serving.{AreLeaving, HubState, LeaveSo, LeaveTo, sessions_of}
 use Rattle.tp_hub.specs.Streams.{StreamCall}
-use Rattle.tp_hub.specs.Runs.{AreServed, AsksFlush, AsksLine, AsksLineOf, Brings, Comes, Goes, Incoming, IsAnswered, IsCalled, IsOnly, Orders, TellsDone, TellsLine, call_of, is_busy, Runs, Served, TakesText, answered_in, answers_in, answers_of, events_in, turns_in}
+use Rattle.tp_hub.specs.Runs.{AreQuestions, AreServed, AsksDeltaOf, AsksFlush, AsksLine, AsksLineOf, AsksMapOf, AsksSizeOf, Brings, Comes, Goes, Incoming, IsAnswered, IsCalled, IsOnly, IsPageTold, Orders, TellsDone, TellsLine, call_of, delta_fault, is_busy, map_fault, size_fault, Runs, Served, TakesText, answered_in, answers_in, answers_of, events_in, turns_in}
 
 map_bool : (b : Bool) (P Q P' Q' : Type 0) → (P → P') → (Q → Q') → MatchBool b P Q → MatchBool b P' Q'
 map_bool true P Q P' Q' f g h = f h
@@ -28,6 +30,10 @@ map_bool false P Q P' Q' f g h = g h
 map_result : {T E : Type 0} (r : Result T E) (P P' : T → Type 0) (Q Q' : E → Type 0) → ((x : T) → P x → P' x) → ((x : E) → Q x → Q' x) → MatchResult r P Q → MatchResult r P' Q'
 map_result (Ok x) P P' Q Q' f g h = f x h
 map_result (Err x) P P' Q Q' f g h = g x h
+
+map_option : {T : Type 0} (o : Option T) (P P' : Type 0) (Q Q' : T → Type 0) → (P → P') → ((x : T) → Q x → Q' x) → MatchOption o P Q → MatchOption o P' Q'
+map_option None P P' Q Q' f g h = f h
+map_option (Some x) P P' Q Q' f g h = g x h
 
 abbrev first_turn : {S : Type 0} → Turn → List (Happened S) → Turn
 first_turn d [] = d
@@ -71,10 +77,21 @@ module _ {D : Type 0} (view : View D) (laws : ViewLaws view) (from : D) (s : Pla
   called_same : (d : D) (t : Traced) (hs : List (Happened D)) (ks : List (Happened Traced)) (call : Call) (Tells : calls.Answer → List Answer → Type 0) (answers : List Answer) → AreSame view from s d t hs ks → IsCalled call Tells hs answers → IsCalled call Tells ks answers
   called_same d t hs ks call Tells answers are a = (a.0, only_same d t hs ks _ are a.1, a.2)
 
-  answered_same : (at : Sessions) (d : D) (t : Traced) (hs : List (Happened D)) (ks : List (Happened Traced)) (event : Incoming) (answers : List Answer) → AreSame view from s d t hs ks → IsAnswered at event hs answers → IsAnswered at event ks answers
-  answered_same at d t hs ks (Comes n profile) answers are h =
+  questions_same : (d : D) (t : Traced) (hs : List (Happened D)) (ks : List (Happened Traced)) (qs : List Question) → AreSame view from s d t hs ks → AreQuestions hs qs → AreQuestions ks qs
+  questions_same d t [] [] [] are asked = tt
+  questions_same d t [] [] (q ∷ qs) are asked = absurd asked
+  questions_same d t (h ∷ hs) (k ∷ ks) (q ∷ qs) are asked = (are.0 ∙ asked.0, questions_same h.pool k.pool hs ks qs are.4 asked.1)
+  questions_same d t (h ∷ hs) (k ∷ ks) [] are asked = absurd asked
+  questions_same d t [] (k ∷ ks) qs are asked = absurd are
+  questions_same d t (h ∷ hs) [] qs are asked = absurd are
+
+  page_same : (d : D) (t : Traced) (hs : List (Happened D)) (ks : List (Happened Traced)) (AsksFor : List Question → Result (List ℕ) Refusal → Type 0) (answers : List Answer) → AreSame view from s d t hs ks → IsPageTold AsksFor hs answers → IsPageTold AsksFor ks answers
+  page_same d t hs ks AsksFor answers are page = (page.0, page.1, questions_same d t hs ks page.0 are page.2, page.3, page.4)
+
+  answered_same : (unit : ℕ) (at : Sessions) (d : D) (t : Traced) (hs : List (Happened D)) (ks : List (Happened Traced)) (event : Incoming) (answers : List Answer) → AreSame view from s d t hs ks → IsAnswered unit at event hs answers → IsAnswered unit at event ks answers
+  answered_same unit at d t hs ks (Comes n profile) answers are h =
       map_bool (has_ended (at n).phase) _ _ _ _ (λ a. (a.0, only_same d t hs ks _ are a.1, a.2 ∙ sym (answers_same d t hs ks are))) (λ r. (none_same d t hs ks are r.0, r.1)) h
-  answered_same at d t hs ks (Brings n piece) answers are h =
+  answered_same unit at d t hs ks (Brings n piece) answers are h =
       map_bool (has_ended (at n).phase) _ _ _ _ (λ r. (none_same d t hs ks are r.0, r.1)) (λ b. map_bool (is_busy (at n).phase piece) _ _ _ _ (λ r. (none_same d t hs ks are r.0, r.1)) (λ a. (
         record {
           text = a.0.text;
@@ -85,13 +102,19 @@ module _ {D : Type 0} (view : View D) (laws : ViewLaws view) (from : D) (s : Pla
         },
         a.1 ∙ sym (answers_same d t hs ks are),
       )) b) h
-  answered_same at d t hs ks (Goes n) answers are h =
+  answered_same unit at d t hs ks (Goes n) answers are h =
       map_bool (has_ended (at n).phase) _ _ _ _ (λ r. (none_same d t hs ks are r.0, r.1)) (λ a. (only_same d t hs ks _ are a.0, a.1 ∙ sym (answers_same d t hs ks are))) h
-  answered_same at d t hs ks (Orders line) answers are h = map_result (reading line) _ _ _ _ (λ m a. called_same d t hs ks (call_of m) TellsDone answers are a) (λ reason r. (none_same d t hs ks are r.0, r.1)) h
-  answered_same at d t hs ks AsksLine answers are h = called_same d t hs ks Status TellsLine answers are h
-  answered_same at d t hs ks (AsksLineOf volume) answers are h =
+  answered_same unit at d t hs ks (Orders line) answers are h = map_result (reading line) _ _ _ _ (λ m a. called_same d t hs ks (call_of m) TellsDone answers are a) (λ reason r. (none_same d t hs ks are r.0, r.1)) h
+  answered_same unit at d t hs ks AsksLine answers are h = called_same d t hs ks Status TellsLine answers are h
+  answered_same unit at d t hs ks (AsksLineOf volume) answers are h =
       map_bool (nat_lt volume 16777216) _ _ _ _ (λ a. called_same d t hs ks (ThinStatus volume) TellsLine answers are a) (λ r. (none_same d t hs ks are r.0, r.1)) h
-  answered_same at d t hs ks AsksFlush answers are h = called_same d t hs ks Flush TellsDone answers are h
+  answered_same unit at d t hs ks (AsksSizeOf volume) answers are h =
+      map_option (size_fault volume) _ _ _ _ (λ a. page_same d t hs ks (λ qs said. AsksSize unit volume qs said) answers are a) (λ reason r. (none_same d t hs ks are r.0, r.1)) h
+  answered_same unit at d t hs ks (AsksMapOf volume first) answers are h =
+      map_option (map_fault volume first) _ _ _ _ (λ a. page_same d t hs ks (λ qs said. AsksMap unit volume first qs said) answers are a) (λ reason r. (none_same d t hs ks are r.0, r.1)) h
+  answered_same unit at d t hs ks (AsksDeltaOf old new first) answers are h =
+      map_option (delta_fault old new first) _ _ _ _ (λ a. page_same d t hs ks (λ qs said. AsksDelta unit old new first qs said) answers are a) (λ reason r. (none_same d t hs ks are r.0, r.1)) h
+  answered_same unit at d t hs ks AsksFlush answers are h = called_same d t hs ks Flush TellsDone answers are h
 
   same_join : (d : D) (t : Traced) (hs : List (Happened D)) (ks : List (Happened Traced)) (is : List (Happened D)) (ls : List (Happened Traced)) → AreSame view from s d t hs ks → AreSame view from s (pool_after d hs) (pool_after t ks) is ls
       → AreSame view from s d t (hs ++ is) (ks ++ ls)
@@ -123,7 +146,11 @@ module _ {D : Type 0} (view : View D) (laws : ViewLaws view) (from : D) (s : Pla
       let rest = served_traced (sessions_after at x.turns) (pool_after d x.turns) (pool_after t k.0) xs last are.2 in
       let same = turning.same_sessions view laws from s at d t x.turns k.0 k.2 in (
         record { event = x.event; turns = k.0; answers = x.answers } ∷ rest.0,
-        (answered_same at d t x.turns k.0 x.event x.answers k.2 are.0, k.1, subst (λ (r : Sessions). AreServed outline_of_traced (TracedCall view.has_use) r (pool_after t k.0) rest.0) same rest.1),
+        (
+          subst (λ (o : Outline). IsAnswered (unit_of o.geometry) at x.event k.0 x.answers) (sym (laws.shown d t.pool has.shown)) (answered_same (unit_of (view.outline d).geometry) at d t x.turns k.0 x.event x.answers k.2 are.0),
+          k.1,
+          subst (λ (r : Sessions). AreServed outline_of_traced (TracedCall view.has_use) r (pool_after t k.0) rest.0) same rest.1,
+        ),
         ap (λ (l : List Incoming). x.event ∷ l) rest.2,
         ap (λ (l : List Answer). x.answers ++ l) rest.3,
         same_join d t x.turns k.0 (turns_in xs) (turns_in rest.0) k.2 rest.4,

@@ -24,6 +24,7 @@ use Rattle.nbd_session.specs.Session.{Answers, GoesOn, IsMade, MakesPart, Serves
 use Rattle.nbd_session.specs.Turns.{AreTurns, Happened, Sessions, TakesTurn, Turn, pool_after, sessions_after}
 use Rattle.nbd_session.specs.Turns as turns
 use Rattle.tp_hub.specs.Told.{Answer, Told}
+use Rattle.tp_pages.specs.Pages.{unit_of}
 use Rattle.tp_hub.specs.Runs.{AreServed, Brings, Incoming, IsAnswered, Runs, Served, TakesPiece, TakesText, answers_in, answers_of, closed_if, events_in, is_busy, said, turns_in}
 use Rattle.tp_hub.proofs.Taking.{idle_is_free}
 use Rattle.tp_hub.specs.Parts.{AreParts, IsIdle, IsMadeWhole}
@@ -206,7 +207,7 @@ module _ {S : Type 0} (outline : S → Outline) (Calls : S → Call → calls.An
             let event : x.event ≡ Brings n frame = ap (first_event x.event) is in
             let goes : has_ended (at n).phase ≡ false = ap (λ (s : State). has_ended s.phase) here in
             let free : is_busy (at n).phase frame ≡ false = ap (λ (s : State). is_busy s.phase frame) here ∙ idle_is_free Free frame refl in
-            let answered : IsAnswered at (Brings n frame) x.turns x.answers = subst (λ (e : Incoming). IsAnswered at e x.turns x.answers) event are.0 in
+            let answered : IsAnswered (unit_of (outline p).geometry) at (Brings n frame) x.turns x.answers = subst (λ (e : Incoming). IsAnswered (unit_of (outline p).geometry) at e x.turns x.answers) event are.0 in
             let heard = second (is_busy (at n).phase frame) _ _ free (second (has_ended (at n).phase) _ _ goes answered) in
             let takes = heard.0 in
             let end : sessions_after at x.turns ≡ after = ap (sessions_after at) (sym (append-nil x.turns)) ∙ ends in

@@ -6,7 +6,7 @@ use Rattle.tp_model.specs.Calls as calls
 use Rattle.tp_model.specs.Clauses.{PoolCall, View}
 use Rattle.nbd_session.specs.Turns.{Sessions}
 use Rattle.tp_hub.specs.Told.{Answer, Grows, HasRoom, Told}
-use Rattle.tp_hub.specs.Runs.{AsksFlush, AsksLine, AsksLineOf, Brings, Comes, Goes, Incoming, Orders, Runs, taken_of}
+use Rattle.tp_hub.specs.Runs.{AsksDeltaOf, AsksFlush, AsksLine, AsksLineOf, AsksMapOf, AsksSizeOf, Brings, Comes, Goes, Incoming, Orders, Runs, taken_of}
 
 -- so much of one event: it was taken whole, or fewer bytes than it has
 abbrev pub IsCut : Incoming → ℕ → ℕ → Type 0
@@ -17,6 +17,9 @@ IsCut (Goes session) zero bytes = bytes ≡ 0
 IsCut (Orders line) zero bytes = bytes ≡ 0
 IsCut AsksLine zero bytes = bytes ≡ 0
 IsCut (AsksLineOf volume) zero bytes = bytes ≡ 0
+IsCut (AsksSizeOf volume) zero bytes = bytes ≡ 0
+IsCut (AsksMapOf volume from) zero bytes = bytes ≡ 0
+IsCut (AsksDeltaOf old new from) zero bytes = bytes ≡ 0
 IsCut AsksFlush zero bytes = bytes ≡ 0
 
 -- something of it was taken; a client that comes may also want for memory of its own
@@ -26,6 +29,9 @@ IsBegun (Goes session) events bytes = 0 < events
 IsBegun (Orders line) events bytes = 0 < events
 IsBegun AsksLine events bytes = 0 < events
 IsBegun (AsksLineOf volume) events bytes = 0 < events
+IsBegun (AsksSizeOf volume) events bytes = 0 < events
+IsBegun (AsksMapOf volume from) events bytes = 0 < events
+IsBegun (AsksDeltaOf old new from) events bytes = 0 < events
 IsBegun AsksFlush events bytes = 0 < events
 IsBegun (Comes session profile) events bytes = Unit {0}
 

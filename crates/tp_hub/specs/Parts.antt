@@ -22,6 +22,9 @@ is_parted_to n (kinds.Hangup session) = false
 is_parted_to n (kinds.Message line) = false
 is_parted_to n kinds.Status = false
 is_parted_to n (kinds.ThinStatus volume) = false
+is_parted_to n (kinds.Size volume) = false
+is_parted_to n (kinds.Map volume from) = false
+is_parted_to n (kinds.Delta old new from) = false
 is_parted_to n kinds.Flush = false
 
 -- no part of a request of this session is left

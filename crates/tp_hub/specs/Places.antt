@@ -1,9 +1,11 @@
 -- Internal: what one event makes of the place of its session.
-use Rattle.std.specs.Prelude.{◌≡◌, ◌≢◌, ℕ, ◌<◌, ◌≤◌, Bool, true, false, List, [], ◌∷◌, length, take, Option, Some, None, slice_set, if◌then◌else◌, ◌==◌, ◌⊎◌}
+use Rattle.std.specs.Prelude.{◌≡◌, ◌≢◌, ℕ, ◌<◌, ◌≤◌, Bool, true, false, List, [], ◌∷◌, length, take, Option, Some, None, Result, slice_set, if◌then◌else◌, ◌==◌, ◌⊎◌}
+use Rattle.tp_model.specs.declared.refusal.Refusal.{Refusal}
 use Rattle.tp_model.specs.Pool.{Outline}
 use Rattle.tp_model.specs.Calls.{Call}
 use Rattle.tp_model.specs.Calls as calls
 use Rattle.tp_model.specs.Clauses.{PoolCall, View}
+use Rattle.tp_pages.specs.Pages.{AreMade, Question}
 use Rattle.nbd_session.specs.declared.phase.Phase.TheVariants.{Ended}
 use Rattle.nbd_session.specs.Session.{State, state, has_ended, is_at_work}
 use Rattle.nbd_session.specs.Clauses.{Advances, IsReady}
@@ -12,7 +14,7 @@ use Rattle.tp_hub.specs.declared.slot.Heard.{Heard}
 use Rattle.tp_hub.specs.declared.slot.Heard.TheVariants.{Whole, Over, Stopped, Parted}
 use Rattle.tp_hub.specs.Told.{Answer, Told, Grows, IsFull}
 use Rattle.tp_hub.specs.Desks.{IsAsked, RunsSo}
-use Rattle.tp_hub.specs.Runs.{Brings, Incoming, IsPart, IsShort, Runs, TakesText, answers_in, front_of, session_in}
+use Rattle.tp_hub.specs.Runs.{Brings, Incoming, IsPart, IsShort, Runs, TakesText, answers_in, front_of, session_in, told_page}
 use Rattle.tp_hub.specs.Serving.{Serves, Slots, sessions_of, shown, slot_at}
 
 -- a place whose session may take a step, or that has none
@@ -104,6 +106,10 @@ module _ {D : Type 0} (view : View D) where
   -- one call was made, and its answer was told
   abbrev pub IsMade : (calls.Answer → List Answer → Type 0) → Call → D → Told → Told → D → Type 0
   IsMade Tells call p before after p' = (answer : calls.Answer) × (answers : List Answer) × PoolCall view p call answer p' × Tells answer answers × Grows before after answers
+
+  -- the calls for a page were made, and it was told
+  abbrev pub IsPageMade : (List Question → Result (List ℕ) Refusal → Type 0) → D → Told → Told → D → Type 0
+  IsPageMade AsksFor p before after p' = (qs : List Question) × (said : Result (List ℕ) Refusal) × AreMade view p qs p' × AsksFor qs said × Grows before after (told_page said ∷ [])
 
   -- one event of the pool: the sessions are as before, whichever they are
   pub record PoolTakes (event : Incoming) (p : D) (whole : Bool) (bytes : ℕ) (before after : Told) (p' : D) : Type 0 where

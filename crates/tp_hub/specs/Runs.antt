@@ -1,7 +1,7 @@
 -- Trusted reading: a run of the hub: events, each with its turns and its answers (own).
-use Rattle.std.specs.Prelude.{◌≡◌, ℕ, zero, suc, ◌<◌, Bool, true, false, List, [], ◌∷◌, ◌++◌, length, take, drop, MatchBool, MatchResult, nat_lt, ◌⊎◌}
+use Rattle.std.specs.Prelude.{◌≡◌, ℕ, zero, suc, ◌<◌, Bool, true, false, if◌then◌else◌, List, [], ◌∷◌, ◌++◌, length, take, drop, MatchBool, MatchOption, MatchResult, Option, None, Some, Result, Ok, Err, nat_lt, ◌⊎◌}
 use Rattle.tp_model.specs.declared.refusal.Refusal.{Refusal}
-use Rattle.tp_model.specs.declared.refusal.Refusal.TheVariants.{BadDeviceId, NoSession, SessionInUse}
+use Rattle.tp_model.specs.declared.refusal.Refusal.TheVariants.{BadDeviceId, BadSyntax, NoSession, SessionInUse}
 use Rattle.tp_model.specs.Pool.{Outline}
 use Rattle.tp_model.specs.Calls.{Call}
 use Rattle.tp_model.specs.Calls as calls
@@ -14,6 +14,7 @@ use Rattle.tp_hub.specs.declared.event.Event.TheVariants as kinds
 use Rattle.tp_msg.specs.declared.message.Message.{Message}
 use Rattle.tp_msg.specs.declared.message.Message.TheVariants as orders
 use Rattle.tp_msg.specs.Messages.{reading}
+use Rattle.tp_pages.specs.Pages.{AsksDelta, AsksMap, AsksSize, Question, unit_of}
 use Rattle.tp_hub.specs.Told.{Answer, Accepts, Lines, Says, Closes, Refuses, Told, Grows, IsFull}
 
 -- ---- events
@@ -28,6 +29,11 @@ pub data Incoming : Type 0 where
   -- the pool's status line is wanted, and a volume's
   AsksLine : Incoming
   AsksLineOf : (volume : ℕ) → Incoming
+  -- a volume's size is wanted
+  AsksSizeOf : (volume : ℕ) → Incoming
+  -- a page is wanted, from a block on, of a volume's mapped blocks, and of those in which a volume may differ from another
+  AsksMapOf : (volume from : ℕ) → Incoming
+  AsksDeltaOf : (old new from : ℕ) → Incoming
   -- what was written is to be kept
   AsksFlush : Incoming
 
@@ -39,6 +45,9 @@ incoming (kinds.Hangup session) = Goes session
 incoming (kinds.Message line) = Orders line.now
 incoming kinds.Status = AsksLine
 incoming (kinds.ThinStatus volume) = AsksLineOf volume
+incoming (kinds.Size volume) = AsksSizeOf volume
+incoming (kinds.Map volume from) = AsksMapOf volume from
+incoming (kinds.Delta old new from) = AsksDeltaOf old new from
 incoming kinds.Flush = AsksFlush
 
 -- its session; an event of the pool has none, for which 0 stands
@@ -50,6 +59,9 @@ session_of (kinds.Hangup session) = session
 session_of (kinds.Message line) = 0
 session_of kinds.Status = 0
 session_of (kinds.ThinStatus volume) = 0
+session_of (kinds.Size volume) = 0
+session_of (kinds.Map volume from) = 0
+session_of (kinds.Delta old new from) = 0
 session_of kinds.Flush = 0
 
 abbrev pub session_in : Incoming → ℕ
@@ -59,6 +71,9 @@ session_in (Goes session) = session
 session_in (Orders line) = 0
 session_in AsksLine = 0
 session_in (AsksLineOf volume) = 0
+session_in (AsksSizeOf volume) = 0
+session_in (AsksMapOf volume from) = 0
+session_in (AsksDeltaOf old new from) = 0
 session_in AsksFlush = 0
 
 -- so many bytes of an event: nothing, or the front of its piece
@@ -70,6 +85,9 @@ front_of (Goes session) bytes = []
 front_of (Orders line) bytes = []
 front_of AsksLine bytes = []
 front_of (AsksLineOf volume) bytes = []
+front_of (AsksSizeOf volume) bytes = []
+front_of (AsksMapOf volume from) bytes = []
+front_of (AsksDeltaOf old new from) bytes = []
 front_of AsksFlush bytes = []
 
 abbrev pub front_of_next : List Incoming → ℕ → List Incoming
@@ -88,6 +106,9 @@ IsPart at (Goes session) bytes = bytes ≡ 0
 IsPart at (Orders line) bytes = bytes ≡ 0
 IsPart at AsksLine bytes = bytes ≡ 0
 IsPart at (AsksLineOf volume) bytes = bytes ≡ 0
+IsPart at (AsksSizeOf volume) bytes = bytes ≡ 0
+IsPart at (AsksMapOf volume from) bytes = bytes ≡ 0
+IsPart at (AsksDeltaOf old new from) bytes = bytes ≡ 0
 IsPart at AsksFlush bytes = bytes ≡ 0
 
 abbrev pub IsPartOfNext : Sessions → List Incoming → ℕ → Type 0
@@ -103,6 +124,9 @@ IsShort at (Goes session) bytes out = IsFull out
 IsShort at (Orders line) bytes out = IsFull out
 IsShort at AsksLine bytes out = IsFull out
 IsShort at (AsksLineOf volume) bytes out = IsFull out
+IsShort at (AsksSizeOf volume) bytes out = IsFull out
+IsShort at (AsksMapOf volume from) bytes out = IsFull out
+IsShort at (AsksDeltaOf old new from) bytes out = IsFull out
 IsShort at AsksFlush bytes out = IsFull out
 
 -- where events are left, the first of them is left for a cause
@@ -191,6 +215,33 @@ TellsLine (calls.Listed slots) answers = ⊥
 abbrev pub IsCalled : {S : Type 0} → Call → (calls.Answer → List Answer → Type 0) → List (Happened S) → List Answer → Type 0
 IsCalled call Tells turns answers = (answer : calls.Answer) × IsOnly turns (Asks call answer) × Tells answer answers
 
+-- these calls of the pool were made, and no others
+abbrev pub AreQuestions : {S : Type 0} → List (Happened S) → List Question → Type 0
+AreQuestions [] [] = Unit {0}
+AreQuestions (h ∷ hs) (q ∷ qs) = (h.turn ≡ Asks q.call q.answer) × AreQuestions hs qs
+AreQuestions [] (q ∷ qs) = ⊥
+AreQuestions (h ∷ hs) [] = ⊥
+
+-- a page is told as a line, and why there is none as a refusal
+abbrev pub told_page : Result (List ℕ) Refusal → Answer
+told_page (Ok text) = Lines text
+told_page (Err reason) = Refuses reason
+
+-- The calls for a page, or for a size, were made, and no others, and it is told.
+abbrev pub IsPageTold : {S : Type 0} → (List Question → Result (List ℕ) Refusal → Type 0) → List (Happened S) → List Answer → Type 0
+IsPageTold AsksFor turns answers = (qs : List Question) × (page : Result (List ℕ) Refusal) × AreQuestions turns qs × AsksFor qs page × (answers ≡ told_page page ∷ [])
+
+-- why a number is no volume's, if it is not
+abbrev pub size_fault : ℕ → Option Refusal
+size_fault volume = if nat_lt volume 16777216 then None else Some BadDeviceId
+
+-- why the numbers of a page are none, if they are not: a volume's and a block's are below 2^24
+abbrev pub map_fault : ℕ → ℕ → Option Refusal
+map_fault volume from = if nat_lt volume 16777216 then (if nat_lt from 16777216 then None else Some BadSyntax) else Some BadDeviceId
+
+abbrev pub delta_fault : ℕ → ℕ → ℕ → Option Refusal
+delta_fault old new from = if nat_lt old 16777216 then map_fault new from else Some BadDeviceId
+
 -- A line that is a message is that call; of one that is none nothing comes but its refusal.
 abbrev pub IsOrdered : {S : Type 0} → List ℕ → List (Happened S) → List Answer → Type 0
 IsOrdered line turns answers = MatchResult (reading line) (λ m. IsCalled (call_of m) TellsDone turns answers) (λ reason. IsRefused reason turns answers)
@@ -201,20 +252,26 @@ is_busy phase [] = false
 is_busy phase (byte ∷ bytes) = is_at_work phase
 
 -- The turns and the answers of an event. A client comes where the session is not open; it is heard, and it goes, where it is open. An event of the pool
--- is one call of it at most, which changes no session.
-abbrev pub IsAnswered : {S : Type 0} → Sessions → Incoming → List (Happened S) → List Answer → Type 0
-IsAnswered at (Comes n profile) turns answers =
+-- is one call of it at most, or three for a page of a delta, which change no session. unit: the bytes of a block of the pool.
+abbrev pub IsAnswered : {S : Type 0} → ℕ → Sessions → Incoming → List (Happened S) → List Answer → Type 0
+IsAnswered unit at (Comes n profile) turns answers =
     MatchBool (has_ended (at n).phase) ((sent : List ℕ) × IsOnly turns (Opens n profile sent) × (answers ≡ answers_in turns)) (IsRefused SessionInUse turns answers)
-IsAnswered at (Brings n piece) turns answers =
+IsAnswered unit at (Brings n piece) turns answers =
     MatchBool (has_ended (at n).phase) (IsRefused NoSession turns answers)
     (MatchBool (is_busy (at n).phase piece) (IsRefused SessionInUse turns answers) (TakesPiece at n piece turns × (answers ≡ answers_in turns)))
-IsAnswered at (Goes n) turns answers =
+IsAnswered unit at (Goes n) turns answers =
     MatchBool (has_ended (at n).phase) (IsRefused NoSession turns answers) (IsOnly turns (Leaves n) × (answers ≡ answers_in turns))
-IsAnswered at (Orders line) turns answers = IsOrdered line turns answers
-IsAnswered at AsksLine turns answers = IsCalled calls.Status TellsLine turns answers
-IsAnswered at (AsksLineOf volume) turns answers =
+IsAnswered unit at (Orders line) turns answers = IsOrdered line turns answers
+IsAnswered unit at AsksLine turns answers = IsCalled calls.Status TellsLine turns answers
+IsAnswered unit at (AsksLineOf volume) turns answers =
     MatchBool (nat_lt volume 16777216) (IsCalled (calls.ThinStatus volume) TellsLine turns answers) (IsRefused BadDeviceId turns answers)
-IsAnswered at AsksFlush turns answers = IsCalled calls.Flush TellsDone turns answers
+IsAnswered unit at (AsksSizeOf volume) turns answers =
+    MatchOption (size_fault volume) (IsPageTold (λ qs page. AsksSize unit volume qs page) turns answers) (λ reason. IsRefused reason turns answers)
+IsAnswered unit at (AsksMapOf volume from) turns answers =
+    MatchOption (map_fault volume from) (IsPageTold (λ qs page. AsksMap unit volume from qs page) turns answers) (λ reason. IsRefused reason turns answers)
+IsAnswered unit at (AsksDeltaOf old new from) turns answers =
+    MatchOption (delta_fault old new from) (IsPageTold (λ qs page. AsksDelta unit old new from qs page) turns answers) (λ reason. IsRefused reason turns answers)
+IsAnswered unit at AsksFlush turns answers = IsCalled calls.Flush TellsDone turns answers
 
 -- an event, with the turns that it came to and its answers
 pub record Served (S : Type 0) : Type 0 where
@@ -242,7 +299,7 @@ module _ {S : Type 0} (outline : S → Outline) (Calls : S → Call → calls.An
   abbrev pub AreServed : Sessions → S → List (Served S) → Type 0
   AreServed at p [] = Unit {0}
   AreServed at p (x ∷ xs) =
-      IsAnswered at x.event x.turns x.answers × AreTurns outline Calls at p x.turns × AreServed (sessions_after at x.turns) (pool_after p x.turns) xs
+      IsAnswered (unit_of (outline p).geometry) at x.event x.turns x.answers × AreTurns outline Calls at p x.turns × AreServed (sessions_after at x.turns) (pool_after p x.turns) xs
 
   -- From these sessions and this pool the events were served, to those, and their answers were added.
   pub record Runs (at : Sessions) (p : S) (events : List Incoming) (before after : Told) (at' : Sessions) (p' : S) : Type 0 where

@@ -20,6 +20,12 @@ pub enum Event<'a> {
     Status,
     /// A volume's status line is wanted.
     ThinStatus(u32),
+    /// A volume's size is wanted, and that of a block.
+    Size(u32),
+    /// A page of the blocks of a volume that are mapped is wanted, from this block on.
+    Map(u32, u32),
+    /// A page of the blocks is wanted, from the last number on, in which the second volume may differ from the first.
+    Delta(u32, u32, u32),
     /// What was written is to be kept, as a client's FLUSH wants it.
     Flush,
 }

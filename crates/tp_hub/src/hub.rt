@@ -12,7 +12,9 @@ ghost use Rattle.tp_hub.specs.Serving.{AllLeave, Serves, sessions_of, slot_at};
 
 use crate::answers::Answers;
 use crate::event::Event;
-use crate::orders::{take_flush, take_message, take_status, take_thin_status};
+use crate::orders::{
+    take_delta, take_flush, take_map, take_message, take_size, take_status, take_thin_status,
+};
 use crate::seat::{Seat, seat_at};
 use crate::shared::ask_place;
 use crate::slot::{Took, hear_slot, leave_place, leave_slot, open_slot};
@@ -190,6 +192,9 @@ impl<V: Managed> Hub<V> {
     /// pool is asked once, and `Done` or its refusal answers it. A status line is the pool's at its turn; that of a volume whose number is over 16777215 is
     /// refused `BadDeviceId`, and the pool is not asked. A flush is answered as a message is.
     ///
+    /// For a volume's size the pool is asked for it, for a page of a map for one walk, and for one of a delta for a size and two walks; what is told is a line, or why there is none. A volume
+    /// whose number is over 16777215 is refused `BadDeviceId`, such a block `BadSyntax`, and the pool is not asked.
+    ///
     /// It stops where one longest answer more does not fit into `out`, since memory is refused or `out` is to be emptied first, and where
     /// memory for a session is refused: the events before and so many bytes of the next one were taken, and a later call goes on from there.
     /// It stops for no other cause.
@@ -335,6 +340,9 @@ fn take_event<V: Managed>(
         Event::Message(line) => take_message(pool, line, out),
         Event::Status => take_status(pool, out),
         Event::ThinStatus(volume) => take_thin_status(pool, volume, out),
+        Event::Size(volume) => take_size(pool, volume, out),
+        Event::Map(volume, first) => take_map(pool, volume, first, out),
+        Event::Delta(one, other, first) => take_delta(pool, one, other, first, out),
         Event::Flush => take_flush(pool, out),
     }
 }

@@ -1,16 +1,18 @@
-//! Messages to the pool, flushes of it, and its status lines.
+//! Messages to the pool, flushes of it, its status lines, sizes of its volumes, and pages of its listings.
 
-ghost use Rattle.std.specs.Prelude.{◌∷◌, [], ◌<◌, ◌≤◌, MatchResult, length, take};
+ghost use Rattle.std.specs.Prelude.{◌≡◌, ◌∷◌, [], ◌<◌, ◌≤◌, MatchResult, None, length, take};
 ghost use Rattle.tp_model.specs.Calls as calls;
 ghost use Rattle.tp_model.specs.Clauses.{PoolCall};
-ghost use Rattle.tp_hub.specs.Runs.{AsksFlush, AsksLine, AsksLineOf, Orders, TellsDone, TellsLine, call_of};
+ghost use Rattle.tp_pages.specs.Pages.{AsksDelta, AsksMap, AsksSize, unit_of};
+ghost use Rattle.tp_hub.specs.Runs.{AsksDeltaOf, AsksFlush, AsksLine, AsksLineOf, AsksMapOf, AsksSizeOf, Orders, TellsDone, TellsLine, call_of, delta_fault, map_fault, size_fault};
 ghost use Rattle.tp_hub.specs.Told.{Grows, HasRoom, Lines};
-ghost use Rattle.tp_hub.specs.Places.{IsMade, PoolTakes};
+ghost use Rattle.tp_hub.specs.Places.{IsMade, IsPageMade, PoolTakes};
 
 use crate::answers::{Answers, Mark};
 use crate::slot::{NOTHING, Took, WHOLE};
-use tp_model::{DevId, Refusal, Volumes};
+use tp_model::{DevId, Refusal, Vb, Volumes};
 use tp_msg::{LineBuffer, Managed, Message, read_message};
+use tp_pages::{PageLine, delta_line, map_line, size_line};
 
 /// Makes the call of a pool that a message asks for, and answers as it does.
 pub fn apply<V: Managed>(pool: &mut V, message: &Message) -> Result<(), Refusal>
@@ -129,6 +131,161 @@ pub fn take_thin_status<V: Managed>(pool: &mut V, volume: u32, out: &mut Answers
         }
         Ok(id) => {
             tell_volume(pool, id, out);
+            WHOLE
+        }
+    }
+}
+
+/// Numbers of volumes and of their blocks are below this one.
+const NUMBERS: u32 = 16_777_216;
+
+/// Why there is no size of such a volume, if there is none.
+fn fault_of_size(volume: u32) -> Option<Refusal>
+    ensures fault { result ≡ size_fault volume }
+    ensures volume { result ≡ None → volume < 16777216 }
+{
+    if volume >= NUMBERS {
+        return Some(Refusal::BadDeviceId);
+    }
+    None
+}
+
+/// Why there is no page of these numbers, if there is none.
+fn fault_of_map(volume: u32, first: u32) -> Option<Refusal>
+    ensures fault { result ≡ map_fault volume first }
+    ensures volume { result ≡ None → volume < 16777216 }
+    ensures first { result ≡ None → first < 16777216 }
+{
+    if volume >= NUMBERS {
+        return Some(Refusal::BadDeviceId);
+    }
+    if first >= NUMBERS {
+        return Some(Refusal::BadSyntax);
+    }
+    None
+}
+
+/// The same of two volumes.
+fn fault_of_delta(old: u32, new: u32, first: u32) -> Option<Refusal>
+    ensures fault { result ≡ delta_fault old new first }
+    ensures one { result ≡ None → old < 16777216 }
+    ensures other { result ≡ None → new < 16777216 }
+    ensures first { result ≡ None → first < 16777216 }
+{
+    if old >= NUMBERS {
+        return Some(Refusal::BadDeviceId);
+    }
+    fault_of_map(new, first)
+}
+
+/// Tells the line of a page.
+fn tell_text(out: &mut Answers, line: &PageLine)
+    requires { HasRoom out.old }
+    ensures { Grows out.old out.new (Lines line.now.bytes ∷ []) }
+{
+    out.tell(line.as_str().as_bytes());
+}
+
+/// Tells a volume's size, or why there is none.
+fn tell_size<V: Managed>(pool: &mut V, id: DevId, out: &mut Answers)
+    requires { HasRoom out.old }
+    ensures { IsPageMade V.view (λ qs said. AsksSize (unit_of (V.view.outline pool.old).geometry) id qs said) pool.old out.old out.new pool.new }
+{
+    let mut line = PageLine::new();
+    match size_line(pool, id, &mut line) {
+        Ok(()) => tell_text(out, &line),
+        Err(reason) => out.note(Mark::Refused { reason }),
+    }
+}
+
+/// Tells a page of the blocks of a volume that are mapped, or why there is none.
+fn tell_map<V: Managed>(pool: &mut V, id: DevId, block: Vb, out: &mut Answers)
+    requires { HasRoom out.old }
+    ensures { IsPageMade V.view (λ qs said. AsksMap (unit_of (V.view.outline pool.old).geometry) id block qs said) pool.old out.old out.new pool.new }
+{
+    let mut line = PageLine::new();
+    match map_line(pool, id, block, &mut line) {
+        Ok(()) => tell_text(out, &line),
+        Err(reason) => out.note(Mark::Refused { reason }),
+    }
+}
+
+/// Tells a page of the blocks in which a volume may differ from another, or why there is none.
+fn tell_delta<V: Managed>(pool: &mut V, one: DevId, other: DevId, block: Vb, out: &mut Answers)
+    requires { HasRoom out.old }
+    ensures { IsPageMade V.view (λ qs said. AsksDelta (unit_of (V.view.outline pool.old).geometry) one other block qs said) pool.old out.old out.new pool.new }
+{
+    let mut line = PageLine::new();
+    match delta_line(pool, one, other, block, &mut line) {
+        Ok(()) => tell_text(out, &line),
+        Err(reason) => out.note(Mark::Refused { reason }),
+    }
+}
+
+/// Tells a volume's size and that of a block, where the number can be a volume's.
+pub fn take_size<V: Managed>(pool: &mut V, volume: u32, out: &mut Answers) -> Took
+    ensures { PoolTakes V.view (AsksSizeOf volume) pool.old result.whole result.bytes out.old out.new pool.new }
+{
+    if out.make_room().is_err() {
+        return NOTHING;
+    }
+    match fault_of_size(volume) {
+        Some(reason) => {
+            out.note(Mark::Refused { reason });
+            WHOLE
+        }
+        None => {
+            let id = DevId::new(volume);
+            tell_size(pool, id, out);
+            WHOLE
+        }
+    }
+}
+
+/// Tells a page of the blocks of a volume that are mapped, from a block on, where the numbers can be theirs.
+pub fn take_map<V: Managed>(pool: &mut V, volume: u32, first: u32, out: &mut Answers) -> Took
+    ensures { PoolTakes V.view (AsksMapOf volume first) pool.old result.whole result.bytes out.old out.new pool.new }
+{
+    if out.make_room().is_err() {
+        return NOTHING;
+    }
+    match fault_of_map(volume, first) {
+        Some(reason) => {
+            out.note(Mark::Refused { reason });
+            WHOLE
+        }
+        None => {
+            let id = DevId::new(volume);
+            let block = Vb::new(first);
+            tell_map(pool, id, block, out);
+            WHOLE
+        }
+    }
+}
+
+/// Tells a page of the blocks in which a volume may differ from another, from a block on, where the numbers can be theirs.
+pub fn take_delta<V: Managed>(
+    pool: &mut V,
+    old: u32,
+    new: u32,
+    first: u32,
+    out: &mut Answers,
+) -> Took
+    ensures { PoolTakes V.view (AsksDeltaOf old new first) pool.old result.whole result.bytes out.old out.new pool.new }
+{
+    if out.make_room().is_err() {
+        return NOTHING;
+    }
+    match fault_of_delta(old, new, first) {
+        Some(reason) => {
+            out.note(Mark::Refused { reason });
+            WHOLE
+        }
+        None => {
+            let one = DevId::new(old);
+            let other = DevId::new(new);
+            let block = Vb::new(first);
+            tell_delta(pool, one, other, block, out);
             WHOLE
         }
     }

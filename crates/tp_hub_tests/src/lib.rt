@@ -14,6 +14,8 @@ mod long;
 #[cfg(test)]
 mod messages;
 #[cfg(test)]
+mod pages;
+#[cfg(test)]
 mod resumed;
 #[cfg(test)]
 mod runs;

@@ -3,12 +3,13 @@ use Rattle.std.proofs.Common.{◌≡◌, ℕ, zero, suc, ◌+◌, ◌-◌, ◌^�
 use Rattle.std.specs.Prelude.{◌==◌, codes, Result, Ok, Err}
 use Rattle.std.proofs.lemmas.Bool.{ne_eqb}
 use Rattle.tp_hub.specs.Told.{Answer, Told, HasRoom}
-use Rattle.tp_hub.specs.Runs.{Incoming, Comes, Brings, Goes, Orders, AsksFlush, AsksLine, AsksLineOf, taken_of}
+use Rattle.tp_hub.specs.Runs.{Incoming, Comes, Brings, Goes, Orders, AsksDeltaOf, AsksFlush, AsksLine, AsksLineOf, AsksMapOf, AsksSizeOf, taken_of}
 use Rattle.tp_hub.specs.Desks.{Exchange, IsAsked, IsBegun, IsCut}
 use Rattle.tp_hub.specs.Carrying.{IsSaid}
 use Rattle.tp_hub.specs.Streams.{Gave, GaveAgain, GaveEnd, GaveNone, Makes, StreamCall}
-use Rattle.tp_lines.specs.Controls.{AnswersLine, AnswersOrEnds, AsksFor, AttendsLines, IsControl, drops_last, ended_by}
+use Rattle.tp_lines.specs.Controls.{AnswersLine, AnswersOrEnds, AsksFor, AttendsLines, IsControl, IsPlain, drops_last, ended_by}
 use Rattle.tp_lines.specs.Lines.{IsNoLine}
+use Rattle.tp_lines.specs.Pages.{IsNoPage}
 use Rattle.tp_lines.specs.ReadLines.{AreDone, AreRead, IsReadOnce, Leads, ReadEnd, ReadFail, ReadStop, left_from, lines_from, one_more}
 use Rattle.tp_lines.specs.Texts.{text_in}
 use Rattle.tp_lines.specs.declared.control.LinesEnd.TheVariants.{EndOfInput}
@@ -21,29 +22,42 @@ use Rattle.tp_lines.proofs.Playing.{one_text}
 -- ---- one line
 
 -- a line of a script that asks for no status line is a message
-pub no_line : (text : List ℕ) → IsNoLine text → IsControl text (Orders text)
+pub no_line : (text : List ℕ) → IsNoLine text → IsPlain text (Orders text)
 no_line text none = (refl, λ e. none Status tt e, λ id lt e. none (Thin id) lt e)
 
 -- nor does a text that begins with another letter ask for one
-headed : (text whole : List ℕ) (n : ℕ) → text ≡ whole → get_or whole 0 0 ≡ n → (n ≡ 115 → ⊥) → (n ≡ 116 → ⊥) → IsControl text (Orders text)
+headed : (text whole : List ℕ) (n : ℕ) → text ≡ whole → get_or whole 0 0 ≡ n → (n ≡ 115 → ⊥) → (n ≡ 116 → ⊥) → IsPlain text (Orders text)
 headed text whole n is first s t =
     let begins : get_or text 0 0 ≡ n = ap (λ (l : List ℕ). get_or l 0 0) is ∙ first in
     (refl, λ e. s (sym begins ∙ ap (λ (l : List ℕ). get_or l 0 0) e), λ id lt e. t (sym begins ∙ ap (λ (l : List ℕ). get_or l 0 0) e))
 
-pub asks_nothing : (text : List ℕ) → text ≡ [] → IsControl text (Orders text)
+pub asks_nothing : (text : List ℕ) → text ≡ [] → IsPlain text (Orders text)
 asks_nothing text is = headed text [] 0 is refl (λ e. absurd (omega (arith, e))) (λ e. absurd (omega (arith, e)))
 
-pub asks_open : (text rest : List ℕ) → text ≡ codes "open " ++ rest → IsControl text (Orders text)
+pub asks_open : (text rest : List ℕ) → text ≡ codes "open " ++ rest → IsPlain text (Orders text)
 asks_open text rest is = headed text (codes "open " ++ rest) 111 is refl (λ e. absurd (omega (arith, e))) (λ e. absurd (omega (arith, e)))
 
-pub asks_bytes : (text rest : List ℕ) → text ≡ codes "bytes " ++ rest → IsControl text (Orders text)
+pub asks_bytes : (text rest : List ℕ) → text ≡ codes "bytes " ++ rest → IsPlain text (Orders text)
 asks_bytes text rest is = headed text (codes "bytes " ++ rest) 98 is refl (λ e. absurd (omega (arith, e))) (λ e. absurd (omega (arith, e)))
 
-pub asks_hangup : (text rest : List ℕ) → text ≡ codes "hangup " ++ rest → IsControl text (Orders text)
+pub asks_hangup : (text rest : List ℕ) → text ≡ codes "hangup " ++ rest → IsPlain text (Orders text)
 asks_hangup text rest is = headed text (codes "hangup " ++ rest) 104 is refl (λ e. absurd (omega (arith, e))) (λ e. absurd (omega (arith, e)))
 
-pub asks_message : (text rest : List ℕ) → text ≡ codes "message " ++ rest → IsControl text (Orders text)
+pub asks_message : (text rest : List ℕ) → text ≡ codes "message " ++ rest → IsPlain text (Orders text)
 asks_message text rest is = headed text (codes "message " ++ rest) 109 is refl (λ e. absurd (omega (arith, e))) (λ e. absurd (omega (arith, e)))
+
+-- a line that asks for no page
+pub plain_control : (text : List ℕ) (event : Incoming) → IsNoPage text → IsPlain text event → IsControl text event
+plain_control text (Comes n a) none plain = absurd plain
+plain_control text (Brings n piece) none plain = absurd plain
+plain_control text (Goes n) none plain = absurd plain
+plain_control text (Orders line) none plain = (plain, none)
+plain_control text AsksLine none plain = plain
+plain_control text (AsksLineOf id) none plain = plain
+plain_control text (AsksSizeOf id) none plain = absurd plain
+plain_control text (AsksMapOf id first) none plain = absurd plain
+plain_control text (AsksDeltaOf old new first) none plain = absurd plain
+plain_control text AsksFlush none plain = absurd plain
 
 -- an event of a control line is taken whole
 whole_of : (text : List ℕ) (event : Incoming) (events bytes : ℕ) → IsControl text event → IsCut event events bytes → IsBegun event events bytes → taken_of (event ∷ []) events bytes ≡ event ∷ []
@@ -53,6 +67,9 @@ whole_of text (Goes n) events bytes is cut begun = absurd is
 whole_of text (Orders line) zero bytes is cut begun = absurd (omega (arith, begun))
 whole_of text AsksLine zero bytes is cut begun = absurd (omega (arith, begun))
 whole_of text (AsksLineOf id) zero bytes is cut begun = absurd (omega (arith, begun))
+whole_of text (AsksSizeOf id) zero bytes is cut begun = absurd (omega (arith, begun))
+whole_of text (AsksMapOf id first) zero bytes is cut begun = absurd (omega (arith, begun))
+whole_of text (AsksDeltaOf old new first) zero bytes is cut begun = absurd (omega (arith, begun))
 whole_of text AsksFlush events bytes is cut begun = absurd is
 whole_of text event (suc zero) bytes is cut begun = refl
 whole_of text event (suc (suc n)) bytes is cut begun = let none = cut.0 in absurd (omega (arith, none))

@@ -4,5 +4,6 @@ mod Digits
 pub mod Doing
 pub mod Piping
 pub mod Playing
+mod Paging
 mod Splitting
 pub mod Telling

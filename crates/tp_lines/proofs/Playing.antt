@@ -4,7 +4,7 @@ use Rattle.std.specs.Prelude.{◌⊎◌, not, OnErr, OnOk, Result, Ok, Err}
 use Rattle.std.proofs.lemmas.List.{append-nil, drop-drop, drop_all, length-drop, length-take-le, take-append-drop}
 use Rattle.tp_hub.specs.Told.{Answer, HasRoom, Told}
 use Rattle.nbd_session.specs.declared.phase.Profile.{Profile}
-use Rattle.tp_hub.specs.Runs.{Incoming, Comes, Brings, Goes, Orders, AsksFlush, AsksLine, AsksLineOf, taken_of}
+use Rattle.tp_hub.specs.Runs.{Incoming, Comes, Brings, Goes, Orders, AsksDeltaOf, AsksFlush, AsksLine, AsksLineOf, AsksMapOf, AsksSizeOf, taken_of}
 use Rattle.tp_hub.specs.Desks.{Exchange, IsAsked, IsBegun, IsCut}
 use Rattle.tp_hub.specs.Carrying.{IsSaid}
 use Rattle.tp_hub.specs.Streams.{Gave, GaveAgain, GaveEnd, GaveNone, Makes, StreamCall}
@@ -29,6 +29,9 @@ taken_whole (Goes n) zero bytes whole cut = inr (refl, cut, refl)
 taken_whole (Orders line) zero bytes whole cut = inr (refl, cut, refl)
 taken_whole AsksLine zero bytes whole cut = inr (refl, cut, refl)
 taken_whole (AsksLineOf id) zero bytes whole cut = inr (refl, cut, refl)
+taken_whole (AsksSizeOf id) zero bytes whole cut = inr (refl, cut, refl)
+taken_whole (AsksMapOf id first) zero bytes whole cut = inr (refl, cut, refl)
+taken_whole (AsksDeltaOf old new first) zero bytes whole cut = inr (refl, cut, refl)
 taken_whole AsksFlush zero bytes whole cut = inr (refl, cut, refl)
 taken_whole event (suc zero) bytes whole cut = inl (omega arith, refl)
 taken_whole event (suc (suc n)) bytes whole cut = let none = cut.0 in absurd (omega (arith, none))
@@ -41,6 +44,9 @@ comes_so (Goes n) bytes whole begun = absurd (omega (arith, begun))
 comes_so (Orders line) bytes whole begun = absurd (omega (arith, begun))
 comes_so AsksLine bytes whole begun = absurd (omega (arith, begun))
 comes_so (AsksLineOf id) bytes whole begun = absurd (omega (arith, begun))
+comes_so (AsksSizeOf id) bytes whole begun = absurd (omega (arith, begun))
+comes_so (AsksMapOf id first) bytes whole begun = absurd (omega (arith, begun))
+comes_so (AsksDeltaOf old new first) bytes whole begun = absurd (omega (arith, begun))
 comes_so AsksFlush bytes whole begun = absurd (omega (arith, begun))
 
 -- and of a piece

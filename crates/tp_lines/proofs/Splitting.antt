@@ -35,13 +35,13 @@ no_space text same w r e =
 digit_no_space : (c : ℕ) → is_ascii_digit c ≡ true → (c == 32) ≡ false
 digit_no_space c h = let low = leb-true 48 c (and_parts _ _ h).0 in ne_eqb c 32 (λ e. absurd (omega arith))
 
-first_word-append : (w rest : List ℕ) → all_ascii_digits w ≡ true → first_word (w ++ (32 ∷ rest)) ≡ w
+pub first_word-append : (w rest : List ℕ) → all_ascii_digits w ≡ true → first_word (w ++ (32 ∷ rest)) ≡ w
 first_word-append [] rest h = refl
 first_word-append (c ∷ cs) rest h =
     let p = and_parts (is_ascii_digit c) (all_ascii_digits cs) h in
     ap (λ (b : Bool). if b then [] else c ∷ first_word (cs ++ (32 ∷ rest))) (digit_no_space c p.0) ∙ ap (λ (ds : List ℕ). c ∷ ds) (first_word-append cs rest p.1)
 
-behind-append : (w rest : List ℕ) → all_ascii_digits w ≡ true → behind (w ++ (32 ∷ rest)) ≡ rest
+pub behind-append : (w rest : List ℕ) → all_ascii_digits w ≡ true → behind (w ++ (32 ∷ rest)) ≡ rest
 behind-append [] rest h = refl
 behind-append (c ∷ cs) rest h =
     let p = and_parts (is_ascii_digit c) (all_ascii_digits cs) h in
@@ -99,7 +99,7 @@ spaced_line text (Thin id) some other none e = none (codes "thin") (decimal id) 
 pub one_word : (text : List ℕ) → (text ≡ [] → ⊥) → (text ≡ codes "status" → ⊥) → HasNoSpace text → IsNoLine text
 one_word text some other none l good e = spaced_line text l some other none e
 
-together : (text word rest front behind_it : List ℕ) → text ≡ word ++ 32 ∷ rest → word ≡ front → rest ≡ behind_it → text ≡ front ++ 32 ∷ behind_it
+pub together : (text word rest front behind_it : List ℕ) → text ≡ word ++ 32 ∷ rest → word ≡ front → rest ≡ behind_it → text ≡ front ++ 32 ∷ behind_it
 together text word rest front behind_it whole w r = whole ∙ (ap (λ (x : List ℕ). x ++ 32 ∷ rest) w ∙ ap (λ (x : List ℕ). front ++ 32 ∷ x) r)
 
 pub spelled : (text word rest : List ℕ) (l : ScriptLine) → IsCut text word rest → IsSplit word rest l → text ≡ spelling l

@@ -1,7 +1,7 @@
 -- Trusted reading: control lines over a desk and a stream: the events that they are, and what is written (own).
 use Rattle.std.specs.Prelude.{◌≡◌, ℕ, ◌<◌, Bool, true, false, List, [], ◌∷◌, ◌++◌, codes, Result, Ok, Err}
 use Rattle.std.specs.Fmt.{decimal}
-use Rattle.tp_hub.specs.Runs.{Incoming, Comes, Brings, Goes, Orders, AsksFlush, AsksLine, AsksLineOf}
+use Rattle.tp_hub.specs.Runs.{Incoming, Comes, Brings, Goes, Orders, AsksDeltaOf, AsksFlush, AsksLine, AsksLineOf, AsksMapOf, AsksSizeOf}
 use Rattle.tp_hub.specs.Desks.{Exchange}
 use Rattle.tp_hub.specs.Streams.{StreamCall}
 use Rattle.tp_hub.specs.Carrying.{IsSaid}
@@ -9,17 +9,35 @@ use Rattle.tp_lines.specs.declared.control.LinesEnd.{LinesEnd}
 use Rattle.tp_lines.specs.declared.control.LinesEnd.TheVariants.{NoMemory, EndOfInput, InputFailed, OutputFailed}
 use Rattle.tp_lines.specs.declared.control.Lost.{Lost}
 use Rattle.tp_lines.specs.declared.control.Lost.TheVariants.{Input, Output}
+use Rattle.tp_lines.specs.declared.pages.PageOf.TheVariants.{Size, Map, Delta}
+use Rattle.tp_lines.specs.Pages.{IsNoPage, IsPageLine, page_spelling}
 use Rattle.tp_lines.specs.ReadLines.{AreRead, answered}
 use Rattle.tp_lines.specs.Texts.{text_in}
 
--- the event that a line is: a line that asks for no status line is a message to the pool
+-- the event that a line is, where it asks for no page: a line that asks for no status line is a message to the pool
+abbrev pub IsPlain : List ℕ → Incoming → Type 0
+IsPlain text (Comes n profile) = ⊥
+IsPlain text (Brings n piece) = ⊥
+IsPlain text (Goes n) = ⊥
+IsPlain text (Orders line) = (line ≡ text) × (text ≡ codes "status" → ⊥) × ((id : ℕ) → id < 16777216 → text ≡ codes "thin " ++ decimal id → ⊥)
+IsPlain text AsksLine = text ≡ codes "status"
+IsPlain text (AsksLineOf id) = (id < 16777216) × (text ≡ codes "thin " ++ decimal id)
+IsPlain text (AsksSizeOf id) = ⊥
+IsPlain text (AsksMapOf id first) = ⊥
+IsPlain text (AsksDeltaOf old new first) = ⊥
+IsPlain text AsksFlush = ⊥
+
+-- the event that a line is: one that asks for no page of a listing either is a message to the pool
 abbrev pub IsControl : List ℕ → Incoming → Type 0
 IsControl text (Comes n profile) = ⊥
 IsControl text (Brings n piece) = ⊥
 IsControl text (Goes n) = ⊥
-IsControl text (Orders line) = (line ≡ text) × (text ≡ codes "status" → ⊥) × ((id : ℕ) → id < 16777216 → text ≡ codes "thin " ++ decimal id → ⊥)
-IsControl text AsksLine = text ≡ codes "status"
-IsControl text (AsksLineOf id) = (id < 16777216) × (text ≡ codes "thin " ++ decimal id)
+IsControl text (Orders line) = IsPlain text (Orders line) × IsNoPage text
+IsControl text AsksLine = IsPlain text AsksLine
+IsControl text (AsksLineOf id) = IsPlain text (AsksLineOf id)
+IsControl text (AsksSizeOf id) = IsPageLine (Size id) × (text ≡ page_spelling (Size id))
+IsControl text (AsksMapOf id first) = IsPageLine (Map id first) × (text ≡ page_spelling (Map id first))
+IsControl text (AsksDeltaOf old new first) = IsPageLine (Delta old new first) × (text ≡ page_spelling (Delta old new first))
 IsControl text AsksFlush = ⊥
 
 -- what is asked for a line: nothing for an empty one, and its event once for any other

@@ -1,5 +1,6 @@
 pub mod Controls
 pub mod Lines
+pub mod Pages
 pub mod Pipes
 pub mod Plays
 pub mod ReadLines

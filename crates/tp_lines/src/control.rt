@@ -1,14 +1,16 @@
-//! Control lines over a desk: messages to a pool that is served, and questions for its status lines.
+//! Control lines over a desk: messages to a pool that is served, and questions for its status lines and for pages of its listings.
 
 ghost use Rattle.std.specs.Prelude.{◌≡◌, ◌<◌, ◌∷◌, ℕ, [], IfOk, OnOk, length};
 ghost use Rattle.tp_hub.specs.Told.{HasRoom};
 ghost use Rattle.tp_hub.specs.Runs.{incoming};
-ghost use Rattle.tp_lines.specs.Controls.{AnswersLine, AnswersOrEnds, AttendsLines, IsControl, drops_last, ended_by};
+ghost use Rattle.tp_lines.specs.Controls.{AnswersLine, AnswersOrEnds, AttendsLines, IsControl, IsPlain, drops_last, ended_by};
 ghost use Rattle.tp_lines.specs.ReadLines.{AreDone, AreRead, IsReadOnce, Leads, left_from, lines_from};
 ghost use Rattle.tp_lines.specs.Lines.{IsLine, spelling};
+ghost use Rattle.tp_lines.specs.Pages.{IsPageLine, page_spelling};
 
 use crate::held::{HeldLine, zeroes};
 use crate::line::{ScriptLine, read_line};
+use crate::pages::{PageOf, read_page};
 use crate::text::tell;
 use std::alloc::{AllocError, Global};
 use tp_hub::{Answers, Desk, Event, Received, Stream};
@@ -52,7 +54,7 @@ const PIECE: usize = 256;
 fn event_like<'a>(asked: ScriptLine<'_>, line: &'a [u8]) -> Event<'a>
     requires good { IsLine asked }
     requires spelled { line.now ≡ spelling asked }
-    ensures { IsControl line.now (incoming result) }
+    ensures { IsPlain line.now (incoming result) }
 {
     match asked {
         ScriptLine::Status => Event::Status,
@@ -65,13 +67,38 @@ fn event_like<'a>(asked: ScriptLine<'_>, line: &'a [u8]) -> Event<'a>
     }
 }
 
-/// The event that a line is: `status` and `thin ID` ask for a status line, and any other is a message to the pool.
-fn event_of(line: &[u8]) -> Event<'_>
-    ensures { IsControl line.now (incoming result) }
+/// The event that a line is, where it asks for no page: `status` and `thin ID` ask for a status line, and any other is a message to the pool.
+fn plain_event(line: &[u8]) -> Event<'_>
+    ensures { IsPlain line.now (incoming result) }
 {
     match read_line(line) {
         None => Event::Message(line),
         Some(asked) => event_like(asked, line),
+    }
+}
+
+/// The event of a line that asks for a page or a size.
+fn page_event<'a>(asked: PageOf, line: &'a [u8]) -> Event<'a>
+    requires good { IsPageLine asked }
+    requires spelled { line.now ≡ page_spelling asked }
+    ensures { IsControl line.now (incoming result) }
+{
+    let _ = line;
+    match asked {
+        PageOf::Size(volume) => Event::Size(volume),
+        PageOf::Map(volume, block) => Event::Map(volume, block),
+        PageOf::Delta(one, other, block) => Event::Delta(one, other, block),
+    }
+}
+
+/// The event that a line is: `size ID` asks for a volume's size, `map ID FROM` and `delta OLD NEW FROM` ask for a page of a listing, `status` and `thin ID` for a status line, and any other is a message to the
+/// pool.
+fn event_of(line: &[u8]) -> Event<'_>
+    ensures { IsControl line.now (incoming result) }
+{
+    match read_page(line) {
+        None => plain_event(line),
+        Some(asked) => page_event(asked, line),
     }
 }
 
@@ -98,8 +125,9 @@ fn ask_line<D: Desk, S: Stream>(
 /// Answers a control line, which has no newline here: its event is asked once, and what is answered is written, a line each, and flushed. An empty line
 /// does nothing. False where the stream failed: then it took a beginning of the answer.
 ///
-/// The lines are `status`, `thin ID` for the status line of a volume, and any other is a message to the pool, such as `create_thin 1`. `ok`, `refused N`
-/// and the status line are the answers.
+/// The lines are `status`, `thin ID` for the status line of a volume, `size ID` for its size, `map ID FROM` and `delta OLD NEW FROM` for a page of a listing, from a block on, and any other is a
+/// message to the pool, such as `create_thin 1`. `ok`, `refused N`, the status line, the size and the page are the answers. A page has up to seven `OFFSET+LENGTH`, in bytes, and then
+/// `next BLOCK`, or `end` where there is no more.
 pub fn answer_line<D: Desk, S: Stream>(
     desk: &mut D,
     line: &[u8],

@@ -44,7 +44,7 @@ fn session_of(text: &[u8]) -> Option<u8>
 }
 
 /// The id of a volume, in such digits.
-fn volume_of(text: &[u8]) -> Option<u32>
+pub(crate) fn volume_of(text: &[u8]) -> Option<u32>
     ensures { MatchOption result ((n : ℕ) → n < 16777216 → text.now ≡ decimal n → ⊥) (λ n. (n < 16777216) × (text.now ≡ decimal n)) }
 {
     match id_of(text) {
@@ -88,7 +88,7 @@ fn is_hex(text: &[u8]) -> bool
 }
 
 /// The text before the first space, and the one behind it. None where there is no space.
-fn cut(text: &[u8]) -> Option<(&[u8], &[u8])>
+pub(crate) fn cut(text: &[u8]) -> Option<(&[u8], &[u8])>
     ensures { MatchOption result (HasNoSpace text.now) (λ parts. IsCut text.now parts.0.now parts.1.now) }
 {
     let mut place = 0;

@@ -8,7 +8,8 @@ ghost use Rattle.tp_holders.specs.Holders.{holds_of};
 use arrayvec::ArrayVec;
 use tp_holders::{Holder, Holders, release};
 use tp_model::{
-    DevId, Flushing, Geometry, Mode, Refusal, SharedReads, SharedVolumes, Staged, Volumes,
+    DevId, Flushing, Geometry, Mode, Refusal, SharedReads, SharedVolumes, Slots, Staged, Vb,
+    Volumes, Walked,
 };
 use tp_msg::{LineBuffer, Managed};
 
@@ -178,6 +179,12 @@ impl Staged for FailingShelf {
         let MidFailing { mut shelf, left: _ } = midway;
         let answer = shelf.flush();
         (shelf, answer)
+    }
+}
+
+impl Walked for FailingShelf {
+    fn walk(&mut self, _id: DevId, _from: Vb, _slots: &mut Slots) -> Result<(), Refusal> {
+        Err(self.reason(Refusal::Damaged))
     }
 }
 

@@ -1,6 +1,6 @@
 //! The volumes, and the pool that they are of. A contract knows who holds them and how often they were flushed, and nothing of what they hold.
 
-ghost use Rattle.std.specs.Prelude.{◌≡◌, IfOk, length};
+ghost use Rattle.std.specs.Prelude.{◌≡◌, ◌<◌, ◌≤◌, IfOk, length};
 ghost use Rattle.std.specs.FinMap.{empty};
 ghost use Rattle.tp_model.specs.Flushing.{IsFlushing};
 ghost use Rattle.tp_holders.specs.Holders.{holds_of};
@@ -13,7 +13,8 @@ use std::thread;
 use tp_holders::{Holder, Holders, release};
 use tp_hub::{Log, Made};
 use tp_model::{
-    DevId, Flushing, Geometry, Mode, Refusal, SharedReads, SharedVolumes, Staged, Volumes,
+    DevId, Flushing, Geometry, Mode, Pb, Refusal, SharedReads, SharedVolumes, Slot, Slots, Staged,
+    Vb, Volumes, Walked,
 };
 use tp_msg::{LineBuffer, Managed, PoolStatus, VolumeStatus, print_status, print_thin};
 
@@ -326,6 +327,40 @@ impl Staged for Shelf {
         let MidShelf { mut shelf, left: _ } = midway;
         let answer = shelf.flush();
         (shelf, answer)
+    }
+}
+
+/// The number that a walk tells for a block: its own, and for the last half of the second volume one of those behind.
+fn place_of(id: DevId, block: u32, blocks: u32) -> Pb
+    requires block { block < 16777216 }
+    requires blocks { blocks ≤ 16777216 }
+{
+    let is_apart = id.number() == 1 && block >= blocks / 2;
+    let shift = if is_apart { blocks } else { 0 };
+    Pb::new((block + shift) % 1_048_576)
+}
+
+/// Lists the blocks of a volume from one on, as many as there is room for.
+fn list_blocks(slots: &mut Slots, id: DevId, from: Vb, blocks: u32)
+    requires { blocks ≤ 16777216 }
+{
+    slots.clear();
+    for block in from.number()..blocks {
+        if slots.is_full() {
+            return;
+        }
+        slots.push(Slot::new(Vb::new(block), place_of(id, block, blocks)));
+    }
+}
+
+impl Walked for Shelf {
+    /// Each block of both volumes is listed.
+    fn walk(&mut self, id: DevId, from: Vb, slots: &mut Slots) -> Result<(), Refusal> {
+        if id.number() >= 2 {
+            return Err(Refusal::NoSuchDevice);
+        }
+        list_blocks(slots, id, from, self.geometry.virtual_blocks());
+        Ok(())
     }
 }
 

@@ -1,5 +1,5 @@
 use Rattle.std.proofs.Common.{◌<◌, ◌∙◌, [], refl, sym, arith}
-use Rattle.tp_hub.specs.Runs.{AsksFlush, AsksLine, AsksLineOf, Brings, Comes, Goes, Orders}
+use Rattle.tp_hub.specs.Runs.{AsksDeltaOf, AsksFlush, AsksLine, AsksLineOf, AsksMapOf, AsksSizeOf, Brings, Comes, Goes, Orders}
 use Rattle.tp_hub.proofs.Asking.{pool_event}
 use Rattle.tp_hub.specs.Places.{IsIdleSlot}
 use Rattle.tp_hub.proofs.Idling.{idle_here, idle_set, not_there, same_session, same_text}
@@ -66,6 +66,18 @@ pub returns-in-ThinStatus-clause-takes : goal.returns-in-ThinStatus-clause-takes
 returns-in-ThinStatus-clause-takes g c =
     rw c.in-ThinStatus.is (pool_event g.V.Volumes.view (AsksLineOf c.in-ThinStatus.volume) c.args.sessions.now c.args.pool.now c.take_thin_status.new.pool c.take_thin_status.result.whole c.take_thin_status.result.bytes c.args.out.now c.take_thin_status.new.out c.requires.serves c.take_thin_status.ensures)
 
+pub returns-in-Size-clause-takes : goal.returns-in-Size-clause-takes
+returns-in-Size-clause-takes g c =
+    rw c.in-Size.is (pool_event g.V.Volumes.view (AsksSizeOf c.in-Size.volume) c.args.sessions.now c.args.pool.now c.take_size.new.pool c.take_size.result.whole c.take_size.result.bytes c.args.out.now c.take_size.new.out c.requires.serves c.take_size.ensures)
+
+pub returns-in-Map-clause-takes : goal.returns-in-Map-clause-takes
+returns-in-Map-clause-takes g c =
+    rw c.in-Map.is (pool_event g.V.Volumes.view (AsksMapOf c.in-Map.volume c.in-Map.first) c.args.sessions.now c.args.pool.now c.take_map.new.pool c.take_map.result.whole c.take_map.result.bytes c.args.out.now c.take_map.new.out c.requires.serves c.take_map.ensures)
+
+pub returns-in-Delta-clause-takes : goal.returns-in-Delta-clause-takes
+returns-in-Delta-clause-takes g c =
+    rw c.in-Delta.is (pool_event g.V.Volumes.view (AsksDeltaOf c.in-Delta.one c.in-Delta.other c.in-Delta.first) c.args.sessions.now c.args.pool.now c.take_delta.new.pool c.take_delta.result.whole c.take_delta.result.bytes c.args.out.now c.take_delta.new.out c.requires.serves c.take_delta.ensures)
+
 pub returns-in-Flush-clause-takes : goal.returns-in-Flush-clause-takes
 returns-in-Flush-clause-takes g c =
     rw c.in-Flush.is (pool_event g.V.Volumes.view AsksFlush c.args.sessions.now c.args.pool.now c.take_flush.new.pool c.take_flush.result.whole c.take_flush.result.bytes c.args.out.now c.take_flush.new.out c.requires.serves c.take_flush.ensures)
@@ -127,6 +139,24 @@ returns-in-ThinStatus-clause-idle g c n parted idle = idle
 
 pub returns-in-ThinStatus-clause-made : goal.returns-in-ThinStatus-clause-made
 returns-in-ThinStatus-clause-made g c n parted is whole = let is_not = rw c.in-ThinStatus.is at is in absurd cc
+
+pub returns-in-Size-clause-idle : goal.returns-in-Size-clause-idle
+returns-in-Size-clause-idle g c n parted idle = idle
+
+pub returns-in-Size-clause-made : goal.returns-in-Size-clause-made
+returns-in-Size-clause-made g c n parted is whole = let is_not = rw c.in-Size.is at is in absurd cc
+
+pub returns-in-Map-clause-idle : goal.returns-in-Map-clause-idle
+returns-in-Map-clause-idle g c n parted idle = idle
+
+pub returns-in-Map-clause-made : goal.returns-in-Map-clause-made
+returns-in-Map-clause-made g c n parted is whole = let is_not = rw c.in-Map.is at is in absurd cc
+
+pub returns-in-Delta-clause-idle : goal.returns-in-Delta-clause-idle
+returns-in-Delta-clause-idle g c n parted idle = idle
+
+pub returns-in-Delta-clause-made : goal.returns-in-Delta-clause-made
+returns-in-Delta-clause-made g c n parted is whole = let is_not = rw c.in-Delta.is at is in absurd cc
 
 pub returns-in-Flush-clause-idle : goal.returns-in-Flush-clause-idle
 returns-in-Flush-clause-idle g c n parted idle = idle

@@ -1,5 +1,6 @@
-use Rattle.tp_lines.proofs.Controlling.{no_line}
+use Rattle.tp_hub.specs.Runs.{incoming}
+use Rattle.tp_lines.proofs.Controlling.{plain_control}
 use Rattle.tp_lines.proofs.control.event_of.Goals as goal
 
 pub returns-in-None : goal.returns-in-None
-returns-in-None c = no_line c.args.line.now c.in-None.ensures
+returns-in-None c = plain_control c.args.line.now (incoming c.plain_event.result) c.in-None.ensures c.plain_event.ensures
