@@ -5,6 +5,7 @@ use std::io::IsTerminal;
 use std::process::ExitCode;
 use tp_images::FileImages;
 use tp_program::{Terminals, Timed, program, stand_in, without_streams, without_words};
+use tp_progress::Teller;
 use tp_words::words;
 
 /// What is told on standard error waits so many milliseconds for its reader.
@@ -27,6 +28,7 @@ fn main(rt: HostRuntime) -> ExitCode {
             rt.alloc(),
             &words,
             terminals,
+            Teller::new(&rt, Timed::new(rt.stderr(), PATIENCE), terminals.errors),
             &mut rt.stdin(),
             &mut rt.stdout(),
             &mut Timed::new(rt.stderr(), PATIENCE),

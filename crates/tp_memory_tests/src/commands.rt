@@ -114,6 +114,7 @@ where
         rt.alloc(),
         ask.words,
         NO_TERMINAL,
+        (),
         &mut input,
         &mut ran.output,
         &mut ran.errors,

@@ -8,13 +8,21 @@ use crate::talk::{READS, answers_to_reads, reads};
 use std::alloc::Global;
 use std::sync::Wait;
 use std::thread::Threads;
+use tp_cache::ReadCache;
 use tp_crowd::{Served, serve_all};
+use tp_disk::SharedDisk;
 use tp_hub::Hub;
+use tp_meta::Meta;
 
 /// Serves these clients: how many came, how many of them were refused, and the hub behind them.
-fn serve<'a, H>(rt: &H, hub: Hub<MemServed>, clients: Vec<Guest<'a>>) -> ((u8, u64), Hub<MemServed>)
+fn serve<'a, H, D>(
+    rt: &H,
+    hub: Hub<tp_served::Served<ReadCache<D>, Meta>>,
+    clients: Vec<Guest<'a>>,
+) -> ((u8, u64), Hub<tp_served::Served<ReadCache<D>, Meta>>)
 where
     H: Threads + Wait + Sync + Alloc<A = Global>,
+    D: SharedDisk + Drop + Send + Sync,
 {
     let served = serve_all(rt, rt.alloc(), hub, clients.into_iter(), &Silence);
     let Served { hub, came, refused } = served;

@@ -137,6 +137,7 @@ where
         rt.alloc(),
         words,
         NO_TERMINAL,
+        (),
         &mut input,
         &mut output,
         notice,

@@ -10,8 +10,8 @@ use Rattle.std.proofs.lemmas.Option.{same_Some}
 use Rattle.tp_model.specs.PoolStops.{Event, MayBeLeft, Nothing, keeps, reopened, state_after}
 use Rattle.tp_model.proofs.Found.{MayReopen-nothing}
 use Rattle.tp_model.specs.Clauses.{Called, Continues, Entry, HasTrace, IsAnswered, IsTrace, Traced, TracedCall, View, ViewLaws, events_of, failed_in, found_now, found_since, traced}
-use Rattle.tp_program.specs.declared.failure.Failure.{Failure}
-use Rattle.tp_program.specs.Failures.{number_of}
+use Rattle.tp_failures.specs.declared.failure.Failure.{Failure}
+use Rattle.tp_failures.specs.Failures.{number_of}
 use Rattle.tp_program.specs.Lives.{closing_of}
 use Rattle.tp_model.proofs.PoolStopLaws.{call_leaves, call_left}
 use Rattle.tp_model.proofs.Running.{IsTrace-append, events-append, reopened_after, trace_state}

@@ -2,8 +2,8 @@
 use Rattle.std.proofs.Common.{◌≡◌, Result, Ok, Err, subst, sym}
 use Rattle.std.specs.Prelude.{OnOk}
 use Rattle.tp_model.specs.declared.refusal.Refusal.{Refusal}
-use Rattle.tp_program.specs.declared.failure.Failure.{Failure}
-use Rattle.tp_program.specs.Failures.{number_of}
+use Rattle.tp_failures.specs.declared.failure.Failure.{Failure}
+use Rattle.tp_failures.specs.Failures.{number_of}
 
 ok_of : {A : Type 0} (P : Type 0) (r : Result A Failure) → OnOk (number_of r) P → OnOk r P
 ok_of P (Ok x) p = p

@@ -16,8 +16,8 @@ use Rattle.tp_hub.specs.Streams.{StreamCall}
 use Rattle.tp_images.specs.Deeds.{AreHonest, Deed, OnImage}
 use Rattle.tp_images.specs.declared.way.Way.{Way}
 use Rattle.tp_tasks.specs.declared.task.Sizes.{Sizes}
-use Rattle.tp_program.specs.declared.failure.Failure.{Failure}
-use Rattle.tp_program.specs.Failures.{number_of}
+use Rattle.tp_failures.specs.declared.failure.Failure.{Failure}
+use Rattle.tp_failures.specs.Failures.{number_of}
 use Rattle.tp_program.specs.First.{first_pool}
 use Rattle.tp_program.specs.Images.{IsFormatted, IsMessageGiven, IsStatusTold, sizes_asked}
 use Rattle.tp_program.specs.Printing.{Prints, newline, status_call}

@@ -14,4 +14,3 @@ mod Deeds
 mod Accepted
 mod Kept
 mod FirstUser
-mod Numbers

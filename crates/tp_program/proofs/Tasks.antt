@@ -8,8 +8,8 @@ use Rattle.tp_lines.specs.Pipes.{IsPiped}
 use Rattle.tp_tasks.specs.CommandLine.{AskFor, IsScript, Text}
 use Rattle.tp_tasks.specs.declared.task.Asked.{Asked}
 use Rattle.tp_tasks.specs.declared.task.Task.{Task}
-use Rattle.tp_tasks.specs.declared.task.Task.TheVariants.{Format, Create, Message, Status, Check, Report, Feed, Serve, Play, Run, Ask}
-use Rattle.tp_program.specs.declared.failure.Failure.{Failure}
+use Rattle.tp_tasks.specs.declared.task.Task.TheVariants.{Format, Create, Message, Status, Check, Report, DeltaAt, Feed, Serve, Play, Run, Ask}
+use Rattle.tp_failures.specs.declared.failure.Failure.{Failure}
 use Rattle.tp_program.specs.declared.scripts.Unplayed.{Unplayed}
 use Rattle.tp_program.specs.Scripts.{IsBadLine}
 use Rattle.tp_program.specs.Statuses.{EndsBy, status_after}
@@ -38,6 +38,7 @@ module _ (asks : Bool) (old new : List Deed) (left left' told told' : Option (Li
   does_streamed (Status image id) none done = done
   does_streamed (Check image clears) none done = done
   does_streamed (Report image listing is_json) none done = done
+  does_streamed (DeltaAt place one other is_json) none done = done
   does_streamed (Feed image is_extended) none done = done
   does_streamed (Serve image address clients control) none done = done
   does_streamed (Play image script is_extended) none done = absurd (none tt)
@@ -52,6 +53,7 @@ module _ (asks : Bool) (old new : List Deed) (left left' told told' : Option (Li
   bad_line_is_script (Status image id) done = plain_is_good result done.2.0 done.2.1
   bad_line_is_script (Check image clears) done = plain_is_good result done.2.0 done.2.1
   bad_line_is_script (Report image listing is_json) done = plain_is_good result done.2.0 done.2.1
+  bad_line_is_script (DeltaAt place one other is_json) done = plain_is_good result done.2.0 done.2.1
   bad_line_is_script (Feed image is_extended) done = plain_is_good result done.2.0 done.2.1
   bad_line_is_script (Serve image address clients control) done = plain_is_good result done.2.0 done.2.1
   bad_line_is_script (Play image script is_extended) done = script_may result

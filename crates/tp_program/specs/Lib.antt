@@ -1,7 +1,5 @@
-pub mod Answered
 pub mod Asking
 pub mod Creating
-pub mod Failures
 pub mod First
 pub mod Images
 pub mod Lives

@@ -12,7 +12,7 @@ use Rattle.tp_lines.specs.declared.play.Stopped.{Stopped}
 use Rattle.tp_lines.specs.declared.play.Stopped.TheVariants as stopped
 use Rattle.tp_lines.specs.Plays.{PlaysScript}
 use Rattle.tp_lines.specs.ReadLines.{one_more}
-use Rattle.tp_program.specs.declared.failure.Failure.{Failure}
+use Rattle.tp_failures.specs.declared.failure.Failure.{Failure}
 use Rattle.tp_program.specs.declared.scripts.Unplayed.{Unplayed}
 use Rattle.tp_program.specs.declared.scripts.Unplayed.TheVariants.{Refused, BadLine}
 use Rattle.tp_program.specs.Lives.{IsFirstLife, IsLifeOn, closing_of}

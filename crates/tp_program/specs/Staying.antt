@@ -6,8 +6,8 @@ use Rattle.tp_model.specs.Disk.{DiskState}
 use Rattle.tp_hub.specs.Desks.{Exchange}
 use Rattle.tp_images.specs.Deeds.{Deed, OnImage, Refuses}
 use Rattle.tp_images.specs.declared.way.Way.TheVariants.{ToWrite}
-use Rattle.tp_program.specs.declared.places.NoDoor.{NoDoor}
-use Rattle.tp_program.specs.declared.places.NoDoor.TheVariants as doors
+use Rattle.tp_places.specs.declared.places.NoDoor.{NoDoor}
+use Rattle.tp_places.specs.declared.places.NoDoor.TheVariants as doors
 use Rattle.tp_program.specs.Lives.{IsLifeOn, closing_of}
 use Rattle.tp_program.specs.Opening.{IsRefusedOn}
 use Rattle.tp_program.specs.Serving.{told_behind}

@@ -12,13 +12,13 @@ use Rattle.tp_tasks.specs.CommandLine.{AreWrong, AskHelp, Name, Text, mistakes}
 use Rattle.tp_tasks.specs.declared.task.Image.{Image}
 use Rattle.tp_tasks.specs.declared.task.Image.TheVariants as kept
 use Rattle.tp_tasks.specs.declared.task.Task.{Task}
-use Rattle.tp_tasks.specs.declared.task.Task.TheVariants.{Format, Create, Message, Status, Check, Report, Feed, Serve, Play, Run, Ask}
-use Rattle.tp_program.specs.declared.failure.Failure.{Failure}
+use Rattle.tp_tasks.specs.declared.task.Task.TheVariants.{Format, Create, Message, Status, Check, Report, DeltaAt, Feed, Serve, Play, Run, Ask}
+use Rattle.tp_failures.specs.declared.failure.Failure.{Failure}
 use Rattle.tp_program.specs.declared.programs.Status as ends
 use Rattle.tp_program.specs.declared.programs.Status.TheVariants as ending
 use Rattle.tp_program.specs.declared.scripts.Unplayed.{Unplayed}
 use Rattle.tp_program.specs.declared.scripts.Unplayed.TheVariants.{Refused}
-use Rattle.tp_program.specs.Failures.{number_of}
+use Rattle.tp_failures.specs.Failures.{number_of}
 use Rattle.tp_program.specs.Asking.{FormatsAsked}
 use Rattle.tp_program.specs.Creating.{Creates}
 use Rattle.tp_program.specs.Reporting.{AsksReport}
@@ -69,6 +69,7 @@ DoesPlain asks (Message image line) old new calls calls' result = IsMessageGiven
 DoesPlain asks (Status image id) old new calls calls' result = AsksStatus image.now id old new calls calls' result
 DoesPlain asks (Check image clears) old new calls calls' result = MatchBool clears (IsCleared image.now old new calls calls' result) (IsChecked image.now old new calls calls' result)
 DoesPlain asks (Report image listing is_json) old new calls calls' result = AsksReport image.now listing is_json old new calls calls' result
+DoesPlain asks (DeltaAt place one other is_json) old new calls calls' result = new ≡ old
 DoesPlain asks (Feed image is_extended) old new calls calls' result = Feeds (offered is_extended) image old new calls calls' result
 DoesPlain asks (Serve image address clients control) old new calls calls' result = (calls' ≡ calls) × ServesImage image.now clients old new result
 DoesPlain asks (Play image script is_extended) old new calls calls' result = ⊥

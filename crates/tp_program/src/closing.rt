@@ -6,14 +6,14 @@ ghost use Rattle.tp_model.specs.Disk.{IsSettled};
 ghost use Rattle.tp_meta.specs.Standing.{StandsFor, geometry_of};
 ghost use Rattle.tp_pool.specs.Held.{shows};
 ghost use Rattle.tp_served.specs.Served.{on_cache};
-ghost use Rattle.tp_program.specs.Failures.{number_of};
+ghost use Rattle.tp_failures.specs.Failures.{number_of};
 ghost use Rattle.tp_program.specs.Lives.{HandsBack, closing_of};
 ghost use Rattle.tp_program.specs.Living.{IsOfClosing, IsOver};
 ghost use Rattle.tp_program.specs.Serving.{told_behind};
 
-use crate::failure::{Failure, because};
 use tp_cache::ReadCache;
 use tp_disk::{Disk, TellsTrouble};
+use tp_failures::{Failure, because};
 use tp_hub::Hub;
 use tp_meta::Meta;
 use tp_served::Served;

@@ -2,15 +2,16 @@
 
 ghost use Rattle.std.specs.Prelude.{◌≡◌, ◌++◌};
 ghost use Rattle.tp_program.specs.Creating.{Creates, CreatesSized, sizes_of, wanted_of};
-ghost use Rattle.tp_program.specs.Failures.{number_of};
+ghost use Rattle.tp_failures.specs.Failures.{number_of};
 
-use crate::failure::Failure;
 use crate::programs::format;
 use std::alloc::Global;
 use std::io::Write;
+use tp_failures::Failure;
 use tp_hub::Stream;
 use tp_images::Images;
 use tp_model::{Geometry, Refusal};
+use tp_progress::Progress;
 use tp_sizing::sizes_for;
 use tp_texts::write_sizes;
 use tp_words::{Sizes, Wanted};
@@ -39,13 +40,14 @@ fn wanted_of(wanted: &Wanted) -> tp_sizing::Wanted
 }
 
 /// Prints the sizes of a pool, and makes an image that of an empty one.
-fn create_sized<I: Images, S: Stream, E: Write>(
+fn create_sized<I: Images, S: Stream, E: Write, P: Progress + Drop>(
     images: &mut I,
     alloc: Global,
     image: &str,
     geometry: &Geometry,
     overwrites: bool,
     asks: bool,
+    progress: P,
     stream: &mut S,
     errors: &mut E,
 ) -> Result<(), Failure>
@@ -56,18 +58,19 @@ fn create_sized<I: Images, S: Stream, E: Write>(
     }
     let sizes = sizes_of(geometry);
     format(
-        images, alloc, image, &sizes, overwrites, asks, stream, errors,
+        images, alloc, image, &sizes, overwrites, asks, progress, stream, errors,
     )
 }
 
 /// Makes an image that of an empty pool that holds what is wanted, behind a line with the four sizes that were chosen. What no pool holds is refused before the image is touched.
-pub(crate) fn create<I: Images, S: Stream, E: Write>(
+pub(crate) fn create<I: Images, S: Stream, E: Write, P: Progress + Drop>(
     images: &mut I,
     alloc: Global,
     image: &str,
     wanted: &Wanted,
     overwrites: bool,
     asks: bool,
+    progress: P,
     stream: &mut S,
     errors: &mut E,
 ) -> Result<(), Failure>
@@ -75,7 +78,7 @@ pub(crate) fn create<I: Images, S: Stream, E: Write>(
 {
     match sizes_for(&wanted_of(wanted)) {
         Ok(geometry) => create_sized(
-            images, alloc, image, &geometry, overwrites, asks, stream, errors,
+            images, alloc, image, &geometry, overwrites, asks, progress, stream, errors,
         ),
         Err(unfit) => Err(Failure::unfit(unfit)),
     }

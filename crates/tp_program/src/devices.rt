@@ -4,17 +4,18 @@ ghost use Rattle.std.specs.Prelude.{◌≡◌, ◌≤◌, IfErr, IfOk, IsTrue, M
 ghost use Rattle.tp_model.specs.Disk.{after_read, seen};
 ghost use Rattle.tp_images.specs.declared.way.Way.TheVariants.{ToWrite};
 ghost use Rattle.tp_devices.specs.Heads.{IsForeign};
-ghost use Rattle.tp_program.specs.Failures.{number_of};
+ghost use Rattle.tp_failures.specs.Failures.{number_of};
 ghost use Rattle.tp_program.specs.Images.{FormatsOver, MayTake, OnName};
 
-use crate::failure::{Cause, Failure};
 use crate::images::format_on;
 use std::alloc::Global;
 use tp_devices::is_free;
 use tp_disk::{Disk, Fault, TellsTrouble};
+use tp_failures::{Cause, Failure};
 use tp_hub::Stream;
 use tp_images::Images;
 use tp_model::{Geometry, Refusal};
+use tp_progress::Progress;
 
 /// Whether what a device holds may be lost. Where it is to be overwritten whatever that is, it is not looked at.
 fn may_take<D: Disk>(disk: &mut D, overwrites: bool) -> Result<bool, Fault>
@@ -31,11 +32,12 @@ fn may_take<D: Disk>(disk: &mut D, overwrites: bool) -> Result<bool, Fault>
 }
 
 /// Makes the disk of a device that of an empty pool, and prints the pool's status line.
-fn format_over<D: Disk + TellsTrouble + Drop, S: Stream>(
+fn format_over<D: Disk + TellsTrouble + Drop, S: Stream, P: Progress + Drop>(
     alloc: Global,
     mut disk: D,
     geometry: Geometry,
     overwrites: bool,
+    progress: P,
     stream: &mut S,
 ) -> (D, Result<(), Failure>)
     ensures { FormatsOver overwrites geometry (S.calls stream.old) (S.calls stream.new) (number_of result.1) (D.state disk) (D.state result.0) }
@@ -48,7 +50,7 @@ fn format_over<D: Disk + TellsTrouble + Drop, S: Stream>(
     match may_take(&mut disk, overwrites) {
         Ok(may) => {
             if may {
-                format_on(alloc, disk, geometry, stream)
+                format_on(alloc, disk, geometry, progress, stream)
             } else {
                 (disk, Err(Failure::taken()))
             }
@@ -61,12 +63,13 @@ fn format_over<D: Disk + TellsTrouble + Drop, S: Stream>(
 }
 
 /// Makes the device of a name that of an empty pool, and prints the pool's status line.
-pub(crate) fn format_device<I: Images, S: Stream>(
+pub(crate) fn format_device<I: Images, S: Stream, P: Progress + Drop>(
     images: &mut I,
     alloc: Global,
     name: &str,
     geometry: Geometry,
     overwrites: bool,
+    progress: P,
     stream: &mut S,
 ) -> Result<(), Failure>
     ensures { OnName ToWrite name.now (I.deeds images.old) (I.deeds images.new) (S.calls stream.old) (S.calls stream.new) (number_of result)
@@ -74,7 +77,7 @@ pub(crate) fn format_device<I: Images, S: Stream>(
 {
     match images.open(name) {
         Ok(disk) => {
-            let (disk, told) = format_over(alloc, disk, geometry, overwrites, stream);
+            let (disk, told) = format_over(alloc, disk, geometry, overwrites, progress, stream);
             images.close(name, disk);
             told
         }

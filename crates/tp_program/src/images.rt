@@ -4,22 +4,23 @@ ghost use Rattle.std.specs.Prelude.{◌≡◌, ◌↔◌, ◌≤◌, IfErr, IfOk
 ghost use Rattle.tp_model.specs.Geometry.{IsWithinLimits, sectors_of_image};
 ghost use Rattle.tp_disk.specs.HandedOut.{IsHandedOut};
 ghost use Rattle.tp_images.specs.declared.way.Way.TheVariants.{ToMake};
-ghost use Rattle.tp_program.specs.Failures.{number_of};
+ghost use Rattle.tp_failures.specs.Failures.{number_of};
 ghost use Rattle.tp_program.specs.Images.{FormatsOn, FormatsWhole, GivesOn, IsChecked, IsCleared, IsFormatted, IsLetGo, IsMessageGiven, IsStatusTold, MakesPool, OnName, PrintsCheck, PrintsCleared, TellsOn, sizes_asked};
 
 use crate::caches::ROOM;
 use crate::clearing::tell_cleared;
 use crate::devices::format_device;
-use crate::failure::{Failure, because};
 use crate::opening::open_pool;
 use crate::telling::{give_line, print_status, tell_check, tell_status};
 use std::alloc::Global;
 use tp_cache::ReadCache;
 use tp_disk::{Disk, TellsTrouble};
+use tp_failures::{Failure, because};
 use tp_hub::Stream;
 use tp_images::Images;
 use tp_meta::Meta;
 use tp_model::{DevId, Geometry, Refusal};
+use tp_progress::{Followed, Progress};
 use tp_served::Served;
 use tp_words::Sizes;
 
@@ -130,7 +131,7 @@ pub(crate) fn geometry_of(sizes: &Sizes) -> Result<Geometry, Refusal>
 }
 
 /// Makes a disk that of an empty pool, and prints the pool's status line.
-pub(crate) fn format_on<D: Disk + TellsTrouble + Drop, S: Stream>(
+fn format_disk<D: Disk + TellsTrouble + Drop, S: Stream>(
     alloc: Global,
     disk: D,
     geometry: Geometry,
@@ -151,12 +152,28 @@ pub(crate) fn format_on<D: Disk + TellsTrouble + Drop, S: Stream>(
     }
 }
 
+/// The same, and tells how far it is.
+pub(crate) fn format_on<D: Disk + TellsTrouble + Drop, S: Stream, P: Progress + Drop>(
+    alloc: Global,
+    disk: D,
+    geometry: Geometry,
+    progress: P,
+    stream: &mut S,
+) -> (D, Result<(), Failure>)
+    requires { sectors_of_image geometry ≤ (D.state disk).size }
+    ensures { FormatsOn geometry (S.calls stream.old) (S.calls stream.new) (number_of result.1) (D.state disk) (D.state result.0) }
+{
+    let (followed, told) = format_disk(alloc, Followed::new(disk, progress), geometry, stream);
+    (followed.into_disk(), told)
+}
+
 /// Makes an image that of an empty pool, and prints the pool's status line.
-fn format_sized<I: Images, S: Stream>(
+fn format_sized<I: Images, S: Stream, P: Progress + Drop>(
     images: &mut I,
     alloc: Global,
     name: &str,
     geometry: Geometry,
+    progress: P,
     stream: &mut S,
 ) -> Result<(), Failure>
     ensures { OnName ToMake name.now (I.deeds images.old) (I.deeds images.new) (S.calls stream.old) (S.calls stream.new) (number_of result)
@@ -164,7 +181,7 @@ fn format_sized<I: Images, S: Stream>(
 {
     match images.create(name, geometry.image_sectors()) {
         Ok(disk) => {
-            let (disk, told) = format_on(alloc, disk, geometry, stream);
+            let (disk, told) = format_on(alloc, disk, geometry, progress, stream);
             images.close(name, disk);
             told
         }
@@ -173,20 +190,21 @@ fn format_sized<I: Images, S: Stream>(
 }
 
 /// Makes an image, or a device where one stands under the name, that of an empty pool, and prints the pool's status line.
-fn format_there<I: Images, S: Stream>(
+fn format_there<I: Images, S: Stream, P: Progress + Drop>(
     images: &mut I,
     alloc: Global,
     name: &str,
     geometry: Geometry,
     overwrites: bool,
+    progress: P,
     stream: &mut S,
 ) -> Result<(), Failure>
     ensures { MakesPool name.now overwrites geometry (I.deeds images.old) (I.deeds images.new) (S.calls stream.old) (S.calls stream.new) (number_of result) }
 {
     if images.is_device(name) {
-        return format_device(images, alloc, name, geometry, overwrites, stream);
+        return format_device(images, alloc, name, geometry, overwrites, progress, stream);
     }
-    format_sized(images, alloc, name, geometry, stream)
+    format_sized(images, alloc, name, geometry, progress, stream)
 }
 
 /// Makes an image that of an empty pool, and prints the pool's status line. Sizes that are out of their limits are refused before the image is touched; it has the
@@ -194,18 +212,19 @@ fn format_there<I: Images, S: Stream>(
 ///
 /// A device stays as large as it is, which has to be the pool's size at least, and else is refused by `BadGeometry`. Unless it is overwritten whatever it holds, it is
 /// refused by `Exists` where its first 8192 bytes are neither zeros nor a pool's, and nothing is written to it.
-pub fn format_image<I: Images, S: Stream>(
+pub fn format_image<I: Images, S: Stream, P: Progress + Drop>(
     images: &mut I,
     alloc: Global,
     name: &str,
     sizes: &Sizes,
     overwrites: bool,
+    progress: P,
     stream: &mut S,
 ) -> Result<(), Failure>
     ensures { IsFormatted name.now sizes.now overwrites (I.deeds images.old) (I.deeds images.new) (S.calls stream.old) (S.calls stream.new) (number_of result) }
 {
     match geometry_of(sizes) {
-        Ok(geometry) => format_there(images, alloc, name, geometry, overwrites, stream),
+        Ok(geometry) => format_there(images, alloc, name, geometry, overwrites, progress, stream),
         Err(reason) => Err(Failure::from(reason)),
     }
 }
@@ -225,7 +244,7 @@ pub fn volume_asked(id: Option<u64>) -> Result<Option<DevId>, Refusal>
 }
 
 /// Checks the image on a disk, and prints `clean` where it is clean.
-fn check_on<D: Disk + TellsTrouble, S: Stream>(
+fn check_disk<D: Disk + TellsTrouble, S: Stream>(
     alloc: Global,
     mut disk: D,
     stream: &mut S,
@@ -237,18 +256,32 @@ fn check_on<D: Disk + TellsTrouble, S: Stream>(
     (disk, told)
 }
 
+/// The same, and tells how far it is.
+fn check_on<D: Disk + TellsTrouble + Drop, S: Stream, P: Progress + Drop>(
+    alloc: Global,
+    disk: D,
+    progress: P,
+    stream: &mut S,
+) -> (D, Result<(), Failure>)
+    ensures { PrintsCheck (S.calls stream.old) (S.calls stream.new) (number_of result.1) (D.state disk) (D.state result.0) }
+{
+    let (followed, told) = check_disk(alloc, Followed::new(disk, progress), stream);
+    (followed.into_disk(), told)
+}
+
 /// Checks an image, and prints `clean` where it is clean. The image is opened to read alone.
-pub fn check_image<I: Images, S: Stream>(
+pub fn check_image<I: Images, S: Stream, P: Progress + Drop>(
     images: &mut I,
     alloc: Global,
     name: &str,
+    progress: P,
     stream: &mut S,
 ) -> Result<(), Failure>
     ensures { IsChecked name.now (I.deeds images.old) (I.deeds images.new) (S.calls stream.old) (S.calls stream.new) (number_of result) }
 {
     match images.open_to_read(name) {
         Ok(disk) => {
-            let (disk, told) = check_on(alloc, disk, stream);
+            let (disk, told) = check_on(alloc, disk, progress, stream);
             images.close(name, disk);
             told
         }
@@ -257,7 +290,7 @@ pub fn check_image<I: Images, S: Stream>(
 }
 
 /// Checks the image on a disk and, where it is clean, keeps its pool as one that wants no check, and then prints `clean`.
-fn clear_on<D: Disk + TellsTrouble, S: Stream>(
+fn clear_disk<D: Disk + TellsTrouble, S: Stream>(
     alloc: Global,
     mut disk: D,
     stream: &mut S,
@@ -269,19 +302,33 @@ fn clear_on<D: Disk + TellsTrouble, S: Stream>(
     (disk, told)
 }
 
+/// The same, and tells how far it is.
+fn clear_on<D: Disk + TellsTrouble + Drop, S: Stream, P: Progress + Drop>(
+    alloc: Global,
+    disk: D,
+    progress: P,
+    stream: &mut S,
+) -> (D, Result<(), Failure>)
+    ensures { PrintsCleared (S.calls stream.old) (S.calls stream.new) (number_of result.1) (D.state disk) (D.state result.0) }
+{
+    let (followed, told) = clear_disk(alloc, Followed::new(disk, progress), stream);
+    (followed.into_disk(), told)
+}
+
 /// Checks an image and, where it is clean, keeps its pool as one that wants no check, and then prints `clean`. What is not clean is not written. The image is
 /// opened to write.
-pub fn clear_image<I: Images, S: Stream>(
+pub fn clear_image<I: Images, S: Stream, P: Progress + Drop>(
     images: &mut I,
     alloc: Global,
     name: &str,
+    progress: P,
     stream: &mut S,
 ) -> Result<(), Failure>
     ensures { IsCleared name.now (I.deeds images.old) (I.deeds images.new) (S.calls stream.old) (S.calls stream.new) (number_of result) }
 {
     match images.open(name) {
         Ok(disk) => {
-            let (disk, told) = clear_on(alloc, disk, stream);
+            let (disk, told) = clear_on(alloc, disk, progress, stream);
             images.close(name, disk);
             told
         }

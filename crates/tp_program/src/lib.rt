@@ -3,7 +3,6 @@
 //! [`program`] does it, over images, a reader and two writers that its caller gives. `thinpool` is that with the system's words, streams and files.
 #![tactic(auto)]
 
-mod asker;
 mod asking;
 mod caches;
 mod clearing;
@@ -11,8 +10,6 @@ mod clients;
 mod closing;
 mod creating;
 mod devices;
-mod explaining;
-mod failure;
 mod feeding;
 mod fresh;
 pub mod headline;
@@ -20,7 +17,6 @@ mod images;
 mod journal;
 mod moment;
 mod opening;
-mod places;
 mod programs;
 mod reports;
 mod running;

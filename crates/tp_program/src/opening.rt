@@ -5,10 +5,10 @@ ghost use Rattle.tp_disk.specs.HandedOut.{IsHandedOut};
 ghost use Rattle.tp_program.specs.Opening.{IsOpenedOn, IsRefusedOn};
 
 use crate::caches::ROOM;
-use crate::failure::Failure;
 use std::alloc::Global;
 use tp_cache::ReadCache;
 use tp_disk::{Disk, TellsTrouble};
+use tp_failures::Failure;
 use tp_meta::Meta;
 use tp_served::Served;
 

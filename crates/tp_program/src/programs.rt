@@ -5,18 +5,15 @@ ghost use Rattle.tp_hub.specs.Streams.{StreamCall};
 ghost use Rattle.tp_lines.specs.Pipes.{IsPiped};
 ghost use Rattle.tp_tasks.specs.CommandLine.{IsScript};
 ghost use Rattle.tp_tasks.specs.declared.task.Task.TheVariants.{Play};
-ghost use Rattle.tp_program.specs.Failures.{number_of};
+ghost use Rattle.tp_failures.specs.Failures.{number_of};
 ghost use Rattle.tp_program.specs.Images.{IsChecked, IsCleared, IsFormatted};
 ghost use Rattle.tp_program.specs.Statuses.{EndsBy, status_after, status_code, status_of, status_without};
 ghost use Rattle.tp_program.specs.Asking.{FormatsAsked};
 ghost use Rattle.tp_program.specs.Tasks.{AsksStatus, Does, DoesOn, DoesPlain, Feeds, Performs, Plays, PlaysFile, offered, plain_of};
 
-use crate::asker::ask_place;
 use crate::asking::may_destroy;
 use crate::clients::serve_image;
 use crate::creating::create;
-use crate::explaining::Explanation;
-use crate::failure::{Cause, Failure};
 use crate::feeding::{feed_fresh, feed_image};
 use crate::images::{
     check_image, clear_image, format_image, geometry_of, message_to_image, status_of_image,
@@ -37,10 +34,13 @@ use std::rt::Files;
 use std::sync::Wait;
 use std::thread::Threads;
 use std::time::Clock;
+use tp_failures::{Cause, Explanation, Failure};
 use tp_hub::Stream;
 use tp_images::Images;
 use tp_lines::{Begins, Ends, Piped};
 use tp_model::Refusal;
+use tp_places::{ask_place, delta_at};
+use tp_progress::Progress;
 use tp_words::{Image, NoWords, Sizes, Task, Unread, command};
 
 /// How a program ends.
@@ -69,13 +69,14 @@ impl Status {
 
 /// Does what the words ask for, on images, and on the scripts and the sockets of a system. Help goes to `output`, what is wrong with the words, where clients
 /// are waited for, that the pool fails while they are served and why the task was refused to `errors`: the number and name of a refusal on a line, and where that
-/// is a terminal, or the words ask for it, what that means here on a second one.
-pub fn program<S: AsStr, F, I: Images, R: Read, W: Write, E>(
+/// is a terminal, or the words ask for it, what that means here on a second one. How far long work is goes to `progress`.
+pub fn program<S: AsStr, F, I: Images, R: Read, W: Write, E, P: Progress + Drop>(
     system: &F,
     images: &mut I,
     alloc: Global,
     words: &[S],
     terminals: Terminals,
+    progress: P,
     input: &mut R,
     output: &mut W,
     errors: &mut E,
@@ -95,7 +96,7 @@ where
     match command(alloc, words) {
         Ok(asked) => {
             let done = perform(
-                system, images, alloc, asked.task, terminals, input, output, errors,
+                system, images, alloc, asked.task, terminals, progress, input, output, errors,
             );
             conclude_task(
                 &asked.task,
@@ -217,12 +218,13 @@ fn tell_status<I: Images, S: Stream>(
 }
 
 /// Makes an image that of an empty pool. Where the sizes are within their limits, it is asked first whether what the image holds is to be destroyed.
-fn format_asked<I: Images, S: Stream, E: Write>(
+fn format_asked<I: Images, S: Stream, E: Write, P: Progress + Drop>(
     images: &mut I,
     alloc: Global,
     image: &str,
     sizes: &Sizes,
     overwrites: bool,
+    progress: P,
     stream: &mut S,
     errors: &mut E,
 ) -> Result<(), Failure>
@@ -231,7 +233,7 @@ fn format_asked<I: Images, S: Stream, E: Write>(
     match geometry_of(sizes) {
         Ok(_) => {
             if may_destroy(images, alloc, image, stream, errors) {
-                format_image(images, alloc, image, sizes, overwrites, stream)
+                format_image(images, alloc, image, sizes, overwrites, progress, stream)
             } else {
                 Err(Failure {
                     refusal: Refusal::Exists,
@@ -244,13 +246,14 @@ fn format_asked<I: Images, S: Stream, E: Write>(
 }
 
 /// Makes an image that of an empty pool. Where a terminal is there to answer, it is asked first.
-pub(crate) fn format<I: Images, S: Stream, E: Write>(
+pub(crate) fn format<I: Images, S: Stream, E: Write, P: Progress + Drop>(
     images: &mut I,
     alloc: Global,
     image: &str,
     sizes: &Sizes,
     overwrites: bool,
     asks: bool,
+    progress: P,
     stream: &mut S,
     errors: &mut E,
 ) -> Result<(), Failure>
@@ -259,18 +262,21 @@ pub(crate) fn format<I: Images, S: Stream, E: Write>(
         (IsFormatted image.now sizes.now overwrites (I.deeds images.old) (I.deeds images.new) (S.calls stream.old) (S.calls stream.new) (number_of result)) }
 {
     if asks {
-        format_asked(images, alloc, image, sizes, overwrites, stream, errors)
+        format_asked(
+            images, alloc, image, sizes, overwrites, progress, stream, errors,
+        )
     } else {
-        format_image(images, alloc, image, sizes, overwrites, stream)
+        format_image(images, alloc, image, sizes, overwrites, progress, stream)
     }
 }
 
 /// Checks an image, and clears the flag of its pool where that is asked for.
-fn check<I: Images, S: Stream>(
+fn check<I: Images, S: Stream, P: Progress + Drop>(
     images: &mut I,
     alloc: Global,
     image: &str,
     clears: bool,
+    progress: P,
     stream: &mut S,
 ) -> Result<(), Failure>
     ensures { MatchBool clears
@@ -278,9 +284,9 @@ fn check<I: Images, S: Stream>(
         (IsChecked image.now (I.deeds images.old) (I.deeds images.new) (S.calls stream.old) (S.calls stream.new) (number_of result)) }
 {
     if clears {
-        clear_image(images, alloc, image, stream)
+        clear_image(images, alloc, image, progress, stream)
     } else {
-        check_image(images, alloc, image, stream)
+        check_image(images, alloc, image, progress, stream)
     }
 }
 
@@ -386,12 +392,13 @@ fn play_file<F: Files<File = File>, I: Images, W: Write>(
 }
 
 /// Performs a task that has no script, over the stream that it reads and writes.
-fn perform_on<F, I: Images, S: Stream, E>(
+fn perform_on<F, I: Images, S: Stream, E, P: Progress + Drop>(
     system: &F,
     images: &mut I,
     alloc: Global,
     task: Task<'_>,
     asks: bool,
+    progress: P,
     stream: &mut S,
     errors: &mut E,
 ) -> Result<(), Failure>
@@ -412,23 +419,29 @@ where
             sizes,
             overwrites,
         } => format(
-            images, alloc, image, &sizes, overwrites, asks, stream, errors,
+            images, alloc, image, &sizes, overwrites, asks, progress, stream, errors,
         ),
         Task::Create {
             image,
             wanted,
             overwrites,
         } => create(
-            images, alloc, image, &wanted, overwrites, asks, stream, errors,
+            images, alloc, image, &wanted, overwrites, asks, progress, stream, errors,
         ),
         Task::Message { image, line } => message_to_image(images, alloc, image, line, stream),
         Task::Status { image, id } => tell_status(images, alloc, image, id, stream),
-        Task::Check { image, clears } => check(images, alloc, image, clears, stream),
+        Task::Check { image, clears } => check(images, alloc, image, clears, progress, stream),
         Task::Report {
             image,
             listing,
             is_json,
-        } => tell_listing(images, alloc, image, &listing, is_json, stream),
+        } => tell_listing(images, alloc, image, &listing, is_json, progress, stream),
+        Task::DeltaAt {
+            place,
+            old,
+            new,
+            is_json,
+        } => delta_at(system, alloc, place, old, new, is_json, stream),
         Task::Feed { image, is_extended } => {
             feed(images, alloc, image, &offered(is_extended), stream)
         }
@@ -447,12 +460,13 @@ where
 }
 
 /// The same over a reader and a writer, as a pipe from where this one begins.
-fn perform_since<'a, F, I: Images, R: Read, W: Write, E, K: Begins>(
+fn perform_since<'a, F, I: Images, R: Read, W: Write, E, P: Progress + Drop, K: Begins>(
     system: &F,
     images: &mut I,
     alloc: Global,
     task: Task<'_>,
     asks: bool,
+    progress: P,
     ends: Ends<'a, R, W>,
     errors: &mut E,
 ) -> (Ends<'a, R, W>, Result<(), Unplayed>)
@@ -471,17 +485,20 @@ where
         × DoesOn asks task.entry (I.deeds images.old) (I.deeds images.new) [] did result.1 }
 {
     let mut piped = Piped::<R, W, K>::begin(ends);
-    let done = perform_on(system, images, alloc, task, asks, &mut piped, errors);
+    let done = perform_on(
+        system, images, alloc, task, asks, progress, &mut piped, errors,
+    );
     (piped.end(), plain(done))
 }
 
 /// The same over a reader and a writer.
-fn perform_piped<F, I: Images, R: Read, W: Write, E>(
+fn perform_piped<F, I: Images, R: Read, W: Write, E, P: Progress + Drop>(
     system: &F,
     images: &mut I,
     alloc: Global,
     task: Task<'_>,
     asks: bool,
+    progress: P,
     input: &mut R,
     output: &mut W,
     errors: &mut E,
@@ -499,8 +516,8 @@ where
         × DoesOn asks task.entry (I.deeds images.old) (I.deeds images.new) [] did result }
 {
     let ends = Ends { input, output };
-    let (_, done) = perform_since::<F, I, R, W, E, Brand>(
-        system, images, alloc, task, asks, ends, errors,
+    let (_, done) = perform_since::<F, I, R, W, E, P, Brand>(
+        system, images, alloc, task, asks, progress, ends, errors,
     );
     done
 }
@@ -528,12 +545,13 @@ fn script_of<'a>(task: &Task<'a>) -> Option<(Image<'a>, &'a str, bool)>
 }
 
 /// Performs a task.
-fn perform<F, I: Images, R: Read, W: Write, E>(
+fn perform<F, I: Images, R: Read, W: Write, E, P: Progress + Drop>(
     system: &F,
     images: &mut I,
     alloc: Global,
     task: Task<'_>,
     terminals: Terminals,
+    progress: P,
     input: &mut R,
     output: &mut W,
     errors: &mut E,
@@ -565,6 +583,7 @@ where
             alloc,
             task,
             can_answer(terminals),
+            progress,
             input,
             output,
             errors,

@@ -2,22 +2,23 @@
 
 ghost use Rattle.std.specs.Prelude.{◌≡◌, IfErr, IfOk};
 ghost use Rattle.tp_disk.specs.HandedOut.{IsHandedOut};
-ghost use Rattle.tp_program.specs.Failures.{number_of};
+ghost use Rattle.tp_failures.specs.Failures.{number_of};
 ghost use Rattle.tp_program.specs.Reporting.{AsksReport, HasNoId, IsReported, ReportsOn, report_of};
 
-use crate::failure::Failure;
 use crate::images::hand_back;
 use crate::opening::open_pool;
 use std::alloc::Global;
 use tp_disk::{Disk, TellsTrouble};
+use tp_failures::Failure;
 use tp_hub::Stream;
 use tp_images::Images;
 use tp_model::{DevId, Refusal};
+use tp_progress::{Followed, Progress};
 use tp_reports::{Report, tell};
 use tp_words::Listing;
 
 /// Prints a report of the pool of a disk.
-fn report_on<D: Disk + TellsTrouble + Drop, S: Stream>(
+fn report_disk<D: Disk + TellsTrouble + Drop, S: Stream>(
     alloc: Global,
     disk: D,
     report: Report,
@@ -36,20 +37,43 @@ fn report_on<D: Disk + TellsTrouble + Drop, S: Stream>(
     }
 }
 
+/// The same, and tells how far it is.
+fn report_on<D: Disk + TellsTrouble + Drop, S: Stream, P: Progress + Drop>(
+    alloc: Global,
+    disk: D,
+    report: Report,
+    is_json: bool,
+    progress: P,
+    stream: &mut S,
+) -> (D, Result<(), Failure>)
+    requires { IsHandedOut (D.state disk) }
+    ensures { ReportsOn report is_json (S.calls stream.old) (S.calls stream.new) (number_of result.1) (D.state disk) (D.state result.0) }
+{
+    let (followed, told) = report_disk(
+        alloc,
+        Followed::new(disk, progress),
+        report,
+        is_json,
+        stream,
+    );
+    (followed.into_disk(), told)
+}
+
 /// Prints a report of the pool of an image. The image is opened to read alone.
-fn report_of_image<I: Images, S: Stream>(
+fn report_of_image<I: Images, S: Stream, P: Progress + Drop>(
     images: &mut I,
     alloc: Global,
     name: &str,
     report: Report,
     is_json: bool,
+    progress: P,
     stream: &mut S,
 ) -> Result<(), Failure>
     ensures { IsReported name.now report is_json (I.deeds images.old) (I.deeds images.new) (S.calls stream.old) (S.calls stream.new) (number_of result) }
 {
     match images.open_to_read(name) {
         Ok(disk) => {
-            let (disk, told) = report_on(alloc, disk, report, is_json, stream);
+            let (disk, told) = report_on(alloc, disk, report, is_json, progress, stream);
             images.close(name, disk);
             told
         }
@@ -77,18 +101,19 @@ fn report_asked(listing: &Listing) -> Result<Report, Refusal>
 }
 
 /// Prints what is asked of the pool of an image. Numbers that are no volumes' ids are refused before the image is opened.
-pub fn tell_listing<I: Images, S: Stream>(
+pub fn tell_listing<I: Images, S: Stream, P: Progress + Drop>(
     images: &mut I,
     alloc: Global,
     name: &str,
     listing: &Listing,
     is_json: bool,
+    progress: P,
     stream: &mut S,
 ) -> Result<(), Failure>
     ensures { AsksReport name.now listing.now is_json (I.deeds images.old) (I.deeds images.new) (S.calls stream.old) (S.calls stream.new) (number_of result) }
 {
     match report_asked(listing) {
-        Ok(report) => report_of_image(images, alloc, name, report, is_json, stream),
+        Ok(report) => report_of_image(images, alloc, name, report, is_json, progress, stream),
         Err(reason) => Err(Failure::from(reason)),
     }
 }

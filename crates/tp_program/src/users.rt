@@ -6,10 +6,10 @@ ghost use Rattle.tp_program.specs.First.{first_pool};
 ghost use Rattle.tp_program.specs.Images.{sizes_asked};
 ghost use Rattle.tp_program.specs.Users.{IsFirstMade, IsFirstTold, KeepsPool};
 
-use crate::failure::Failure;
 use crate::headline::commands_go_on;
 use crate::images::{format_image, message_to_image, status_of_image};
 use std::alloc::Global;
+use tp_failures::Failure;
 use tp_hub::Stream;
 use tp_images::{Images, MemImages};
 use tp_model::DevId;
@@ -27,7 +27,7 @@ fn make_first<I: Images, S: Stream>(
         × KeepsPool name.now (I.deeds images.new) (first_pool (sizes_asked sizes.now) used)) }
 {
     commands_go_on();
-    format_image(images, alloc, name, sizes, false, stream)?;
+    format_image(images, alloc, name, sizes, false, (), stream)?;
     message_to_image(images, alloc, name, "create_thin 0", stream)
 }
 

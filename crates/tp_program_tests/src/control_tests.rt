@@ -1,4 +1,4 @@
-//! A test of control lines over the system's sockets: a snapshot of a volume that a client writes.
+//! A test of control lines over the system's sockets: a snapshot of a volume that a client writes, and where that differs from it.
 
 use crate::parts::{CLIENT_GO, Call, GO_REPLIES, GREETING, MADE, Part};
 use crate::servers::{Places, exchange, is_exchanged, run_server};
@@ -84,10 +84,15 @@ fn is_accepted(alloc: Global, lines: &mut TcpStream) -> io::Result<bool> {
     Ok(exchange(alloc, lines, b"create_snap 1 0\n", 3)?.as_slice() == b"ok\n".as_slice())
 }
 
-/// Whether the line is accepted, the snapshot reads as the volume did then, and the volume as it was filled since.
-type Told = (bool, (bool, bool));
+/// Whether a line that asks where the volume differs from the snapshot is answered by the page of its first block.
+fn is_page_told(alloc: Global, lines: &mut TcpStream) -> io::Result<bool> {
+    Ok(exchange(alloc, lines, b"delta 1 0 0\n", 12)?.as_slice() == b"0+65536 end\n".as_slice())
+}
 
-/// A line asks for a snapshot, then the writer fills its sector again, and another client reads the snapshot.
+/// Whether the line is accepted, where the volume differs is told, the snapshot reads as the volume did then, and the volume as it was filled since.
+type Told = (bool, bool, (bool, bool));
+
+/// A line asks for a snapshot, then the writer fills its sector again, another line asks where the volume differs, and another client reads the snapshot.
 fn ask_and_read<H>(
     rt: &H,
     clients: SocketAddr,
@@ -99,7 +104,8 @@ where
 {
     let is_accepted = is_accepted(rt.alloc(), lines)?;
     fill(rt.alloc(), writer, b'b')?;
-    Ok((is_accepted, read_both(rt, clients, writer)?))
+    let is_page_told = is_page_told(rt.alloc(), lines)?;
+    Ok((is_accepted, is_page_told, read_both(rt, clients, writer)?))
 }
 
 /// The same behind a client that fills that sector first, by a client of control lines.
@@ -162,6 +168,6 @@ fn a_snapshot_while_a_client_writes(rt: HostRuntime) -> Result<(), Fail> {
     make_calls(&rt, "used.img", MADE)?;
     let told = told_of_snapshot(&rt, "used.img")?;
     make_last_calls(&rt, "used.img", LEFT)?;
-    assert_eq!(rt; told, (Status::Done, (true, (true, true))));
+    assert_eq!(rt; told, (Status::Done, (true, true, (true, true))));
     Ok(())
 }

@@ -32,8 +32,12 @@ const NEW: &[Call] = &[
     ("check", &[], 0, "clean\n"),
 ];
 
-/// How long that image is.
-const NEW_AND_LONG: &[Step] = &[Step::Calls(NEW), Step::Bytes(BYTES)];
+/// How long that image is, and a message that is done and changes nothing.
+const NEW_AND_LONG: &[Step] = &[
+    Step::Calls(NEW),
+    Step::Bytes(BYTES),
+    Step::Unchanged(&[("message", &["set_transaction_id 0 0"], 0, "ok\n")]),
+];
 
 #[test]
 fn fresh_status(rt: HostRuntime) -> Result<(), Fail> {
@@ -306,16 +310,19 @@ const IN_USE: &[Call] = &[
     ),
 ];
 
-/// The image is clean beside a program that reads it, and as it was behind what is refused beside one that works on it.
+/// The image is clean and is listed beside a program that reads it, and as it was behind what is refused beside one that works on it.
 const USED: &[Step] = &[
     Step::Calls(&[FORMAT]),
-    Step::BesideReader(&[("check", &[], 0, "clean\n")]),
+    Step::BesideReader(&[
+        ("check", &[], 0, "clean\n"),
+        ("ls", &[], 0, "ID SIZE MAPPED EXCLUSIVE\n"),
+    ]),
     Step::BesideWriter(IN_USE),
     Step::Calls(&[("status", &[], 0, FRESH)]),
     Step::Bytes(BYTES),
 ];
 
-/// A check shares the file with other checks alone. What is refused leaves the file as it was.
+/// A check and a listing share the file with checks and listings alone. What is refused leaves the file as it was.
 #[test]
 fn image_in_use_is_left_alone(rt: HostRuntime) -> Result<(), Fail> {
     take_steps(&rt, "used.img", USED)

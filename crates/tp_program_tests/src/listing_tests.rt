@@ -14,7 +14,7 @@ use std::time::Clock;
 use tp_images::MemImages;
 use tp_program::Status;
 
-/// A pool of eight data blocks of 64 KiB, and its volume 0 of 1 MiB.
+/// A pool of eight data blocks of 64 KiB, whose mapping is held while it has no volume, and its volume 0 of 1 MiB.
 const NEW: &[Call] = &[
     (
         "format",
@@ -24,6 +24,9 @@ const NEW: &[Call] = &[
     ),
     ("ls", &[], 0, "ID SIZE MAPPED EXCLUSIVE\n"),
     ("free", &[], 0, "8388608 524288\n"),
+    ("message", &["reserve_metadata_snap"], 0, "ok\n"),
+    ("free", &[], 1, "thinpool: 26 HeldRootExists\n"),
+    ("message", &["release_metadata_snap"], 0, "ok\n"),
     ("message", &["create_thin 0"], 0, "ok\n"),
     ("ls", &[], 0, "ID SIZE MAPPED EXCLUSIVE\n0 1048576 0 0\n"),
     ("map", &["0"], 0, ""),
@@ -113,6 +116,34 @@ const REFUSED: &[Call] = &[
         0,
         "ID SIZE MAPPED EXCLUSIVE\n0 1048576 196608 -\n1 1048576 196608 -\n",
     ),
+    (
+        "ls",
+        &["--json"],
+        0,
+        "[{\"exclusive\":null,\"id\":0,\"mapped\":196608,\"size\":1048576},{\"exclusive\":null,\"id\":1,\"mapped\":196608,\"size\":1048576}]\n",
+    ),
+];
+
+/// The mapping is let go, and the origin grows.
+const GROWN: &[Call] = &[
+    ("message", &["release_metadata_snap"], 0, "ok\n"),
+    ("message", &["grow 0 32"], 0, "ok\n"),
+];
+
+/// Behind a block of it that is written behind its old end, which its snapshot does not have.
+const LONGER: &[Call] = &[
+    (
+        "delta",
+        &["1", "0"],
+        0,
+        "0 65536 hole\n65536 196608\n262144 786432 hole\n1048576 65536\n1114112 983040 hole\n",
+    ),
+    (
+        "ls",
+        &[],
+        0,
+        "ID SIZE MAPPED EXCLUSIVE\n0 2097152 262144 196608\n1 1048576 196608 131072\n",
+    ),
 ];
 
 /// What a client of the volume 0 sends that writes 512 bytes at the beginning of the first, the second and the fourth block.
@@ -134,6 +165,13 @@ const CHANGES: &[Part<'static>] = &[
     Part::Ask(1, 2, 131_072, 512),
     Part::Fill(7, 512),
     Part::Ask(4, 9, 196_608, 65_536),
+];
+
+/// What one sends that writes 512 bytes behind the first MiB of that volume.
+const WRITES_FAR: &[Part<'static>] = &[
+    Part::Text(CLIENT_GO),
+    Part::Ask(1, 1, 1_048_576, 512),
+    Part::Fill(7, 512),
 ];
 
 /// Whether a client is served that sends these parts.
@@ -168,7 +206,10 @@ where
     make_calls_in(rt, images, WRITTEN)?;
     let _ = is_fed(rt, images, CHANGES)?;
     make_calls_in(rt, images, CHANGED)?;
-    make_calls_in(rt, images, REFUSED)
+    make_calls_in(rt, images, REFUSED)?;
+    make_calls_in(rt, images, GROWN)?;
+    let _ = is_fed(rt, images, WRITES_FAR)?;
+    make_calls_in(rt, images, LONGER)
 }
 
 #[test]
@@ -177,15 +218,17 @@ fn what_is_listed_is_exact(rt: HostRuntime) -> Result<(), Fail> {
     list(&rt, &mut images)
 }
 
-/// Pools by what they are to hold: the sizes that are chosen, and how many volumes fit where that is too much.
+/// Pools by what they are to hold: the sizes that are chosen, which the pool and a volume have, and how many volumes fit where that is too much.
 const CREATED: &[Call] = &[
     (
         "create",
-        &["--size", "1M", "--volume-size", "1048576", "--volumes", "2"],
+        &["--size", "1M", "--volume-size", "2097152", "--volumes", "2"],
         0,
-        "128 16 1032 16\n0 9/1032 0/16 - rw no_discard_passdown error_if_no_space - 512\n",
+        "128 32 1032 16\n0 9/1032 0/16 - rw no_discard_passdown error_if_no_space - 512\n",
     ),
     ("check", &[], 0, "clean\n"),
+    ("message", &["create_thin 0"], 0, "ok\n"),
+    ("ls", &[], 0, "ID SIZE MAPPED EXCLUSIVE\n0 2097152 0 0\n"),
     (
         "create",
         &["--size", "10G", "--volume-size", "100G", "--volumes", "100"],
@@ -202,7 +245,7 @@ const CREATED: &[Call] = &[
         "status",
         &[],
         0,
-        "0 9/1032 0/16 - rw no_discard_passdown error_if_no_space - 512\n",
+        "0 10/1032 0/16 - rw no_discard_passdown error_if_no_space - 512\n",
     ),
 ];
 

@@ -106,7 +106,10 @@ fn what_was_told_is_kept_by_a_stop(rt: HostRuntime) -> Result<(), Fail> {
     make_calls_behind_stop(&rt, &mut images)
 }
 
-/// Makes calls behind a status where the first call of the disk fails.
+/// The flush of closing is this call of the disk, behind those of opening.
+const CLOSING: u64 = 7;
+
+/// Makes calls behind a status where the first call of the disk fails, and a client without a word where the flush of closing does.
 fn make_calls_behind_failure<H>(rt: &H, images: &mut MemImages) -> Result<(), Fail>
 where
     H: Files<File = File>
@@ -121,7 +124,10 @@ where
     make_calls_in(rt, images, MADE)?;
     let is_armed = images.fail(IMAGE, 1, 1);
     let status = run_call(rt, images, &AGAIN[0])?.status;
-    assert_eq!(rt; (is_armed, status), (true, Status::Refused));
+    let is_armed_again = images.fail(IMAGE, CLOSING, CLOSING);
+    let closed = feed_in(rt, images, b"").status;
+    let told = ((is_armed, status), (is_armed_again, closed));
+    assert_eq!(rt; told, ((true, Status::Refused), (true, Status::Refused)));
     make_calls_in(rt, images, AGAIN)
 }
 

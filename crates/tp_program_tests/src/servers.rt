@@ -82,6 +82,7 @@ where
         rt.alloc(),
         words,
         NO_TERMINAL,
+        (),
         &mut input,
         &mut output,
         &mut errors,

@@ -14,7 +14,7 @@ use Rattle.clap.specs.declared.error.kind.ErrorKind.{ErrorKind}
 use Rattle.clap.specs.declared.error.kind.ErrorKind.TheVariants.{DisplayHelp, DisplayVersion}
 use Rattle.tp_tasks.specs.declared.task.Asked.{Asked}
 use Rattle.tp_tasks.specs.declared.task.Task.{Task}
-use Rattle.tp_tasks.specs.declared.task.Task.TheVariants.{Format, Create, Message, Status, Report, Check, Feed, Serve, Play, Run, Ask}
+use Rattle.tp_tasks.specs.declared.task.Task.TheVariants.{Format, Create, Message, Status, Report, DeltaAt, Check, Feed, Serve, Play, Run, Ask}
 use Rattle.tp_tasks.specs.declared.task.Listing.TheVariants.{Volumes, Map, Delta, Free}
 use Rattle.tp_tasks.specs.declared.task.Sizes.{Sizes}
 use Rattle.tp_tasks.specs.declared.task.Texts.{Texts}
@@ -106,9 +106,13 @@ list_app = with_rule (image_app (codes "ls")) json_rule
 abbrev pub map_app : App
 map_app = with_rule (with_rule (image_app (codes "map")) (number_rule (codes "ID"))) json_rule
 
--- `thinpool delta IMAGE OLD NEW [--json]`
+-- `--at`: what stands where the image does is the control place of a server
+abbrev pub at_rule : Rule
+at_rule = flag_rule (codes "AT") (codes "at")
+
+-- `thinpool delta IMAGE OLD NEW [--json]`, and `thinpool delta --at PLACE OLD NEW [--json]`
 abbrev pub delta_app : App
-delta_app = with_rule (with_rule (with_rule (image_app (codes "delta")) (number_rule (codes "OLD"))) (number_rule (codes "NEW"))) json_rule
+delta_app = with_rule (with_rule (with_rule (with_rule (image_app (codes "delta")) (number_rule (codes "OLD"))) (number_rule (codes "NEW"))) json_rule) at_rule
 
 -- `thinpool free IMAGE [--json]`
 abbrev pub free_app : App
@@ -311,7 +315,9 @@ IsMap rows task = ⊥
 
 abbrev pub IsDelta : List Row → Task → Type 0
 IsDelta rows (Report image (Delta old new) is_json) =
-    HasText (codes "IMAGE") rows image × HasNumber (codes "OLD") rows old × HasNumber (codes "NEW") rows new × (is_json ≡ is_used (codes "JSON") rows)
+    HasText (codes "IMAGE") rows image × HasNumber (codes "OLD") rows old × HasNumber (codes "NEW") rows new × (is_json ≡ is_used (codes "JSON") rows) × (is_used (codes "AT") rows ≡ false)
+IsDelta rows (DeltaAt place old new is_json) =
+    HasText (codes "IMAGE") rows place × HasNumber (codes "OLD") rows old × HasNumber (codes "NEW") rows new × (is_json ≡ is_used (codes "JSON") rows) × (is_used (codes "AT") rows ≡ true)
 IsDelta rows task = ⊥
 
 abbrev pub IsFree : List Row → Task → Type 0

@@ -62,6 +62,14 @@ fn delta_task<'a>(arguments: &ArgMatches<'a>) -> Option<Task<'a>>
     let old = number_of(arguments, "OLD")?;
     let new = number_of(arguments, "NEW")?;
     let is_json = has_flag(arguments, "JSON");
+    if has_flag(arguments, "AT") {
+        return Some(Task::DeltaAt {
+            place: image,
+            old,
+            new,
+            is_json,
+        });
+    }
     let listing = Listing::Delta(old, new);
     Some(Task::Report {
         image,

@@ -40,6 +40,13 @@ pub enum Task<'a> {
         listing: Listing,
         is_json: bool,
     },
+    /// To ask the server of this control place, page by page, where one volume may differ from another, as one line of JSON, if `is_json`.
+    DeltaAt {
+        place: &'a str,
+        old: u64,
+        new: u64,
+        is_json: bool,
+    },
     /// To tell whether an image is clean; and where it is, also to clear the flag by which its pool wants a check, if `clears`.
     Check {
         image: &'a str,

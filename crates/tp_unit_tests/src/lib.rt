@@ -22,6 +22,8 @@ mod nodes;
 #[cfg(test)]
 mod plain;
 #[cfg(test)]
+mod progress;
+#[cfg(test)]
 mod samples;
 #[cfg(test)]
 mod session;

@@ -2,7 +2,7 @@
 
 ghost use Rattle.std.specs.Prelude.{◌≡◌, IfOk, false};
 ghost use Rattle.clap.specs.Words.{rule_of};
-ghost use Rattle.tp_tasks.specs.CommandLine.{delta_app, free_app, json_rule, list_app, map_app};
+ghost use Rattle.tp_tasks.specs.CommandLine.{at_rule, delta_app, free_app, json_rule, list_app, map_app};
 ghost use Rattle.tp_words.specs.Commands.{IsMade};
 
 use crate::command_line::{flag, number, of_image, with};
@@ -51,6 +51,9 @@ Of a snapshot 1 of the volume 0, of 1 MiB with blocks of 64 KiB, where the third
     131072 65536
     196608 851968 hole
 
+Of a pool that is served the server is asked, page by page; what is listed is right of volumes that nobody writes meanwhile, as snapshots:
+  thinpool delta --at unix:/run/thinpool/control 1 2
+
 With --json it prints the same as one line of JSON, where \"data\" is false of a hole:
   thinpool delta pool.img 1 0 --json
     [{\"data\":false,\"length\":131072,\"offset\":0},{\"data\":true,\"length\":65536,\"offset\":131072},{\"data\":false,\"length\":851968,\"offset\":196608}]";
@@ -81,6 +84,19 @@ fn json<'a>(alloc: Global) -> Arg<'a>
     flag(alloc, "JSON", "json", "Print one line of JSON")
 }
 
+/// The flag by which a pool that is in use is asked.
+fn in_use<'a>(alloc: Global) -> Arg<'a>
+    ensures rule { rule_of result ≡ at_rule }
+    ensures local { result.global ≡ false }
+{
+    flag(
+        alloc,
+        "AT",
+        "at",
+        "Ask the server whose control place IMAGE is, page by page",
+    )
+}
+
 pub(crate) fn list_command<'a>(alloc: Global) -> Result<Command<'a>, AllocError>
     ensures { IfOk result (IsMade list_app) }
 {
@@ -107,7 +123,8 @@ pub(crate) fn delta_command<'a>(alloc: Global) -> Result<Command<'a>, AllocError
     let made = of_image(alloc, "delta", about, IMAGE, DELTA_HELP);
     let made = with(made, number(alloc, "OLD", old));
     let made = with(made, number(alloc, "NEW", new));
-    with(made, json(alloc))
+    let made = with(made, json(alloc));
+    with(made, in_use(alloc))
 }
 
 pub(crate) fn free_command<'a>(alloc: Global) -> Result<Command<'a>, AllocError>

@@ -1,4 +1,4 @@
-use Rattle.tp_program.specs.Failures.{number_of}
+use Rattle.tp_failures.specs.Failures.{number_of}
 use Rattle.tp_program.proofs.Chosen.{then_made, unprinted}
 use Rattle.tp_program.proofs.creating.create_sized.Goals as goal
 

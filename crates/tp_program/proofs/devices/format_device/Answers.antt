@@ -1,6 +1,6 @@
 use Rattle.std.proofs.Common.{ap, inl, inr, refl, Err}
 use Rattle.tp_program.specs.Images.{FormatsOver}
-use Rattle.tp_program.specs.Failures.{number_of}
+use Rattle.tp_failures.specs.Failures.{number_of}
 use Rattle.tp_program.proofs.Deeds.{done_on}
 use Rattle.tp_program.proofs.devices.format_device.Goals as goal
 

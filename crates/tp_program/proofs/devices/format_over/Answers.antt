@@ -1,7 +1,7 @@
 use Rattle.std.proofs.Common.{◌≤◌, inr, subst, arith}
 use Rattle.tp_model.specs.Disk.{DiskState}
 use Rattle.tp_model.specs.Geometry.{sectors_of_image}
-use Rattle.tp_program.specs.Failures.{number_of}
+use Rattle.tp_failures.specs.Failures.{number_of}
 use Rattle.tp_program.specs.Images.{FormatsOn}
 use Rattle.tp_program.proofs.Taking.{is_so}
 use Rattle.tp_program.proofs.devices.format_over.Goals as goal

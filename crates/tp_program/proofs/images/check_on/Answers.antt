@@ -1,5 +1,6 @@
-use Rattle.std.proofs.Common.{Result, subst, sym}
-use Rattle.tp_model.specs.declared.refusal.Refusal.{Refusal}
+use Rattle.std.proofs.Common.{ap, subst, sym}
+use Rattle.tp_model.specs.Disk.{DiskState}
+use Rattle.tp_failures.specs.Failures.{number_of}
 use Rattle.tp_program.specs.Images.{PrintsCheck}
 use Rattle.tp_program.proofs.images.check_on.Goals as goal
 
@@ -7,4 +8,6 @@ pub returns : goal.returns
 returns g c =
     let calls = g.S.Stream.calls in
     let state = g.D.Disk.state in
-    subst (λ (r : Result (Unit {0}) Refusal). PrintsCheck (calls c.args.stream.now) (calls c.tell_check-told.new.stream) r (state c.args.disk) (state c.tell_check-told.new.disk)) (sym c.because-told.ensures) c.tell_check-told.ensures
+    let did = c.check_disk-followed in
+    subst (λ (d : DiskState). PrintsCheck (calls c.args.stream.now) (calls did.new.stream) (number_of did.result.1) d (state c.into_disk.result)) (ap state c.new.ensures)
+    (subst (λ (d : DiskState). PrintsCheck (calls c.args.stream.now) (calls did.new.stream) (number_of did.result.1) (state c.new.result.disk) d) (sym (ap state c.into_disk.ensures)) did.ensures)

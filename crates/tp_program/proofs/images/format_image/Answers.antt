@@ -1,6 +1,6 @@
 use Rattle.std.proofs.Common.{rules, inl, inr, refl, subst, ap, ◌∙◌, Err}
 use Rattle.tp_model.specs.Geometry.{Geometry, IsWithinLimits}
-use Rattle.tp_program.specs.Failures.{number_of}
+use Rattle.tp_failures.specs.Failures.{number_of}
 use Rattle.tp_program.specs.Images.{MakesPool, sizes_asked}
 use Rattle.tp_program.proofs.images.format_image.Goals as goal
 

@@ -1,19 +1,17 @@
-use Rattle.std.proofs.Common.{inr, Result, subst, sym}
-use Rattle.tp_model.specs.declared.refusal.Refusal.{Refusal}
-use Rattle.tp_program.specs.Images.{FormatsOn, IsMadeOn}
-use Rattle.tp_program.proofs.Formats.{unmade}
+use Rattle.std.proofs.Common.{◌≤◌, ap, subst, sym}
+use Rattle.tp_model.specs.Disk.{DiskState}
+use Rattle.tp_model.specs.Geometry.{sectors_of_image}
+use Rattle.tp_failures.specs.Failures.{number_of}
+use Rattle.tp_program.specs.Images.{FormatsOn}
 use Rattle.tp_program.proofs.images.format_on.Goals as goal
 
-pub returns-in-Ok : goal.returns-in-Ok
-returns-in-Ok g c =
+pub format_disk-followed-requires : goal.format_disk-followed-requires
+format_disk-followed-requires g c = subst (λ (d : DiskState). sectors_of_image c.args.geometry ≤ d.size) (sym (ap g.D.Disk.state c.new.ensures)) c.requires
+
+pub returns : goal.returns
+returns g c =
     let calls = g.S.Stream.calls in
     let state = g.D.Disk.state in
-    let said = c.in-Ok.ensures in
-    let made : IsMadeOn c.args.geometry (state c.args.disk) c.in-Ok.pool = record { same_disk = said.same; fresh = said.fresh; settled = said.settled; shows_it = said.shows; opened = said.opened } in
-    subst (λ (r : Result (Unit {0}) Refusal). FormatsOn c.args.geometry (calls c.args.stream.now) (calls c.print_status-told.new.stream) r (state c.args.disk) (state c.hand_back.result.0)) (sym c.hand_back.ensures.told)
-    (inr (c.in-Ok.pool, c.print_status-told.new.pool, made, c.print_status-told.ensures, c.hand_back.ensures.disk))
-
-pub returns-in-Err : goal.returns-in-Err
-returns-in-Err g c =
-    let said = c.in-Err.ensures in
-    unmade c.args.geometry (g.S.Stream.calls c.args.stream.now) c.in-Err.refusal c.on_disk-why.result.refusal (g.D.Disk.state c.args.disk) (g.D.Disk.state c.in-Err.disk) c.on_disk-why.ensures c.requires said.only said.small said.untouched said.same
+    let did = c.format_disk-followed in
+    subst (λ (d : DiskState). FormatsOn c.args.geometry (calls c.args.stream.now) (calls did.new.stream) (number_of did.result.1) d (state c.into_disk.result)) (ap state c.new.ensures)
+    (subst (λ (d : DiskState). FormatsOn c.args.geometry (calls c.args.stream.now) (calls did.new.stream) (number_of did.result.1) (state c.new.result.disk) d) (sym (ap state c.into_disk.ensures)) did.ensures)

@@ -1,7 +1,7 @@
 use Rattle.std.proofs.Common.{rules, subst, sym}
 use Rattle.tp_tasks.specs.declared.task.Task.{Task}
 use Rattle.nbd_session.specs.declared.phase.Profile.{Profile}
-use Rattle.tp_program.specs.Failures.{number_of}
+use Rattle.tp_failures.specs.Failures.{number_of}
 use Rattle.tp_program.specs.Tasks.{DoesPlain, Feeds}
 use Rattle.tp_program.proofs.programs.perform_on.Goals as goal
 

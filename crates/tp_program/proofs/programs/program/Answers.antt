@@ -6,8 +6,8 @@ use Rattle.tp_program.proofs.Tasks.{ended, performed}
 use Rattle.tp_program.specs.Tasks.{Performs}
 use Rattle.tp_program.proofs.programs.program.Goals as goal
 
-pub returns-after-asked-clause-ends : goal.returns-after-asked-clause-ends
-returns-after-asked-clause-ends g c =
+pub returns-in-Ok-clause-ends : goal.returns-in-Ok-clause-ends
+returns-in-Ok-clause-ends g c =
     let deeds = g.I.Images.deeds in
     let left = g.R.Read.remaining in
     let told = g.W.Write.contents in
@@ -16,8 +16,8 @@ returns-after-asked-clause-ends g c =
     (ended (c.args.terminals.input && c.args.terminals.errors) (deeds c.args.images.now) (deeds after.images) (left c.args.input.now) (left after.input) (told c.args.output.now) (told after.output)
     c.perform-done.result (map g.S.AsStr.text c.args.words.now) c.in-Ok.asked c.in-Ok.ensures c.perform-done.ensures)
 
-pub returns-after-asked-clause-performs : goal.returns-after-asked-clause-performs
-returns-after-asked-clause-performs g c =
+pub returns-in-Ok-clause-performs : goal.returns-in-Ok-clause-performs
+returns-in-Ok-clause-performs g c =
     let deeds = g.I.Images.deeds in
     let left = g.R.Read.remaining in
     let told = g.W.Write.contents in

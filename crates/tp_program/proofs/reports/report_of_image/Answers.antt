@@ -1,5 +1,5 @@
 use Rattle.std.proofs.Common.{ap, inl, inr, refl, Err}
-use Rattle.tp_program.specs.Failures.{number_of}
+use Rattle.tp_failures.specs.Failures.{number_of}
 use Rattle.tp_program.specs.Reporting.{ReportsOn}
 use Rattle.tp_program.proofs.Deeds.{done_on}
 use Rattle.tp_program.proofs.reports.report_of_image.Goals as goal

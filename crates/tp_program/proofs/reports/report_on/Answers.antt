@@ -1,14 +1,17 @@
-use Rattle.std.proofs.Common.{inl, inr, refl, Result, subst, sym}
-use Rattle.tp_model.specs.declared.refusal.Refusal.{Refusal}
+use Rattle.std.proofs.Common.{ap, subst, sym}
+use Rattle.tp_model.specs.Disk.{DiskState}
+use Rattle.tp_disk.specs.HandedOut.{IsHandedOut}
+use Rattle.tp_failures.specs.Failures.{number_of}
 use Rattle.tp_program.specs.Reporting.{ReportsOn}
 use Rattle.tp_program.proofs.reports.report_on.Goals as goal
 
-pub returns-in-Ok : goal.returns-in-Ok
-returns-in-Ok g c =
+pub report_disk-followed-requires : goal.report_disk-followed-requires
+report_disk-followed-requires g c = subst (λ (d : DiskState). IsHandedOut d) (sym (ap g.D.Disk.state c.new.ensures)) c.requires
+
+pub returns : goal.returns
+returns g c =
     let calls = g.S.Stream.calls in
     let state = g.D.Disk.state in
-    subst (λ (r : Result (Unit {0}) Refusal). ReportsOn c.args.report c.args.is_json (calls c.args.stream.now) (calls c.tell-told.new.stream) r (state c.args.disk) (state c.hand_back.result.0)) (sym c.hand_back.ensures.told)
-    (inr (c.in-Ok.pool, c.tell-told.new.pool, c.in-Ok.ensures.opened, c.tell-told.ensures, c.hand_back.ensures.disk))
-
-pub returns-in-Err : goal.returns-in-Err
-returns-in-Err g c = inl (c.in-Err.why.refusal, refl, c.in-Err.ensures.refused, refl)
+    let did = c.report_disk-followed in
+    subst (λ (d : DiskState). ReportsOn c.args.report c.args.is_json (calls c.args.stream.now) (calls did.new.stream) (number_of did.result.1) d (state c.into_disk.result)) (ap state c.new.ensures)
+    (subst (λ (d : DiskState). ReportsOn c.args.report c.args.is_json (calls c.args.stream.now) (calls did.new.stream) (number_of did.result.1) (state c.new.result.disk) d) (sym (ap state c.into_disk.ensures)) did.ensures)

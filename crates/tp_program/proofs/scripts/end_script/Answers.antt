@@ -1,7 +1,7 @@
 use Rattle.std.proofs.Common.{ℕ, Result, Err, ap, sym}
 use Rattle.tp_program.specs.declared.scripts.Unplayed.{Unplayed}
 use Rattle.tp_program.specs.declared.scripts.Unplayed.TheVariants.{BadLine}
-use Rattle.tp_program.specs.Failures.{number_of}
+use Rattle.tp_failures.specs.Failures.{number_of}
 use Rattle.tp_program.specs.Scripts.{is_bad}
 use Rattle.tp_program.proofs.Playing.{match_no, match_yes}
 use Rattle.tp_program.proofs.scripts.end_script.Goals as goal

@@ -3,7 +3,7 @@ use Rattle.std.proofs.Common.{◌≡◌, ℕ, refl, subst}
 use Rattle.tp_model.specs.declared.refusal.Refusal.{Refusal}
 use Rattle.tp_model.specs.declared.refusal.Refusal.TheVariants.{BadGeometry, Damaged, NotAPool, BadVersion, Fault, Memory, BadSyntax, UnknownMessage, BadDeviceId, Exists, NoSuchDevice, Busy, StaleTransactionId, NoMetadataSpace, TooManyDevices, ReadOnly, Failed, SessionInUse, NoSession, NoDataSpace, BadSize, HeldRootExists, NoHeldRoot, BadSuper, BadNode, BadOrder, BadCount, OutOfPlace, HalfEmpty, BadMapped, BadRecordSize}
 use Rattle.tp_model.specs.Refusals.{refusal_number}
-use Rattle.tp_program.specs.Answered.{all_refusals, numbered}
+use Rattle.tp_places.specs.Answered.{all_refusals, numbered}
 
 is_found : (refusal : Refusal) → numbered all_refusals (refusal_number refusal) ≡ refusal
 is_found BadGeometry = refl

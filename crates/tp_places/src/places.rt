@@ -15,7 +15,7 @@ const SOCKET_FILE: &str = "unix:";
 
 /// Why a place is not listened at.
 #[derive(Clone, Copy, Debug)]
-pub(crate) enum NoDoor {
+pub enum NoDoor {
     /// There is no memory for its path, or for the list of doors.
     Memory,
     /// The system refuses it.
@@ -23,7 +23,7 @@ pub(crate) enum NoDoor {
 }
 
 /// A door at a place. A socket file is for its owner alone from its first moment, and takes the place of one that a server left that runs no more.
-pub(crate) fn open_door<R>(rt: &R, alloc: Global, place: &str) -> Result<Door, NoDoor>
+pub fn open_door<R>(rt: &R, alloc: Global, place: &str) -> Result<Door, NoDoor>
 where
     R: Files<File = File> + Net<Listener = TcpListener, Stream = TcpStream>,
 {

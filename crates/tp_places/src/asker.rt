@@ -3,12 +3,12 @@
 ghost use Rattle.std.specs.Prelude.{◌≡◌};
 ghost use Rattle.std.specs.Io.{ReadsAtMost};
 ghost use Rattle.tp_model.specs.Refusals.{refusal_number};
-ghost use Rattle.tp_program.specs.Answered.{all_refusals, numbered};
+ghost use Rattle.tp_places.specs.Answered.{all_refusals, numbered};
 
-use crate::failure::{Cause, Failure};
 use crate::places::connect;
 use std::io::{self, ErrorKind, Read, Write};
 use std::net::{Net, Shutdown, TcpStream};
+use tp_failures::{Cause, Failure};
 use tp_hub::{Stream, send_all};
 use tp_model::Refusal;
 use tp_words::Texts;
@@ -68,7 +68,7 @@ struct Heard {
 }
 
 /// The number by which a line says that it is refused, if it does.
-fn refusal_in(line: &[u8]) -> Option<u8> {
+pub(crate) fn refusal_in(line: &[u8]) -> Option<u8> {
     let number = std::str::from_utf8(line).ok()?.strip_prefix(REFUSED)?;
     number.parse::<u8>().ok()
 }
@@ -138,7 +138,7 @@ fn send_lines(connection: &mut TcpStream, lines: &Texts<'_>) -> io::Result<u64> 
 }
 
 /// Reads some bytes to the front of a buffer: none at the end.
-fn read_some<T: Read>(connection: &mut T, piece: &mut [u8]) -> io::Result<usize>
+pub(crate) fn read_some<T: Read>(connection: &mut T, piece: &mut [u8]) -> io::Result<usize>
     ensures { ReadsAtMost result piece.new }
 {
     for _ in 0..u64::MAX {
@@ -188,7 +188,7 @@ fn numbered_in(refusals: &[Refusal], number: u8) -> Refusal
 }
 
 /// The refusal of a number: a fault where none has it.
-fn refusal_of(number: u8) -> Refusal
+pub(crate) fn refusal_of(number: u8) -> Refusal
     ensures found { (refusal : Refusal) → refusal_number refusal ≡ number → result ≡ refusal }
     ensures table { result ≡ numbered all_refusals number }
 {

@@ -1,7 +1,7 @@
 //! Why a task was refused.
 
 ghost use Rattle.std.specs.Prelude.{◌≡◌};
-ghost use Rattle.tp_program.specs.Failures.{number_of};
+ghost use Rattle.tp_failures.specs.Failures.{number_of};
 
 use std::io;
 use tp_disk::{OpenError, TellsTrouble, Trouble};
@@ -60,7 +60,7 @@ pub enum Cause {
 
 impl Failure {
     /// A refusal by the disk of an image that was not opened.
-    pub(crate) fn unopened(error: OpenError) -> Failure
+    pub fn unopened(error: OpenError) -> Failure
         ensures { result.refusal ≡ Refusal.Fault }
     {
         Failure {
@@ -70,7 +70,7 @@ impl Failure {
     }
 
     /// A fault of this cause.
-    pub(crate) fn fault(cause: Cause) -> Failure
+    pub fn fault(cause: Cause) -> Failure
         ensures { result.refusal ≡ Refusal.Fault }
     {
         Failure {
@@ -80,7 +80,7 @@ impl Failure {
     }
 
     /// A device has too few sectors for the sizes that are asked for.
-    pub(crate) fn too_small(sectors: u64, wanted: u64) -> Failure
+    pub fn too_small(sectors: u64, wanted: u64) -> Failure
         ensures { result.refusal ≡ Refusal.BadGeometry }
     {
         Failure {
@@ -90,7 +90,7 @@ impl Failure {
     }
 
     /// A device is somebody else's.
-    pub(crate) fn taken() -> Failure
+    pub fn taken() -> Failure
         ensures { result.refusal ≡ Refusal.Exists }
     {
         Failure {
@@ -100,7 +100,7 @@ impl Failure {
     }
 
     /// No pool holds what is wanted.
-    pub(crate) fn unfit(unfit: Unfit) -> Failure
+    pub fn unfit(unfit: Unfit) -> Failure
         ensures { result.refusal ≡ Refusal.BadGeometry }
     {
         Failure {
@@ -110,7 +110,7 @@ impl Failure {
     }
 
     /// Whether it says how many volumes fit.
-    pub(crate) fn tells_what_fits(&self) -> bool {
+    pub fn tells_what_fits(&self) -> bool {
         match self.cause {
             Cause::Unfit(Unfit::TooMany { .. }) => true,
             _ => false,
@@ -118,7 +118,7 @@ impl Failure {
     }
 
     /// A refusal of a pool on a disk of which the system said this last.
-    pub(crate) fn on_disk(refusal: Refusal, trouble: Option<Trouble>) -> Failure
+    pub fn on_disk(refusal: Refusal, trouble: Option<Trouble>) -> Failure
         ensures { result.refusal ≡ refusal }
     {
         Failure {
@@ -154,7 +154,7 @@ fn cause_of(refusal: Refusal, trouble: Option<Trouble>) -> Cause {
 }
 
 /// What a pool on this disk answered, with the cause of a refusal.
-pub(crate) fn because<D: TellsTrouble>(disk: &D, done: Result<(), Refusal>) -> Result<(), Failure>
+pub fn because<D: TellsTrouble>(disk: &D, done: Result<(), Refusal>) -> Result<(), Failure>
     ensures { number_of result ≡ done }
 {
     match done {

@@ -33,7 +33,7 @@ fn image_of<'a>(task: &Task<'a>) -> &'a str {
         | Task::Report { image, .. }
         | Task::Serve { image, .. }
         | Task::Run { image, .. } => image,
-        Task::Ask { place, .. } => place,
+        Task::Ask { place, .. } | Task::DeltaAt { place, .. } => place,
         Task::Feed { image, .. } | Task::Play { image, .. } => match image {
             Image::Memory => "mem:",
             Image::File(path) => path,
@@ -57,7 +57,7 @@ fn addresses_of<'a>(task: &Task<'a>) -> (&'a str, &'a str) {
             control,
             ..
         } => (address, control.unwrap_or("")),
-        Task::Ask { place, .. } => (place, ""),
+        Task::Ask { place, .. } | Task::DeltaAt { place, .. } => (place, ""),
         _ => ("", ""),
     }
 }
