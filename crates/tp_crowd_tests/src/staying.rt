@@ -100,7 +100,7 @@ where
     Ok((count as u32, done))
 }
 
-/// How many of three lines are answered so.
+/// How many of four lines are answered so.
 fn told_lines<H>(rt: &H, control: SocketAddr) -> io::Result<u32>
 where
     H: Net<Listener = TcpListener, Stream = TcpStream> + Alloc<A = Global>,
@@ -109,6 +109,7 @@ where
         is_answered(rt, control, b"clients\n", b"2 of 64: 0\n")?,
         is_answered(rt, control, b"flush\n", b"ok\n")?,
         is_answered(rt, control, b"flush now\n", b"refused 12\n")?,
+        is_answered(rt, control, b"thin 2\n", b"refused 15\n")?,
     ];
     Ok(count_so(&told))
 }
@@ -412,11 +413,11 @@ fn who_takes_nothing_is_let_go(rt: HostRuntime) -> Result<(), Fail> {
     Ok(())
 }
 
-/// Those who have no volume count too. A line that only begins as one of those that are no messages is a message.
+/// Those who have no volume count too. A line that only begins as one of those that are no messages is a message, and there is no third volume.
 #[test]
 fn lines_tell_who_is_served(rt: HostRuntime) -> Result<(), Fail> {
     let told = told_at_doors(&rt, Guests::Ask)?;
-    assert_eq!(rt; told, ((3, true), (true, 0, 2)));
+    assert_eq!(rt; told, ((4, true), (true, 0, 2)));
     Ok(())
 }
 

@@ -107,6 +107,21 @@ pub(crate) fn write(
     pool.write(id, sector, bytes, false)
 }
 
+/// The same with FUA.
+pub(crate) fn write_through(
+    pool: &mut MemServed,
+    id: DevId,
+    sector: u64,
+    bytes: &[u8],
+) -> Result<(), Refusal> {
+    let count = bytes.len() as u64 / 512;
+    let end = pool.geometry().volume_sectors();
+    if bytes.len() % SECTOR != 0 || count > 2048 || sector > end || count > end - sector {
+        return Err(Refusal::BadGeometry);
+    }
+    pool.write(id, sector, bytes, true)
+}
+
 /// The byte that fills a sector of a volume, where it has it and one does.
 pub(crate) fn byte_at(pool: &mut MemServed, id: DevId, sector: u64) -> Result<u8, Refusal> {
     let mut out = [255; SECTOR];

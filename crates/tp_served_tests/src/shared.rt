@@ -1,7 +1,8 @@
 //! Shared reads, beside the ordinary ones.
 
-use crate::calls::flush;
-use crate::pools::{MANY, MemServed, byte_at, shared_byte_at, stopped, with_volume, write};
+use crate::pools::{
+    MANY, MemServed, byte_at, shared_byte_at, stopped, with_volume, write, write_through,
+};
 use std::alloc::Global;
 use std::test::Fail;
 use tp_model::{DevId, Geometry, Refusal};
@@ -13,16 +14,13 @@ const NO_VOLUME: u32 = 1;
 /// A sector of the second block of a volume.
 const SECTOR: u64 = 130;
 
-/// Writes that sector of volume 0 and flushes.
-fn write_and_flush(pool: &mut MemServed) -> Result<(), Refusal> {
-    write(pool, DevId::new(VOLUME), SECTOR, &[7; 512])?;
-    flush(pool)
-}
+/// A sector of its third block.
+const LATER: u64 = 300;
 
-/// A pool with volume 0, of which that sector was written, reopened behind a flush.
+/// A pool with volume 0, of which that sector was written with FUA, as a stop behind that leaves it.
 fn written(alloc: Global) -> Result<MemServed, Fail> {
     let mut pool = with_volume(alloc, Geometry::new(128, 16, 2048, 4)?, MANY)?;
-    write_and_flush(&mut pool)?;
+    write_through(&mut pool, DevId::new(VOLUME), SECTOR, &[7; 512])?;
     stopped(alloc, &pool, MANY)
 }
 
@@ -54,20 +52,25 @@ fn a_shared_read_follows_an_ordinary_one(rt: HostRuntime) -> Result<(), Fail> {
 }
 
 /// What an ordinary read of a volume that there is not is answered, what a shared read gives of it behind that, and what one gives of the volume
-/// that there is behind a write over its sector.
+/// that there is behind a write over its sector, and behind one to a block that had no data block.
 fn about_others(
     pool: &mut MemServed,
-) -> Result<(Result<u8, Refusal>, Option<u8>, Option<u8>), Refusal> {
+) -> Result<(Result<u8, Refusal>, Option<u8>, Option<u8>, Option<u8>), Refusal> {
     let answer = byte_at(pool, DevId::new(NO_VOLUME), SECTOR);
     let none = shared_byte_at(pool, DevId::new(NO_VOLUME), SECTOR);
     write(pool, DevId::new(VOLUME), SECTOR, &[9; 512])?;
     let over = shared_byte_at(pool, DevId::new(VOLUME), SECTOR);
-    Ok((answer, none, over))
+    write(pool, DevId::new(VOLUME), LATER, &[8; 512])?;
+    let new = shared_byte_at(pool, DevId::new(VOLUME), LATER);
+    Ok((answer, none, over, new))
 }
 
 #[test]
 fn a_shared_read_gives_what_was_written_last(rt: HostRuntime) -> Result<(), Fail> {
     let told = told_of_written(rt.alloc(), about_others)?;
-    assert_eq!(rt; told, Ok((Err(Refusal::NoSuchDevice), None, Some(9))));
+    assert_eq!(rt;
+        told,
+        Ok((Err(Refusal::NoSuchDevice), None, Some(9), Some(8)))
+    );
     Ok(())
 }

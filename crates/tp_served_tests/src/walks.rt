@@ -29,22 +29,20 @@ fn shape(slots: &[Slot]) -> [u32; 3] {
     ]
 }
 
-/// What a walk from a block lists.
+/// What a walk from a block lists where the buffer has what an earlier one listed.
 fn walked(pool: &mut MemServed, id: u32, from: u32) -> Result<[u32; 3], Refusal> {
+    let id = DevId::new(id % 16777216);
+    let from = Vb::new(from % 16777216);
     let mut slots = Slots::new();
-    walk(
-        pool,
-        DevId::new(id % 16777216),
-        Vb::new(from % 16777216),
-        &mut slots,
-    )?;
+    walk(pool, id, from, &mut slots)?;
+    walk(pool, id, from, &mut slots)?;
     Ok(shape(&slots))
 }
 
 /// What a shared walk from the first block lists, if it tells.
-fn seen(pool: &MemServed) -> Option<[u32; 3]> {
+fn seen(pool: &MemServed, id: u32) -> Option<[u32; 3]> {
     let mut slots = Slots::new();
-    if !walk_shared(pool, DevId::new(VOLUME), Vb::new(0), &mut slots) {
+    if !walk_shared(pool, DevId::new(id % 16777216), Vb::new(0), &mut slots) {
         return None;
     }
     Some(shape(&slots))
@@ -90,25 +88,30 @@ fn a_walk_lists_what_was_written(rt: HostRuntime) -> Result<(), Fail> {
     Ok(())
 }
 
-/// What a walk of a volume that there is not is answered, and a shared walk before and behind one of the volume that there is.
+/// What a walk of a volume that there is not is answered, and a shared walk of it behind that, and shared walks before and behind one of the volume that there is.
 fn about_others(
     pool: &mut MemServed,
 ) -> (
     Result<[u32; 3], Refusal>,
     Option<[u32; 3]>,
     Option<[u32; 3]>,
+    Option<[u32; 3]>,
 ) {
-    let before = seen(pool);
+    let before = seen(pool, VOLUME);
     let _ = walked(pool, VOLUME, 0);
-    let behind = seen(pool);
+    let behind = seen(pool, VOLUME);
     let answer = walked(pool, NO_VOLUME, 0);
-    (answer, before, behind)
+    let none = seen(pool, NO_VOLUME);
+    (answer, none, before, behind)
 }
 
 /// The ordinary walk brings the metadata blocks into memory.
 #[test]
 fn a_shared_walk_follows_an_ordinary_one(rt: HostRuntime) -> Result<(), Fail> {
     let told = told_of_written(rt.alloc(), about_others)?;
-    assert_eq!(rt; told, (Err(Refusal::NoSuchDevice), None, Some([2, 1, 3])));
+    assert_eq!(rt;
+        told,
+        (Err(Refusal::NoSuchDevice), None, None, Some([2, 1, 3]))
+    );
     Ok(())
 }

@@ -8,6 +8,7 @@ use std::test::Fail;
 use tp_disk::{Disk, Fault, MemDisk};
 use tp_meta::{Meta, Metadata};
 use tp_model::{DevId, Geometry, Mode, Refusal};
+use tp_samples::create_thin;
 
 /// The first volume.
 const FIRST: u32 = 10_000_000;
@@ -110,10 +111,16 @@ fn crowded(alloc: Global) -> Result<MemDisk, Refusal> {
     Ok(disk)
 }
 
+/// There is no room for one volume more.
 #[test]
 fn the_longest_list(rt: HostRuntime) -> Result<(), Fail> {
     let disk = crowded(rt.alloc())?;
     let (sent, pool) = served(rt.alloc(), disk, LIST)?;
-    assert_eq!(rt; (sent.len(), pool.mode()), (2_097_172, Mode::Writable));
+    let mut pool = pool;
+    let more = create_thin(&mut pool, DevId::new(0));
+    assert_eq!(rt;
+        (sent.len(), more, pool.mode()),
+        (2_097_172, Err(Refusal::TooManyDevices), Mode::Writable)
+    );
     Ok(())
 }
