@@ -1,10 +1,14 @@
-"""`format` over what is there, at a terminal."""
+"""`format` over what is there, at a terminal, and work that takes long there."""
 import os
 import re
 from functools import partial
 
 from edge_cases.commands import FAULT
-from running import Ground, held, on_terminal, want
+from running import Ground, held, on_terminal, strace, want
+
+# Each read and write takes so much longer: eight of them are some seconds.
+SLOW = ["-e", "inject=pread64,pwrite64:delay_enter=400000"]
+LINE = rb"thinpool: \d+ MiB read and \d+ MiB written in (\d+) s so far\n"
 
 
 def terminals(ground):
@@ -19,6 +23,33 @@ def terminals(ground):
         yield f"format over a pool with {name} on a terminal does not ask", partial(not_asked, ground, "pool.img", streams)
     yield "format over a pool that is in use does not ask", partial(not_asked_in_use, ground)
     yield "format over a pool with wrong sizes does not ask", partial(not_asked_of_sizes, ground)
+    for words, printed in LONG:
+        yield f"{words[0]} of a slow disk tells that it goes on where standard error is a terminal", partial(told_of_long_work, ground, words, printed)
+        yield f"{words[0]} of a slow disk tells nothing elsewhere", partial(long_work_elsewhere, ground, words, printed)
+
+
+# What takes long, and a beginning of what it prints.
+LONG = ((["check"], b"clean\n"), (["ls"], b"ID SIZE MAPPED EXCLUSIVE\n0 "), (["delta", "0", "2"], b"0 "), (["format", *Ground.SIZES], b"0 "))
+
+
+def slow_words(ground, words):
+    return [*strace(os.devnull, "pread64,pwrite64", SLOW), ground.program, words[0], ground.copy(), *words[1:]]
+
+
+def told_of_long_work(ground, words, printed):
+    ran = on_terminal(slow_words(ground, words), (2,))
+    told = re.findall(LINE, ran.err)
+    want(
+        (ran.status == 0 and ran.out.startswith(printed), ran.told()),
+        (re.fullmatch(b"(" + LINE + b")+", ran.err) is not None, f"told {ran.err[:300]!r}"),
+        ([int(it) for it in told] == sorted({int(it) for it in told}), f"the lines are of seconds {told}"),
+    )
+    return f"{len(told)} lines"
+
+
+def long_work_elsewhere(ground, words, printed):
+    ran = on_terminal(slow_words(ground, words), ())
+    want((ran.status == 0 and ran.out.startswith(printed) and not ran.err, ran.told()))
 
 
 def asks(ran, what=""):
