@@ -50,7 +50,7 @@ where
 }
 
 /// Serves one client and control clients: how many clients came, and how many were refused.
-fn served_with_control<H>(
+pub(crate) fn served_with_control<H>(
     rt: &H,
     listener: TcpListener,
     control: &TcpListener,

@@ -10,6 +10,8 @@ mod control;
 #[cfg(test)]
 mod crowd;
 #[cfg(test)]
+mod deltas;
+#[cfg(test)]
 mod flushes;
 #[cfg(test)]
 mod long;

@@ -1,0 +1,158 @@
+//! Where one volume of a pool that is served differs from another, as it is printed by who asks its server.
+
+ghost use Rattle.std.specs.Prelude.{◌≡◌};
+
+use crate::control::served_with_control;
+use crate::served::listening;
+use std::alloc::Global;
+use std::io::{self, Read, Write};
+use std::marker::Brand;
+use std::net::{Net, SocketAddr, TcpListener, TcpStream};
+use std::sync::Wait;
+use std::test::Fail;
+use std::thread::{Threads, join};
+use std::time::Clock;
+use tp_failures::Failure;
+use tp_lines::{Begins, Ends, Piped};
+use tp_model::Refusal;
+use tp_places::delta_at;
+
+/// What is asked: at which place, of which volume, and whether for JSON.
+#[derive(Drop)]
+struct Question<'p> {
+    place: &'p str,
+    new: u64,
+    is_json: bool,
+}
+
+/// Asks where that volume differs from the first one, and prints it to a writer, as a pipe from where this one begins.
+fn ask_since<'a, H, R: Read, W: Write, K: Begins>(
+    rt: &H,
+    question: &Question<'_>,
+    ends: Ends<'a, R, W>,
+) -> (Ends<'a, R, W>, Result<(), Failure>)
+where
+    H: Net<Listener = TcpListener, Stream = TcpStream> + Alloc<A = Global>,
+    requires { K.opening ≡ record { reader = ends.input.ghost_name; writer = ends.output.ghost_name; left = R.remaining ends.input.now; told = W.contents ends.output.now } }
+{
+    let mut piped = Piped::<R, W, K>::begin(ends);
+    let asked = delta_at(
+        rt,
+        rt.alloc(),
+        question.place,
+        0,
+        question.new,
+        question.is_json,
+        &mut piped,
+    );
+    (piped.end(), asked)
+}
+
+/// The same over any reader and any writer.
+fn ask<H, R: Read, W: Write>(
+    rt: &H,
+    question: &Question<'_>,
+    input: &mut R,
+    output: &mut W,
+) -> Result<(), Failure>
+where
+    H: Net<Listener = TcpListener, Stream = TcpStream> + Alloc<A = Global>,
+{
+    let (_, asked) = ask_since::<H, R, W, Brand>(rt, question, Ends { input, output });
+    asked
+}
+
+/// By what it was refused, and whether this is all that was printed.
+type Told = (Option<Refusal>, bool);
+
+/// What is told of a volume at a place, of which this is to be printed.
+fn told<H>(rt: &H, place: &str, new: u64, is_json: bool, wanted: &[u8]) -> Told
+where
+    H: Net<Listener = TcpListener, Stream = TcpStream> + Alloc<A = Global>,
+{
+    let question = Question {
+        place,
+        new,
+        is_json,
+    };
+    let mut input: &[u8] = b"";
+    let mut output = Vec::new(rt.alloc());
+    let refusal = match ask(rt, &question, &mut input, &mut output) {
+        Ok(()) => None,
+        Err(failure) => Some(failure.refusal),
+    };
+    (refusal, output.as_slice() == wanted)
+}
+
+/// The last half of the second volume differs from the first one.
+const LINES: &[u8] = b"0 524288 hole\n524288 524288\n";
+
+/// The same as JSON.
+const OBJECTS: &[u8] =
+    b"[{\"data\":false,\"length\":524288,\"offset\":0},{\"data\":true,\"length\":524288,\"offset\":524288}]\n";
+
+/// What is told of the second volume, in lines and as JSON, and of one that is not there. Then the client comes and goes.
+fn ask_and_go<H>(rt: &H, place: &str, clients: SocketAddr) -> io::Result<(Told, Told, Told)>
+where
+    H: Net<Listener = TcpListener, Stream = TcpStream> + Alloc<A = Global>,
+{
+    let told = (
+        told(rt, place, 1, false, LINES),
+        told(rt, place, 1, true, OBJECTS),
+        told(rt, place, 2, false, b""),
+    );
+    drop(TcpStream::connect(rt, clients)?);
+    Ok(told)
+}
+
+/// The same beside those who serve it, and how many clients came, and how many were refused.
+fn told_beside<H>(
+    rt: &H,
+    listener: TcpListener,
+    control: &TcpListener,
+    place: &str,
+    clients: SocketAddr,
+) -> Result<((Told, Told, Told), (u8, u64)), Fail>
+where
+    H: Net<Listener = TcpListener, Stream = TcpStream>
+        + Threads
+        + Wait
+        + Clock
+        + Sync
+        + Alloc<A = Global>,
+{
+    let (told, served) = join(
+        rt,
+        || ask_and_go(rt, place, clients),
+        || served_with_control(rt, listener, control),
+    );
+    Ok((told?, served?))
+}
+
+/// The same of listeners of loopback.
+fn told_of_deltas<H>(rt: &H) -> Result<((Told, Told, Told), (u8, u64)), Fail>
+where
+    H: Net<Listener = TcpListener, Stream = TcpStream>
+        + Threads
+        + Wait
+        + Clock
+        + Sync
+        + Alloc<A = Global>,
+{
+    let (control, lines) = listening(rt)?;
+    let (listener, clients) = listening(rt)?;
+    let place = format!(in rt.alloc(); "{lines}")?;
+    told_beside(rt, listener, &control, &place, clients)
+}
+
+/// The runs of a page and the holes between them are printed, and nothing of a volume that the server does not know.
+#[test]
+fn a_delta_of_a_pool_that_is_served(rt: HostRuntime) -> Result<(), Fail> {
+    let told = told_of_deltas(&rt)?;
+    let unknown = Some(Refusal::NoSuchDevice);
+    assert_eq!(rt;
+        told,
+        (((None, true), (None, true), (unknown, true)), (1, 0))
+    );
+    Ok(())
+}
