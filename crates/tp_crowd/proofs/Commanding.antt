@@ -10,8 +10,8 @@ use Rattle.tp_hub.specs.Desks.{IsAsked}
 use Rattle.tp_hub.specs.Serving.{Slots}
 use Rattle.tp_hub.proofs.Turning.{grows_behind}
 use Rattle.tp_crowd.specs.declared.ruling.Command.{Command}
-use Rattle.tp_crowd.specs.Census.{AreSeats}
-use Rattle.tp_crowd.specs.Locked.{SomeRuns}
+use Rattle.tp_lock.specs.Census.{AreSeats}
+use Rattle.tp_lock.specs.Locked.{SomeRuns}
 use Rattle.tp_crowd.specs.Ruling.{IsCommand, IsRuled, IsToldOf, Obeys, TellsSo, TellsWho}
 
 -- who is served was told in the place of a line

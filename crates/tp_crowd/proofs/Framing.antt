@@ -13,7 +13,7 @@ use Rattle.nbd_wire.specs.Reading.{wanted}
 use Rattle.nbd_wire.specs.declared.Kind.{Kind}
 use Rattle.nbd_wire.specs.declared.Kind.TheVariants.{Flags, Options, Requests}
 use Rattle.nbd_wire.specs.Reading.{fixed_len}
-use Rattle.tp_crowd.specs.Framing.{Framed, bytes_of, given, given_in, end_of, ends_in, more_of, set_in, first_kind, framed, head_come, is_between, kind_at, kind_behind, next, passed}
+use Rattle.tp_lock.specs.Framing.{Framed, bytes_of, given, given_in, ends_in, set_in, first_kind, framed, head_come, is_between, kind_at, kind_behind, next, passed}
 
 -- ---- one piece behind the other
 
@@ -174,24 +174,6 @@ ends_all f ended bytes at over is = is ∙ ap (ends_in f) (take_all at bytes ove
 pub read_more : (f g h : Framed) (buffer new : List ℕ) (at n m : ℕ) → take at new ≡ take at buffer → g ≡ passed f (take at buffer) → m ≡ n → h ≡ passed g (take m (drop at new)) → h ≡ passed f (take (at + n) new)
 read_more f g h buffer new at n m same before is part =
     passed_more f g h new (drop at new) at n (before ∙ ap (passed f) (sym same)) refl (part ∙ ap (λ k. passed g (take k (drop at new))) is)
-
--- ---- turns
-
-pub end_none : (bytes : List ℕ) → 0 ≡ end_of 0 bytes
-unfolding end_of
-end_none bytes = refl
-
-pub end_next : (bytes rest : List ℕ) (n at len : ℕ) → at ≡ end_of n bytes → rest ≡ drop at bytes → len ≡ more_of at rest → at + len ≡ end_of (n + 1) bytes
-unfolding end_of
-end_next bytes rest n at len is rest_is len_is =
-    let step : end_of (suc n) bytes ≡ end_of n bytes + more_of (end_of n bytes) (drop (end_of n bytes) bytes) = refl in
-    let one : suc n ≡ n + 1 = omega arith in
-    let l : len ≡ more_of (end_of n bytes) (drop (end_of n bytes) bytes) = len_is ∙ (ap (more_of at) rest_is ∙ ap (λ k. more_of k (drop k bytes)) is) in
-    ap (λ k. k + len) is ∙ (ap (λ k. end_of n bytes + k) l ∙ (sym step ∙ ap (λ k. end_of k bytes) one))
-
-pub some_on : (at rest total count : ℕ) → (at ≡ 0 → 0 < rest → 0 < count) → rest ≡ total - at → 0 < total → 0 < at + count
-some_on zero rest total count some is any = let more = some refl (omega (arith, is, any)) in omega (arith, more)
-some_on (suc at) rest total count some is any = omega arith
 
 -- ---- calls of a stream
 

@@ -1,9 +1,5 @@
-mod Locking
-mod Going
-mod Keeping
 mod Framing
 mod Guests
 mod Reading
 mod Controlling
-mod Counting
 mod Commanding

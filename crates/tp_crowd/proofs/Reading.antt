@@ -9,7 +9,7 @@ use Rattle.tp_hub.specs.declared.stream.Received.{Received}
 use Rattle.tp_hub.specs.declared.stream.Received.TheVariants.{Got, NotNow, End, Broken}
 use Rattle.tp_lines.specs.Pipes.{IsRead}
 use Rattle.tp_lines.proofs.Bytes.{consumes_then}
-use Rattle.tp_crowd.specs.Framing.{given}
+use Rattle.tp_lock.specs.Framing.{given}
 
 module _ (a b c : Option (List ℕ)) (buffer part : List ℕ) (at k : ℕ) (within : at ≤ length buffer) (before : Consumes a b (take at buffer)) where
   abbrev new : List ℕ

@@ -1,4 +1,4 @@
--- Internal: control lines of those who serve without end (own).
+-- Internal: how control lines are answered beside clients, and by those who serve without end (own).
 use Rattle.std.specs.Prelude.{◌≡◌, ◌⊎◌, ℕ, List, [], ◌∷◌, codes}
 use Rattle.tp_model.specs.declared.refusal.Refusal.TheVariants.{Memory}
 use Rattle.tp_model.specs.Clauses.{View}
@@ -12,8 +12,12 @@ use Rattle.tp_lines.specs.Controls.{AttendsLines}
 use Rattle.tp_lines.specs.ReadLines.{Leads}
 use Rattle.tp_crowd.specs.declared.ruling.Command.{Command}
 use Rattle.tp_crowd.specs.declared.ruling.Command.TheVariants.{Stop, StopNow, Flush, Clients}
-use Rattle.tp_crowd.specs.Census.{AreSeats, IsCensus}
-use Rattle.tp_crowd.specs.Locked.{SomeRuns}
+use Rattle.tp_lock.specs.Census.{AreSeats, IsCensus}
+use Rattle.tp_lock.specs.Locked.{SomeRuns}
+
+-- Control lines are read from a stream, and each is asked for once and answered; what becomes of the hub between two of them is not said. told: the calls of the stream.
+abbrev pub AnswersControl : {D : Type 0} → View D → List StreamCall → List StreamCall → LinesEnd → Type 0
+AnswersControl view told told' ending = Leads {D = Unit {0}} (λ at took answers at'. SomeRuns view took answers) (λ asks did. AttendsLines asks did ending) tt tt told told'
 
 -- the lines that are no message to the pool
 abbrev pub IsCommand : List ℕ → Command → Type 0

@@ -3,17 +3,17 @@
 ghost use Rattle.std.specs.Prelude.{◌≡◌, ◌<◌, None, length, IfOk, IfSome, IsSomeAnd, IsTrue};
 ghost use Rattle.std.proofs.Props.{props};
 ghost use Rattle.tp_hub.specs.Streams.{GivesSome};
-ghost use Rattle.tp_crowd.specs.Framing.{given, passed};
+ghost use Rattle.tp_lock.specs.Framing.{given, passed};
 
 use crate::fetching::{Fetching, TakenBack};
 use crate::frames::Frames;
-use crate::patience::Patience;
 use crate::polled::Polled;
 use std::alloc::{AllocError, Global};
 use std::mem;
 use std::sync::atomic::{AtomicUsize, Ordering};
 use std::thread::Threads;
 use tp_hub::Received;
+use tp_lock::Patience;
 
 /// The clients of a listener, as far as their [`Socket`](crate::Socket)s have to know of one another: how many there are.
 #[derive(Drop)]

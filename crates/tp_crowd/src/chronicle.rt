@@ -1,7 +1,7 @@
 //! What is told of those who are served without end.
 
-use crate::locked::Alarm;
 use std::net::SocketAddr;
+use tp_lock::Alarm;
 use tp_model::DevId;
 
 /// One who has come, and has a place.

@@ -3,13 +3,12 @@
 ghost use Rattle.std.specs.Prelude.{◌≡◌, ◌<◌, ◌≤◌, length};
 ghost use Rattle.std.specs.Iterator.{IsFinite, size};
 ghost use Rattle.tp_hub.specs.Streams.{GivesSome, TakesSome};
-ghost use Rattle.tp_crowd.specs.Locked.{AnswersControl, CameOf, IsFrom};
+ghost use Rattle.tp_lock.specs.Locked.{CameOf, IsFrom};
+ghost use Rattle.tp_crowd.specs.Ruling.{AnswersControl};
 
 use crate::crowd::{Refused, Served, behind_all, not_refused, refused_by_now};
 use crate::listening::{Accepted, attend_streams};
-use crate::locked::{Alarm, HubLock, LockedDesk};
 use crate::pause::{PAUSE, pause};
-use crate::since::Start;
 use std::alloc::Global;
 use std::io::{ErrorKind, Read, Write};
 use std::marker::Brand;
@@ -21,6 +20,7 @@ use std::time::{Clock, Duration};
 use std::{io, thread};
 use tp_hub::{Hub, Log, Made, Put, Received, Stream};
 use tp_lines::{LinesEnd, attend_lines};
+use tp_lock::{Alarm, HubLock, LockedDesk, Start};
 use tp_model::Staged;
 use tp_msg::Managed;
 

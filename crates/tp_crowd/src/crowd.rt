@@ -3,12 +3,10 @@
 ghost use Rattle.std.specs.Prelude.{◌≡◌, ◌<◌, ◌≤◌, IfOk, length, take};
 ghost use Rattle.std.specs.Iterator.{IsFinite, size};
 ghost use Rattle.tp_lines.specs.ReadLines.{Leads};
-ghost use Rattle.tp_crowd.specs.Framing.{set_in};
+ghost use Rattle.tp_lock.specs.Framing.{set_in};
+ghost use Rattle.tp_lock.specs.Locked.{CameOf, IsFrom};
 ghost use Rattle.tp_crowd.specs.Guests.{IsVisit, has_memory};
-ghost use Rattle.tp_crowd.specs.Locked.{CameOf, IsFrom};
 
-use crate::locked::{Alarm, HubLock, LockedDesk};
-use crate::since::Start;
 use nbd_session::Profile;
 use nbd_wire::MAX_FRAME;
 use std::alloc::{AllocError, Global};
@@ -18,6 +16,7 @@ use std::sync::atomic::{AtomicBool, Ordering};
 use std::thread;
 use std::thread::Threads;
 use tp_hub::{Answers, Carried, Desk, Hub, Stream, carry};
+use tp_lock::{Alarm, HubLock, LockedDesk, Start};
 use tp_model::{Staged, Volumes};
 use tp_msg::Managed;
 

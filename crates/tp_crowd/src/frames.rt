@@ -2,7 +2,7 @@
 
 ghost use Rattle.std.specs.Prelude.{◌≡◌, ◌+◌, ◌<◌, ◌≤◌, ◌++◌, ◌-◌, length, take};
 ghost use Rattle.nbd_wire.specs.Reading.{fixed_len as fixed_of};
-ghost use Rattle.tp_crowd.specs.Framing.{ends_in, first_kind, framed, head_come, is_between, kind_at, kind_behind as kind_then, missing_of, passed};
+ghost use Rattle.tp_lock.specs.Framing.{ends_in, first_kind, framed, head_come, is_between, kind_at, kind_behind as kind_then, missing_of, passed};
 
 use nbd_wire::{Kind, fixed_len, wanted};
 use std::marker::Model;
@@ -30,7 +30,7 @@ pub(crate) struct Frames {
 impl Model for Frames {
     ghost use Rattle.std.specs.Prelude.{◌<◌, take};
     ghost use Rattle.nbd_wire.specs.Reading.{fixed_len};
-    ghost use Rattle.tp_crowd.specs.Framing.{Framed};
+    ghost use Rattle.tp_lock.specs.Framing.{Framed};
 
     ghost Value = { Framed };
 
@@ -78,7 +78,7 @@ fn put_behind(head: &mut [u8; HEAD], held: usize, bytes: &[u8])
 impl Frames {
     ghost use Rattle.std.specs.Prelude.{◌≡◌, ◌<◌, ◌≤◌, [], length, take};
     ghost use Rattle.nbd_wire.specs.Reading.{fixed_len as fixed_of};
-    ghost use Rattle.tp_crowd.specs.Framing.{ends_in, framed, head_come, is_between, kind_at, missing_of, passed};
+    ghost use Rattle.tp_lock.specs.Framing.{ends_in, framed, head_come, is_between, kind_at, missing_of, passed};
     ghost use Rattle.nbd_wire.specs.declared.Kind.TheVariants.{Flags};
 
     /// Of a client of whom nothing was read.

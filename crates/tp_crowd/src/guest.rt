@@ -5,13 +5,12 @@ ghost use Rattle.tp_hub.specs.Streams.{GivesSome, read_call};
 ghost use Rattle.tp_crowd.specs.Guests.{but_end, but_ends};
 
 use crate::chronicle::Visit;
-use crate::locked::{Alarm, LockedDesk};
-use crate::since::Start;
 use crate::sockets::Socket;
 use std::sync::Wait;
 use std::sync::atomic::{AtomicBool, Ordering};
 use std::thread::Threads;
 use tp_hub::{Answers, Desk, Event, Log, Made, Put, Ran, Received, Seat, Stream};
+use tp_lock::{Alarm, LockedDesk, Start};
 use tp_model::{DevId, Staged};
 use tp_msg::Managed;
 
@@ -154,7 +153,7 @@ where
     A: Alarm<V>,
     K: Start<V>,
 {
-    ghost use Rattle.tp_crowd.specs.Locked.{SomeRuns};
+    ghost use Rattle.tp_lock.specs.Locked.{SomeRuns};
 
     ghost asks = { λ a took answers b. SomeRuns V.view took answers };
 

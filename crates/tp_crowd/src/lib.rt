@@ -1,16 +1,16 @@
 //! Clients of a hub, each on a thread of its own.
 //!
-//! [`serve_all`] takes streams as they come, and carries each on a thread of its own over one hub behind a lock, which is taken for one ask at a time, and
-//! shared by READs. An [`Alarm`] is told when the pool behind it fails.
+//! [`serve_all`] takes streams as they come, and carries each on a thread of its own over one hub behind a lock ([`HubLock`]). An [`Alarm`] is told when the pool
+//! behind it fails.
 //! [`serve_listener`] takes them from a listener, as [`Socket`]s, and closes it behind the last one; [`serve_listener_with_control`] answers control lines
 //! from another listener beside them. [`serve_until_stopped`] takes them without end, 64 at a time, from TCP addresses and socket files ([`Door`]).
 //!
-//! All that a client is told, and all that becomes of the pool, is said in `tp_hub`, which knows no threads.
+//! All that a client is told, and all that becomes of the pool, is said in `tp_hub`, which knows no threads; how clients have the hub one after another, in
+//! `tp_lock`.
 #![tactic(auto)]
 
 mod ahead;
 mod alive;
-mod census;
 mod chronicle;
 mod control;
 mod crowd;
@@ -20,17 +20,11 @@ mod frames;
 mod gate;
 mod guest;
 mod listening;
-mod locked;
-mod midway;
-mod order;
-mod patience;
 mod pause;
 mod polled;
 mod ruling;
-mod since;
 mod sockets;
 mod staying;
-mod turns;
 
 pub use ahead::Crew;
 pub use chronicle::{Chronicle, Visit, Visitor};
@@ -38,7 +32,6 @@ pub use control::serve_listener_with_control;
 pub use crowd::{Served, serve_all};
 pub use door::Door;
 pub use listening::serve_listener;
-pub use locked::{Alarm, HubLock, LockedDesk};
-pub use since::Start;
 pub use sockets::Socket;
 pub use staying::{Stayed, serve_until_stopped};
+pub use tp_lock::{Alarm, HubLock, LockedDesk, Start};

@@ -2,14 +2,12 @@
 
 ghost use Rattle.std.specs.Prelude.{◌≡◌, ◌≤◌};
 ghost use Rattle.std.specs.Iterator.{IsFinite, size};
-ghost use Rattle.tp_crowd.specs.Locked.{CameOf, IsFrom};
+ghost use Rattle.tp_lock.specs.Locked.{CameOf, IsFrom};
 
 use crate::ahead::Crew;
 use crate::crowd::{
     Attend, Refused, Served, attend_all, behind_all, carry_stream, not_refused, refused_by_now,
 };
-use crate::locked::{Alarm, HubLock};
-use crate::since::Start;
 use crate::sockets::Socket;
 use nbd_session::Profile;
 use std::alloc::Global;
@@ -19,6 +17,7 @@ use std::sync::Wait;
 use std::thread;
 use std::thread::Threads;
 use tp_hub::Hub;
+use tp_lock::{Alarm, HubLock, Start};
 use tp_model::Staged;
 use tp_msg::Managed;
 

@@ -2,10 +2,10 @@
 
 ghost use Rattle.std.specs.Io.{ReadsAtMost};
 
-use crate::patience::{Patience, Waiting};
 use std::io;
 use std::io::{ErrorKind, Read, Write};
 use std::net::{Shutdown, TcpStream};
+use tp_lock::{Patience, Waiting};
 
 /// So often a read that finds nothing is made again before its thread sleeps: some tens of microseconds, within which a client that waits for each answer
 /// asks again.

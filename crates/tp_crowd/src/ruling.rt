@@ -4,17 +4,14 @@ ghost use Rattle.std.specs.Prelude.{◌≡◌, ◌<◌, ◌∷◌, [], None, Som
 ghost use Rattle.tp_hub.specs.Runs.{AsksFlush, Orders, incoming, session_of};
 ghost use Rattle.tp_hub.specs.Told.{Accepts, HasRoom};
 ghost use Rattle.tp_hub.specs.Desks.{IsAsked};
-ghost use Rattle.tp_crowd.specs.Locked.{SomeRuns};
+ghost use Rattle.tp_lock.specs.Locked.{SomeRuns};
 ghost use Rattle.tp_crowd.specs.Ruling.{AnswersRulers, IsCommand, IsRuled, IsToldOf, Obeys, TellsSo, TellsWho};
 
-use crate::census::{CENSUS, put_census};
 use crate::chronicle::Chronicle;
 use crate::control::{Watched, is_bounded};
 use crate::door::Door;
 use crate::gate::Gate;
-use crate::locked::{HubLock, LockedDesk};
 use crate::pause::pause;
-use crate::since::Start;
 use std::alloc::Global;
 use std::net::TcpStream;
 use std::sync::atomic::{AtomicBool, Ordering};
@@ -22,6 +19,7 @@ use std::sync::{Mutex, Wait};
 use std::time::Clock;
 use tp_hub::{Answers, Desk, Event, Mark, Ran, SESSIONS, Seat, Stream};
 use tp_lines::{LinesEnd, attend_lines};
+use tp_lock::{CENSUS, HubLock, LockedDesk, Start, put_census};
 use tp_model::{Refusal, Staged};
 use tp_msg::Managed;
 

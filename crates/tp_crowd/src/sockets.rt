@@ -5,7 +5,7 @@ ghost use Rattle.std.proofs.Props.{props};
 ghost use Rattle.std.specs.Io.KnownBytes.{Consumes};
 ghost use Rattle.tp_hub.specs.Streams.{GivesSome, TakesSome};
 ghost use Rattle.tp_lines.specs.Pipes.{IsRead, IsWritten};
-ghost use Rattle.tp_crowd.specs.Framing.{at_first, given, given_in, passed};
+ghost use Rattle.tp_lock.specs.Framing.{at_first, given, given_in, passed};
 
 use crate::ahead::{Ahead, Crew};
 use crate::frames::Frames;

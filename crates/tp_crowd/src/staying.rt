@@ -1,7 +1,7 @@
 //! Clients without end, 64 at a time, until a control line says `stop`.
 
 ghost use Rattle.std.specs.Prelude.{◌≡◌, ◌<◌};
-ghost use Rattle.tp_crowd.specs.Locked.{CameOf, IsFrom};
+ghost use Rattle.tp_lock.specs.Locked.{CameOf, IsFrom};
 
 use crate::ahead::Crew;
 use crate::chronicle::{Chronicle, Visit, Visitor};
@@ -9,10 +9,8 @@ use crate::crowd::carry_over;
 use crate::door::Door;
 use crate::gate::{Caller, Gate};
 use crate::guest::{Guest, GuestDesk};
-use crate::locked::{HubLock, LockedDesk};
 use crate::pause::pause;
 use crate::ruling::{Askers, rule};
-use crate::since::Start;
 use crate::sockets::Socket;
 use nbd_session::Profile;
 use std::alloc::Global;
@@ -24,6 +22,7 @@ use std::thread;
 use std::thread::Threads;
 use std::time::Clock;
 use tp_hub::{Answers, Desk, Event, Hub};
+use tp_lock::{HubLock, LockedDesk, Start};
 use tp_model::{Staged, Volumes};
 use tp_msg::Managed;
 

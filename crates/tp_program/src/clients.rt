@@ -2,7 +2,7 @@
 
 ghost use Rattle.std.specs.Prelude.{◌≡◌, ◌≤◌, IfErr, IfOk, is_some};
 ghost use Rattle.std.specs.FinMap.{empty};
-ghost use Rattle.tp_crowd.specs.Locked.{CameOf};
+ghost use Rattle.tp_lock.specs.Locked.{CameOf};
 ghost use Rattle.tp_disk.specs.HandedOut.{IsHandedOut};
 ghost use Rattle.tp_holders.specs.Holders.{holds_of};
 ghost use Rattle.tp_failures.specs.Failures.{number_of};

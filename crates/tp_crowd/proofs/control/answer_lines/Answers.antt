@@ -2,7 +2,7 @@ use Rattle.std.proofs.Common.{List}
 use Rattle.tp_hub.specs.Runs.{Incoming}
 use Rattle.tp_hub.specs.Told.{Answer}
 use Rattle.tp_lines.specs.Controls.{AttendsLines}
-use Rattle.tp_crowd.specs.Locked.{SomeRuns}
+use Rattle.tp_lock.specs.Locked.{SomeRuns}
 use Rattle.tp_crowd.proofs.Controlling.{leads_so}
 use Rattle.tp_crowd.proofs.control.answer_lines.Goals as goal
 

@@ -1,5 +1,5 @@
 use Rattle.std.proofs.Common.{◌≡◌, ◌≤◌, take}
-use Rattle.tp_crowd.specs.Framing.{set_in}
+use Rattle.tp_lock.specs.Framing.{set_in}
 use Rattle.tp_crowd.proofs.crowd.count_set.Given as goal
 
 abbrev pub invariant-loop-number : goal.invariant-loop-number

@@ -1,6 +1,6 @@
 use Rattle.std.proofs.Common.{length, take, ◌<◌, ◌≡◌}
 use Rattle.std.specs.Io.KnownBytes.{Consumes}
-use Rattle.tp_crowd.specs.Framing.{passed}
+use Rattle.tp_lock.specs.Framing.{passed}
 use Rattle.tp_crowd.proofs.sockets.read_frames.Given as goal
 
 -- The buffer has room, and keeps its length, the frames are those of what was read, and it was read of the stream.

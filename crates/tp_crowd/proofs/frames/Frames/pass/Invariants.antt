@@ -1,5 +1,5 @@
 use Rattle.std.proofs.Common.{◌≡◌, ◌≤◌, length, take, ◌-◌}
-use Rattle.tp_crowd.specs.Framing.{ends_in, passed}
+use Rattle.tp_lock.specs.Framing.{ends_in, passed}
 use Rattle.tp_crowd.proofs.frames.Frames.pass.Given as goal
 
 abbrev pub invariant-loop-at : goal.invariant-loop-at

@@ -1,5 +1,5 @@
 use Rattle.std.proofs.Common.{◌≡◌, IfSome, subst, sym, ap, ◌∙◌}
-use Rattle.tp_crowd.specs.Framing.{at_first, given_in, passed}
+use Rattle.tp_lock.specs.Framing.{at_first, given_in, passed}
 use Rattle.tp_crowd.proofs.sockets.Socket.new.Goals as goal
 
 pub invariant_of-result : goal.invariant_of-result

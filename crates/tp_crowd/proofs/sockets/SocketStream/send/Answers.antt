@@ -1,5 +1,5 @@
 use Rattle.std.proofs.Common.{sym, ap, ◌∙◌}
-use Rattle.tp_crowd.specs.Framing.{at_first, given_in, passed}
+use Rattle.tp_lock.specs.Framing.{at_first, given_in, passed}
 use Rattle.tp_crowd.proofs.Framing.{stays_written}
 use Rattle.tp_crowd.proofs.sockets.SocketStream.send.Goals as goal
 

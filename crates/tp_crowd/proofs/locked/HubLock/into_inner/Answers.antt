@@ -1,4 +1,0 @@
-use Rattle.tp_crowd.proofs.locked.HubLock.into_inner.Goals as goal
-
-pub returns : goal.returns
-returns g c = c.into_hub.ensures

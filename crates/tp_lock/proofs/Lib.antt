@@ -1,0 +1,5 @@
+mod Locking
+mod Going
+mod Keeping
+mod Ends
+mod Counting

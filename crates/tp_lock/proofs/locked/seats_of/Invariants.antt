@@ -1,0 +1,11 @@
+use Rattle.std.proofs.Common.{◌≡◌, length}
+use Rattle.tp_lock.specs.Stages.{slots_of}
+use Rattle.tp_lock.proofs.Counting.{AreSeen}
+use Rattle.tp_lock.proofs.locked.seats_of.Given as goal
+
+-- those that were looked at
+abbrev pub invariant-loop-number : goal.invariant-loop-number
+invariant-loop-number g l = record {
+  count : length l.seats ≡ 64;
+  each : AreSeen (slots_of l.hub.stage) l.seats l.number;
+}

@@ -1,0 +1,7 @@
+use Rattle.tp_lock.proofs.midway.Guarded.seat.Goals as goal
+
+pub returns-in-Whole : goal.returns-in-Whole
+returns-in-Whole g c = rw c.in-Whole.is c.seat.ensures
+
+pub returns-in-Midway : goal.returns-in-Midway
+returns-in-Midway g c = rw c.in-Midway.is c.seat-in-Midway.ensures

@@ -1,0 +1,9 @@
+use Rattle.std.proofs.Common.{refl}
+use Rattle.tp_lock.proofs.Keeping.{part_midway, part_whole}
+use Rattle.tp_lock.proofs.midway.behind_part.Goals as goal
+
+pub returns-in-Done-clause-part : goal.returns-in-Done-clause-part
+returns-in-Done-clause-part g c old made = part_whole g.V.Volumes.view old c.in-Done.hub c.of.result c.in-Done.field-1 c.args.flushing c.in-Done.is c.of.ensures made
+
+pub returns-in-Midway-clause-part : goal.returns-in-Midway-clause-part
+returns-in-Midway-clause-part g c old made = part_midway g.V.Volumes.view old c.in-Midway.mid c.in-Midway.mid c.args.flushing c.in-Midway.is refl made

@@ -1,0 +1,4 @@
+pub mod Framing
+pub mod Locked
+pub mod Stages
+pub mod Census

@@ -1,0 +1,68 @@
+-- Internal: how far a hub is with a flush that nobody asked for.
+use Rattle.std.specs.Prelude.{◌≡◌, Bool, true, false, [], Result}
+use Rattle.tp_model.specs.declared.refusal.Refusal.{Refusal}
+use Rattle.tp_model.specs.declared.volumes.Flushing.{Flushing}
+use Rattle.tp_model.specs.declared.volumes.Flushing.TheVariants as flushing
+use Rattle.tp_model.specs.Clauses.{View}
+use Rattle.tp_hub.specs.Flushes.{IsHubFlushed}
+use Rattle.tp_hub.specs.Serving.{HubState, Slots}
+use Rattle.tp_lock.specs.Locked.{IsFrom}
+use Rattle.tp_lock.specs.declared.midway.Stage.{Stage}
+use Rattle.tp_lock.specs.declared.midway.Stage.TheVariants.{Away, Midway, Whole}
+
+abbrev pub is_there : {W M : Type 0} → Stage W M → Bool
+is_there (Whole w) = true
+is_there (Midway m) = true
+is_there Away = false
+
+abbrev pub is_whole : {W M : Type 0} → Stage W M → Bool
+is_whole (Whole w) = true
+is_whole (Midway m) = false
+is_whole Away = false
+
+abbrev pub is_midway : {W M : Type 0} → Stage W M → Bool
+is_midway (Whole w) = false
+is_midway (Midway m) = true
+is_midway Away = false
+
+-- who is at its numbers: those of the hub, or of the one that it still is for READs
+abbrev pub slots_of : {D : Type 0} → Stage (HubState D) (HubState D) → Slots
+slots_of (Whole hub) = hub.slots
+slots_of (Midway mid) = mid.slots
+slots_of Away = []
+
+-- The hub behind a part of a flush, or the one that it still is for READs, came of such a start.
+abbrev pub IsFromFlushing : {D : Type 0} → View D → (HubState D → Type 0) → Flushing (HubState D) (HubState D) → Type 0
+IsFromFlushing view IsStart (flushing.Done new answer) = IsFrom view IsStart new
+IsFromFlushing view IsStart (flushing.Midway mid) = IsFrom view IsStart mid
+
+module _ {D : Type 0} (view : View D) where
+  -- A hub behind another one: a flush was made between them, whatever it was answered.
+  abbrev pub IsBehindFlush : HubState D → HubState D → Type 0
+  IsBehindFlush old new = (answer : Result (Unit {0}) Refusal) × IsHubFlushed view old new answer
+
+  -- Behind what is left of a flush, where one is under way.
+  abbrev pub IsEnded : Stage (HubState D) (HubState D) → Stage (HubState D) (HubState D) → Type 0
+  IsEnded (Whole hub) new = new ≡ Whole hub
+  IsEnded (Midway mid) (Whole hub) = IsBehindFlush mid hub
+  IsEnded (Midway mid) (Midway other) = ⊥
+  IsEnded (Midway mid) Away = ⊥
+  IsEnded Away new = ⊥
+
+  -- Behind a part of a flush: it was made whole, or parts of it are left.
+  abbrev pub IsBehindPart : HubState D → Stage (HubState D) (HubState D) → Type 0
+  IsBehindPart old (Whole hub) = IsBehindFlush old hub
+  IsBehindPart old (Midway mid) = mid ≡ old
+  IsBehindPart old Away = ⊥
+
+  -- Behind the first part of one, unless one is under way.
+  abbrev pub IsBegun : Stage (HubState D) (HubState D) → Stage (HubState D) (HubState D) → Type 0
+  IsBegun (Whole hub) new = IsBehindPart hub new
+  IsBegun (Midway mid) new = new ≡ Midway mid
+  IsBegun Away new = ⊥
+
+  -- Behind the next part of one that is under way.
+  abbrev pub IsGoneOn : Stage (HubState D) (HubState D) → Stage (HubState D) (HubState D) → Type 0
+  IsGoneOn (Whole hub) new = new ≡ Whole hub
+  IsGoneOn (Midway mid) new = IsBehindPart mid new
+  IsGoneOn Away new = ⊥

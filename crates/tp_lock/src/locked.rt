@@ -1,0 +1,527 @@
+//! A hub that many clients ask.
+
+ghost use Rattle.std.specs.Prelude.{◌≡◌, ◌<◌, IfSome, MatchBool, None};
+ghost use Rattle.tp_model.specs.Calls.{is_failed};
+ghost use Rattle.tp_hub.specs.Runs.{Brings, incoming, session_of};
+ghost use Rattle.tp_hub.specs.Desks.{IsAsked};
+ghost use Rattle.tp_hub.specs.Places.{IsWider};
+ghost use Rattle.tp_hub.specs.Serve.{HubRuns};
+ghost use Rattle.tp_hub.specs.Serving.{HubState, Slots};
+ghost use Rattle.tp_lock.specs.Census.{AreSeats};
+ghost use Rattle.tp_lock.specs.Framing.{IsRead};
+ghost use Rattle.tp_lock.specs.Locked.{IsFrom, MakesParts, SomeRun, SomeRuns};
+ghost use Rattle.tp_lock.specs.declared.midway.Stage.TheVariants.{Whole};
+ghost use Rattle.tp_lock.specs.Stages.{IsEnded, slots_of};
+
+use crate::midway::{Guarded, Stage};
+use crate::order::{Order, Purpose};
+use crate::since::{Since, Start};
+use crate::turns::{is_to_keep, turn_len};
+use nbd_session::begins_with_read;
+use std::alloc::Global;
+use std::sync::atomic::{AtomicBool, AtomicU64, Ordering};
+use std::sync::{MutexGuard, RwLock, RwLockReadGuard, RwLockWriteGuard, Wait};
+use tp_hub::{Answers, Desk, Event, Hub, Ran, SESSIONS, Seat};
+use tp_model::{Mode, Staged, Volumes};
+use tp_msg::Managed;
+
+/// More parts than a request has: each but the first and the last has 513 KiB at least, and a request has less than 4 GiB.
+const MOST_PARTS: u32 = 16_384;
+
+/// So often one whose turn it is lets READs that wait go first: about as long as it takes to wake them.
+const TRIES_BEHIND_READS: u32 = 200;
+
+/// So often one whose turn it is tries to have the hub alone between READs, before it keeps further ones away.
+const TRIES_BETWEEN_READS: u32 = 100;
+
+/// What is to be told while a pool serves.
+pub trait Alarm<V> {
+    /// Why a pool has failed, as far as it tells.
+    type Cause;
+
+    /// Looks it up, while nobody changes the pool.
+    fn cause(&self, pool: &V) -> Self::Cause;
+
+    /// Told once, when the pool has failed: by the thread of which an ask found it so, before what was asked is answered, and while it has no lock.
+    fn pool_failed(&self, cause: Self::Cause);
+}
+
+/// A hub behind a lock, which one ask has alone, or READs share, and an alarm of its pool. No lock is poisoned, and taking it does not fail.
+///
+/// Who wants the hub alone has its turn first, one behind another: READs come between two of them, and go on while the one whose turn it is waits for the
+/// device.
+///
+/// Who is to keep what was written has the hub make a flush before, in parts, that nobody asked for: READs go on while the device brings what a part wrote, and
+/// behind it what is kept has nothing to wait for.
+///
+/// What is known of the hub each time that somebody has it: it came of the one that was put behind the lock, of which `K` says which it was, by asks one
+/// behind another, of which those flushes are some.
+#[derive(Drop)]
+pub struct HubLock<'a, V: Staged, A: Alarm<V>, K: Start<V>> {
+    hub: RwLock<Guarded<V, K>>,
+    order: Order,
+    /// How many READs wait for the hub.
+    waiting: AtomicU64,
+    alarm: &'a A,
+    has_sounded: AtomicBool,
+}
+
+impl<'a, V: Staged, A: Alarm<V>, K: Start<V>> HubLock<'a, V, A, K> {
+    ghost use Rattle.std.specs.Prelude.{◌≡◌, ◌<◌, IfSome, true};
+    ghost use Rattle.tp_hub.specs.Seats.{seat_at};
+    ghost use Rattle.tp_hub.specs.Serving.{Slots};
+    ghost use Rattle.tp_lock.specs.Census.{AreSeats};
+    ghost use Rattle.tp_lock.specs.Locked.{IsFrom};
+
+    /// A lock that nobody has.
+    pub fn new(hub: Hub<V>, alarm: &'a A) -> HubLock<'a, V, A, K>
+        requires { K.is_start hub }
+    {
+        HubLock {
+            hub: RwLock::new(Guarded::of(Since::new(hub))),
+            order: Order::new(),
+            waiting: AtomicU64::new(0),
+            alarm,
+            has_sounded: AtomicBool::new(false),
+        }
+    }
+
+    /// The hub, as those who asked it left it.
+    pub fn into_inner(self) -> Hub<V>
+        ensures { IsFrom V.view K.is_start result }
+    {
+        let HubLock {
+            hub,
+            order: _,
+            waiting: _,
+            alarm: _,
+            has_sounded: _,
+        } = self;
+        hub.into_inner().into_hub()
+    }
+
+    /// Who is told what becomes of it.
+    pub fn alarm(&self) -> &'a A {
+        self.alarm
+    }
+
+    /// Why the pool of a hub that one has alone has failed, where it has, and the alarm has not sounded: it is to be told.
+    fn cause(&self, hub: &Since<V, K>, is_failed: bool) -> Option<A::Cause>
+        ensures { IfSome result (λ cause. is_failed ≡ true) }
+    {
+        if is_failed && !self.has_sounded.swap(true, Ordering::SeqCst) {
+            return Some(self.alarm.cause(hub.pool()));
+        }
+        None
+    }
+
+    /// Sounds the alarm where there is a cause.
+    fn sound(&self, cause: Option<A::Cause>) {
+        match cause {
+            Some(cause) => self.alarm.pool_failed(cause),
+            None => {}
+        }
+    }
+
+    /// The hub, shared.
+    fn shared<R: Wait>(&self, rt: &R) -> RwLockReadGuard<'_, Guarded<V, K>> {
+        if let Some(guard) = self.hub.try_read() {
+            return guard;
+        }
+        self.waiting.fetch_add(1, Ordering::SeqCst);
+        let guard = self.hub.read(rt);
+        self.waiting.fetch_sub(1, Ordering::SeqCst);
+        guard
+    }
+
+    /// Who is at a number.
+    pub fn seat<R: Wait>(&self, rt: &R, number: u8) -> Seat
+        requires { number < 64 }
+        ensures { (slots : Slots) × (result ≡ seat_at slots number) }
+    {
+        self.shared(rt).seat(number)
+    }
+
+    /// Who is at each number.
+    pub fn seats<R: Wait>(&self, rt: &R) -> [Seat; SESSIONS]
+        ensures { (slots : Slots) × AreSeats slots result }
+    {
+        let hub = self.shared(rt);
+        seats_of(&hub)
+    }
+
+    /// Lets READs that wait go first, as long as it takes to wake them.
+    fn let_reads_go(&self) {
+        let mut waiting = self.order.patience().begin();
+        for _ in 0..TRIES_BEHIND_READS {
+            if self.waiting.load(Ordering::SeqCst) == 0 || !waiting.goes_on() {
+                return;
+            }
+        }
+    }
+
+    /// The hub alone, for the one whose turn it is.
+    fn alone<R: Wait>(
+        &self,
+        rt: &R,
+        _turn: &MutexGuard<'_, ()>,
+    ) -> RwLockWriteGuard<'_, Guarded<V, K>> {
+        self.let_reads_go();
+        let mut waiting = self.order.patience().begin();
+        for _ in 0..TRIES_BETWEEN_READS {
+            if let Some(guard) = self.hub.try_write() {
+                return guard;
+            }
+            if !waiting.goes_on() {
+                break;
+            }
+        }
+        self.hub.write(rt)
+    }
+}
+
+impl<'a, V: Staged, A: Alarm<V>, K: Start<V>> HubLock<'a, V, A, K> {
+    /// Brings to the device what was written so far, while READs go on. All others wait for their turn meanwhile, so nothing is written.
+    fn sync_ahead<R: Wait>(&self, rt: &R, _turn: &MutexGuard<'_, ()>) {
+        self.shared(rt).sync_ahead();
+    }
+
+    /// The hub alone, in one's turn, where a flush was made before that nobody asked for, so that what is kept then has nothing to wait for. READs go on while
+    /// the device brings what each part of it wrote.
+    fn alone_behind_flush<R: Wait>(
+        &self,
+        rt: &R,
+        turn: &MutexGuard<'_, ()>,
+    ) -> RwLockWriteGuard<'_, Guarded<V, K>> {
+        self.sync_ahead(rt, turn);
+        let mut begun = self.alone(rt, turn);
+        if !begun.begin_flush() {
+            return begun;
+        }
+        drop(begun);
+        self.sync_ahead(rt, turn);
+        let mut behind = self.alone(rt, turn);
+        if !behind.go_on() {
+            return behind;
+        }
+        drop(behind);
+        self.sync_ahead(rt, turn);
+        self.alone(rt, turn)
+    }
+
+    /// The hub alone, in one's turn, for what is to be kept where anything was written since that was done last, or for anything else.
+    fn alone_for<R: Wait>(
+        &self,
+        rt: &R,
+        is_to_flush: bool,
+        turn: &MutexGuard<'_, ()>,
+    ) -> RwLockWriteGuard<'_, Guarded<V, K>> {
+        if is_to_flush {
+            self.alone_behind_flush(rt, turn)
+        } else {
+            self.alone(rt, turn)
+        }
+    }
+}
+
+/// What asks a hub behind a lock, which is taken for one ask and let go before the answers are written. Of a piece that begins with a request at most the first
+/// 16 are asked at once, so that others have the hub between them and the next. A long request is asked part by part.
+///
+/// READs share the lock: while nobody has it alone, any number of them are made at once, each over the same hub, which none of them changes. One that finds
+/// a metadata block neither changed nor held in memory, or whose disk fails, is asked again with the lock alone, as every other event is.
+///
+/// Behind an ask alone that leaves the pool failed the alarm sounds, if it has not. Shared READs fail no pool.
+///
+/// Others ask the same hub in between, so an ask is known here to be a run of some sessions over some pool, and not of which. That it is one of those by
+/// which the hub behind the lock came of the one that was put there the lock knows; which of them, no clause says.
+#[derive(Drop)]
+pub struct LockedDesk<'m, R: Wait, V: Staged, A: Alarm<V>, K: Start<V>> {
+    pub rt: &'m R,
+    pub alloc: Global,
+    pub hub: &'m HubLock<'m, V, A, K>,
+}
+
+/// Who is at each number of a hub, also between two parts of a flush.
+fn seats_of<V: Staged, K: Start<V>>(hub: &Guarded<V, K>) -> [Seat; SESSIONS]
+    ensures { AreSeats (slots_of hub.now.stage) result }
+{
+    let mut seats = [Seat::Free; SESSIONS];
+    for number in 0..64u8 {
+        seats[usize::from(number)] = hub.seat(number);
+    }
+    seats
+}
+
+/// What was taken of an event that had the hub alone, and what is so behind it.
+#[derive(Clone, Copy)]
+struct Seen {
+    ran: Ran,
+    is_failed: bool,
+    /// Parts of a request of its session are left.
+    is_at_work: bool,
+}
+
+/// Whether a session has parts of a request left behind an event that brings bytes.
+fn has_work<V: Volumes, K: Start<V>>(hub: &Since<V, K>, hearer: Option<u8>) -> bool
+    requires { IfSome hearer (λ number. number < 64) }
+{
+    match hearer {
+        None => false,
+        Some(number) => hub.is_at_work(number),
+    }
+}
+
+/// The session of an event that brings bytes.
+fn hearer_of(event: &Event<'_>) -> Option<u8>
+    requires { session_of event.now < 64 }
+    ensures { IfSome result (λ number. number < 64) }
+{
+    match *event {
+        Event::Bytes(number, _) | Event::Parted(number, _) => Some(number),
+        _ => None,
+    }
+}
+
+/// Asks a hub once, and tells what is so behind it.
+fn ask_and_look<V: Managed, K: Start<V>>(
+    alloc: Global,
+    hub: &mut Since<V, K>,
+    event: Event<'_>,
+    out: &mut Answers,
+) -> Seen
+    requires { session_of event < 64 }
+    ensures asked { IsAsked (λ took answers. HubRuns V.view hub.old took answers hub.new) (incoming event.entry) result.ran.events result.ran.bytes out.old out.new }
+    ensures failed { result.is_failed ≡ is_failed (V.view.outline hub.new.pool).mode }
+{
+    let hearer = hearer_of(&event);
+    let ran = hub.ask(alloc, event, out);
+    Seen {
+        ran,
+        is_failed: hub.mode() == Mode::Failed,
+        is_at_work: has_work(hub, hearer),
+    }
+}
+
+/// The same of what stands behind the lock, behind what is left of a flush, and why its pool has failed, where the alarm is to sound.
+fn ask_behind<V: Managed + Staged, A: Alarm<V>, K: Start<V>>(
+    alloc: Global,
+    lock: &HubLock<'_, V, A, K>,
+    hub: &mut Guarded<V, K>,
+    event: Event<'_>,
+    out: &mut Answers,
+) -> (Seen, Option<A::Cause>)
+    requires { session_of event < 64 }
+    ensures asked { IsAsked (λ took answers. SomeRun V.view took answers) (incoming event.entry) result.0.ran.events result.0.ran.bytes out.old out.new }
+    ensures did { (old : HubState V) × (new : HubState V) × IsEnded V.view hub.old.stage (Whole old) × (hub.new.stage ≡ Whole new)
+        × IsAsked (λ took answers. HubRuns V.view old took answers new) (incoming event.entry) result.0.ran.events result.0.ran.bytes out.old out.new }
+{
+    hub.end_flush();
+    match &mut hub.stage {
+        Stage::Whole(since) => {
+            let seen = ask_and_look(alloc, since, event, out);
+            (seen, lock.cause(since, seen.is_failed))
+        }
+        Stage::Midway(_) | Stage::Away => unreachable!(),
+    }
+}
+
+/// What an event wants the hub alone for, by its text alone: a message and a flush keep what was written, and so does a piece that begins with such a request.
+fn purpose_of(event: &Event<'_>) -> Purpose {
+    match *event {
+        Event::Bytes(_, piece) | Event::Parted(_, piece) if is_to_keep(piece) => Purpose::Keep,
+        Event::Message(_) | Event::Flush => Purpose::Keep,
+        _ => Purpose::Change,
+    }
+}
+
+/// Asks a hub behind a lock alone. What was written before is kept already where the event is to keep it. The alarm sounds when the lock is let go.
+fn ask_alone<R: Wait, V: Managed + Staged, A: Alarm<V>, K: Start<V>>(
+    rt: &R,
+    alloc: Global,
+    hub: &HubLock<'_, V, A, K>,
+    event: Event<'_>,
+    out: &mut Answers,
+) -> Seen
+    requires { session_of event < 64 }
+    ensures { IsAsked (λ took answers. SomeRun V.view took answers) (incoming event.entry) result.ran.events result.ran.bytes out.old out.new }
+{
+    let purpose = purpose_of(&event);
+    let turn = hub.order.turn(rt, purpose);
+    let device = hub.order.begin(rt, purpose, &turn);
+    let mut guard = hub.alone_for(rt, device.is_some(), &turn);
+    let (seen, cause) = ask_behind(alloc, hub, &mut guard, event, out);
+    drop(guard);
+    hub.order.end(purpose, &turn);
+    drop(turn);
+    drop(device);
+    hub.sound(cause);
+    seen
+}
+
+/// Asks a hub for the READs with which an event begins, while others may do the same. None where it has to be asked alone.
+fn ask_beside_others<V: Staged, K: Start<V>>(
+    hub: &Guarded<V, K>,
+    event: &Event<'_>,
+    out: &mut Answers,
+) -> Option<Ran>
+    requires { session_of event.now < 64 }
+    ensures asked { IfSome result (λ ran. IsAsked (λ took answers. SomeRun V.view took answers) (incoming event.now) ran.events ran.bytes out.old out.new) }
+    ensures none { result ≡ None → IsWider out.old out.new }
+{
+    match *event {
+        Event::Bytes(number, piece) => hub.ask_shared(number, piece, out),
+        _ => None,
+    }
+}
+
+/// Whether an event begins with a READ, by its bytes alone.
+fn is_read(event: &Event<'_>) -> bool
+    ensures { MatchBool result (IsRead (incoming event.now)) (IsRead (incoming event.now) → ⊥) }
+{
+    match *event {
+        Event::Bytes(_, piece) | Event::Parted(_, piece) => begins_with_read(piece),
+        _ => false,
+    }
+}
+
+/// The same of a hub behind a lock, which is shared for the time of the ask, and is not taken where the event begins with no READ.
+fn ask_shared<R: Wait, V: Staged, A: Alarm<V>, K: Start<V>>(
+    rt: &R,
+    hub: &HubLock<'_, V, A, K>,
+    event: &Event<'_>,
+    out: &mut Answers,
+) -> Option<Ran>
+    requires { session_of event.now < 64 }
+    ensures asked { IfSome result (λ ran. IsAsked (λ took answers. SomeRuns V.view took answers) (incoming event.now) ran.events ran.bytes out.old out.new) }
+    ensures none { result ≡ None → IsWider out.old out.new }
+{
+    if !is_read(event) {
+        return None;
+    }
+    let hub = hub.shared(rt);
+    ask_beside_others(&hub, event, out)
+}
+
+/// Makes the parts of a long request of a session, where any are left, each in an ask of its own, so that others have the hub between two.
+fn make_parts<R: Wait, V: Managed + Staged, A: Alarm<V>, K: Start<V>>(
+    rt: &R,
+    alloc: Global,
+    hub: &HubLock<'_, V, A, K>,
+    number: u8,
+    is_at_work: bool,
+    out: &mut Answers,
+)
+    requires { number < 64 }
+    ensures { MakesParts V.view number out.old out.new }
+{
+    let mut is_at_work = is_at_work;
+    for part in 0..MOST_PARTS {
+        if !is_at_work {
+            return;
+        }
+        is_at_work = ask_alone(rt, alloc, hub, Event::Parted(number, &[]), out).is_at_work;
+    }
+    ask_alone(rt, alloc, hub, Event::Bytes(number, &[]), out);
+}
+
+/// Asks the requests of a piece up to a long one, and then for its parts.
+fn ask_parts<R: Wait, V: Managed + Staged, A: Alarm<V>, K: Start<V>>(
+    rt: &R,
+    alloc: Global,
+    hub: &HubLock<'_, V, A, K>,
+    number: u8,
+    piece: &[u8],
+    out: &mut Answers,
+) -> Ran
+    requires { number < 64 }
+    ensures { IsAsked (λ took answers. SomeRuns V.view took answers) (Brings number piece.now) result.events result.bytes out.old out.new }
+{
+    let seen = ask_alone(rt, alloc, hub, Event::Parted(number, piece), out);
+    let ran = seen.ran;
+    if ran.events == 0 && ran.bytes == 0 {
+        return ran;
+    }
+    make_parts(rt, alloc, hub, number, seen.is_at_work, out);
+    ran
+}
+
+/// Asks a hub behind a lock alone, and part by part where a long request comes.
+fn ask_in_parts<R: Wait, V: Managed + Staged, A: Alarm<V>, K: Start<V>>(
+    rt: &R,
+    alloc: Global,
+    hub: &HubLock<'_, V, A, K>,
+    event: Event<'_>,
+    out: &mut Answers,
+) -> Ran
+    requires { session_of event < 64 }
+    ensures { IsAsked (λ took answers. SomeRuns V.view took answers) (incoming event.entry) result.events result.bytes out.old out.new }
+{
+    match event {
+        Event::Bytes(number, piece) => ask_parts(rt, alloc, hub, number, piece, out),
+        other => ask_alone(rt, alloc, hub, other, out).ran,
+    }
+}
+
+/// Asks a hub behind a lock once: beside others, or where that cannot be, alone.
+fn ask_once<R: Wait, V: Managed + Staged, A: Alarm<V>, K: Start<V>>(
+    rt: &R,
+    alloc: Global,
+    hub: &HubLock<'_, V, A, K>,
+    event: Event<'_>,
+    out: &mut Answers,
+) -> Ran
+    requires { session_of event < 64 }
+    ensures { IsAsked (λ took answers. SomeRuns V.view took answers) (incoming event.entry) result.events result.bytes out.old out.new }
+{
+    if let Some(ran) = ask_shared(rt, hub, &event, out) {
+        return ran;
+    }
+    ask_in_parts(rt, alloc, hub, event, out)
+}
+
+/// Asks the first requests of a piece, and tells how many bytes these were where it has more.
+fn ask_turn<R: Wait, V: Managed + Staged, A: Alarm<V>, K: Start<V>>(
+    rt: &R,
+    alloc: Global,
+    hub: &HubLock<'_, V, A, K>,
+    number: u8,
+    piece: &[u8],
+    out: &mut Answers,
+) -> Ran
+    requires { number < 64 }
+    ensures { IsAsked (λ took answers. SomeRuns V.view took answers) (Brings number piece.now) result.events result.bytes out.old out.new }
+{
+    let count = turn_len(piece);
+    if count >= piece.len() {
+        return ask_once(rt, alloc, hub, Event::Bytes(number, piece), out);
+    }
+    let ran = ask_once(rt, alloc, hub, Event::Bytes(number, &piece[..count]), out);
+    if ran.events == 0 {
+        return ran;
+    }
+    Ran {
+        events: 0,
+        bytes: count,
+    }
+}
+
+impl<'m, R, V, A, K> Desk for LockedDesk<'m, R, V, A, K>
+where
+    R: Wait,
+    V: Managed + Staged,
+    A: Alarm<V>,
+    K: Start<V>,
+{
+    ghost use Rattle.tp_lock.specs.Locked.{SomeRuns};
+
+    ghost asks = { λ a took answers b. SomeRuns V.view took answers };
+
+    fn ask(&mut self, event: Event<'_>, out: &mut Answers) -> Ran {
+        match event {
+            Event::Bytes(number, piece) => {
+                ask_turn(self.rt, self.alloc, self.hub, number, piece, out)
+            }
+            other => ask_once(self.rt, self.alloc, self.hub, other, out),
+        }
+    }
+}

@@ -1,0 +1,146 @@
+//! A hub since it was put behind a lock.
+
+ghost use Rattle.std.specs.Prelude.{◌≡◌, ◌<◌, IfSome, None};
+ghost use Rattle.tp_hub.specs.Runs.{Brings, incoming, session_of};
+ghost use Rattle.tp_hub.specs.Desks.{IsAsked};
+ghost use Rattle.tp_hub.specs.Places.{IsWider};
+ghost use Rattle.tp_hub.specs.Serve.{HubRuns};
+ghost use Rattle.tp_hub.specs.Serving.{HubState};
+ghost use Rattle.tp_lock.specs.Locked.{IsFrom};
+
+use std::alloc::Global;
+use std::marker::{Brand, Model, PhantomData};
+use tp_hub::{Answers, Event, Hub, Ran, Seat};
+use tp_model::{Mode, SharedVolumes, Volumes};
+use tp_msg::Managed;
+
+/// Which hub it was that was put behind a lock, which the caller picks as a type.
+pub trait Start<V> {
+    ghost is_start: { HubState V → Type 0 };
+}
+
+impl<V> Start<V> for Brand {
+    ghost is_start = { λ hub. Unit {0} };
+}
+
+/// A hub since such a start: it came of that one by asks one behind another, each of which was one run of it, and nothing else was done to it. Whoever has
+/// it alone can only ask it once more, and whoever shares it leaves it as it is.
+#[derive(Drop)]
+pub(crate) struct Since<V: Volumes, K: Start<V>> {
+    hub: Hub<V>,
+    of: PhantomData<K>,
+}
+
+impl<V: Volumes, K: Start<V>> Model for Since<V, K> {
+    ghost use Rattle.tp_hub.specs.Serving.{HubState};
+    ghost use Rattle.tp_lock.specs.Locked.{IsFrom};
+
+    ghost Value = { HubState V };
+
+    ghost view = { λ s. s.hub };
+
+    ghost invariant = { λ s. IsFrom V.view K.is_start s.hub };
+}
+
+impl<V: Volumes, K: Start<V>> Since<V, K> {
+    ghost use Rattle.std.specs.Prelude.{◌≡◌, ◌<◌};
+    ghost use Rattle.tp_hub.specs.Seats.{seat_at};
+    ghost use Rattle.tp_lock.specs.Locked.{IsFrom};
+
+    /// The hub that it begins with.
+    pub(crate) fn new(hub: Hub<V>) -> Since<V, K>
+        requires { K.is_start hub }
+        ensures { result ≡ hub }
+    {
+        Since {
+            hub,
+            of: PhantomData,
+        }
+    }
+
+    /// A hub that came of such a start.
+    pub(crate) fn of(hub: Hub<V>) -> Since<V, K>
+        requires { IsFrom V.view K.is_start hub }
+        ensures { result ≡ hub }
+    {
+        Since {
+            hub,
+            of: PhantomData,
+        }
+    }
+
+    /// The hub as the asks left it.
+    pub(crate) fn into_hub(self) -> Hub<V>
+        ensures same { result ≡ self }
+        ensures from { IsFrom V.view K.is_start result }
+    {
+        let Since { hub, of: _ } = self;
+        hub
+    }
+
+    /// Whether a session has parts of a request left.
+    pub(crate) fn is_at_work(&self, number: u8) -> bool
+        requires { number < 64 }
+    {
+        self.hub.is_at_work(number)
+    }
+
+    /// The mode of its pool.
+    pub(crate) fn mode(&self) -> Mode
+        ensures { result ≡ (V.view.outline self.now.pool).mode }
+    {
+        self.hub.mode()
+    }
+
+    /// Its pool, to look at.
+    pub(crate) fn pool(&self) -> &V
+        ensures { result.now ≡ self.now.pool }
+    {
+        self.hub.pool()
+    }
+
+    /// Who is at a number.
+    pub(crate) fn seat(&self, number: u8) -> Seat
+        requires { number < 64 }
+        ensures { result ≡ seat_at self.now.slots number }
+    {
+        self.hub.seat(number)
+    }
+}
+
+impl<V: Managed, K: Start<V>> Since<V, K> {
+    ghost use Rattle.std.specs.Prelude.{◌<◌};
+    ghost use Rattle.tp_hub.specs.Runs.{incoming, session_of};
+    ghost use Rattle.tp_hub.specs.Desks.{IsAsked};
+    ghost use Rattle.tp_hub.specs.Serve.{HubRuns};
+
+    /// Asks it once.
+    pub(crate) fn ask(&mut self, alloc: Global, event: Event<'_>, out: &mut Answers) -> Ran
+        requires { session_of event < 64 }
+        ensures { IsAsked (λ took answers. HubRuns V.view self.old took answers self.new) (incoming event.entry) result.events result.bytes out.old out.new }
+    {
+        self.hub.run(alloc, &[event], out)
+    }
+}
+
+impl<V: SharedVolumes, K: Start<V>> Since<V, K> {
+    ghost use Rattle.std.specs.Prelude.{◌≡◌, ◌<◌, IfSome, None};
+    ghost use Rattle.tp_hub.specs.Runs.{Brings};
+    ghost use Rattle.tp_hub.specs.Desks.{IsAsked};
+    ghost use Rattle.tp_hub.specs.Places.{IsWider};
+    ghost use Rattle.tp_hub.specs.Serve.{HubRuns};
+
+    /// Asks it for the READs with which a piece begins, beside others. None where it has to be asked alone.
+    pub(crate) fn ask_shared(&self, number: u8, piece: &[u8], out: &mut Answers) -> Option<Ran>
+        requires { number < 64 }
+        ensures asked { IfSome result (λ ran. IsAsked (λ took answers. HubRuns V.view self.now took answers self.now) (Brings number piece.now) ran.events ran.bytes out.old out.new) }
+        ensures none { result ≡ None → IsWider out.old out.new }
+    {
+        self.hub.ask_shared(number, piece, out)
+    }
+
+    /// Brings to the device what asks so far wrote.
+    pub(crate) fn sync_ahead(&self) {
+        self.hub.sync_ahead();
+    }
+}
