@@ -3,29 +3,31 @@ use Rattle.std.proofs.Common.{◌≡◌, ℕ, ◌^◌, ◌<◌, Bool, List, ◌+
 use Rattle.std.specs.Prelude.{if◌then◌else◌, ◌==◌}
 use Rattle.std.proofs.lemmas.List.{take_at, drop_at}
 use Rattle.nbd_wire.specs.declared.writing.ReplyType.{ReplyType}
-use Rattle.nbd_wire.specs.declared.writing.ReplyType.TheVariants.{Acknowledged, Server, Information, Unsupported, Invalid, Unknown}
+use Rattle.nbd_wire.specs.declared.writing.ReplyType.TheVariants.{Acknowledged, Server, Information, Context, Unsupported, Invalid, Unknown}
 use Rattle.nbd_wire.specs.declared.TheConstants.{REPLY_MAGIC, SIMPLE_REPLY_MAGIC, INFO_EXPORT, INFO_BLOCK_SIZE}
 use Rattle.nbd_wire.specs.Numbers.{bytes, number}
+use Rattle.nbd_wire.specs.Contexts.{context_data}
 use Rattle.nbd_wire.specs.Replies.{reply_code, option_reply_head, option_reply, export_info, block_size_info, server_data, padding, export_reply, simple_reply_head}
 use Rattle.nbd_wire.proofs.Fields.{IsWidth, width2, width4, width8, field_drops}
 
-same_field : (n : ℕ) (w : IsWidth n) (x y : ℕ) (a b : List ℕ) → x < 256 ^ n → y < 256 ^ n → bytes n x ++ a ≡ bytes n y ++ b → (x ≡ y) × (a ≡ b)
+pub same_field : (n : ℕ) (w : IsWidth n) (x y : ℕ) (a b : List ℕ) → x < 256 ^ n → y < 256 ^ n → bytes n x ++ a ≡ bytes n y ++ b → (x ≡ y) × (a ≡ b)
 same_field n w x y a b hx hy e =
     (sym (w.again x a hx) ∙ ap (number n) e ∙ w.again y b hy, sym (field_drops n w x a) ∙ ap (drop n) e ∙ field_drops n w y b)
 
-same_front : (a b x y : List ℕ) → length a ≡ length b → a ++ x ≡ b ++ y → (a ≡ b) × (x ≡ y)
+pub same_front : (a b x y : List ℕ) → length a ≡ length b → a ++ x ≡ b ++ y → (a ≡ b) × (x ≡ y)
 same_front a b x y len e =
     (sym (take_at a x (length a) refl) ∙ ap (take (length a)) e ∙ take_at b y (length a) (sym len), sym (drop_at a x (length a) refl) ∙ ap (drop (length a)) e ∙ drop_at b y (length a) (sym len))
 
 abbrev of_code : ℕ → ReplyType
 of_code code =
-    if code == 1 then Acknowledged else if code == 2 then Server else if code == 3 then Information
+    if code == 1 then Acknowledged else if code == 2 then Server else if code == 3 then Information else if code == 4 then Context
     else if code == 0x80000001 then Unsupported else if code == 0x80000003 then Invalid else Unknown
 
 code_again : (r : ReplyType) → of_code (reply_code r) ≡ r
 code_again Acknowledged = refl
 code_again Server = refl
 code_again Information = refl
+code_again Context = refl
 code_again Unsupported = refl
 code_again Invalid = refl
 code_again Unknown = refl
@@ -34,6 +36,7 @@ code_fits : (r : ReplyType) → reply_code r < 2 ^ 32
 code_fits Acknowledged = omega arith
 code_fits Server = omega arith
 code_fits Information = omega arith
+code_fits Context = omega arith
 code_fits Unsupported = omega arith
 code_fits Invalid = omega arith
 code_fits Unknown = omega arith
@@ -53,7 +56,7 @@ one_option_reply o p r q a b x y ho hp ha hb e =
     let i = same_front a b x y h.0 h.1 in
     (f.0, sym (code_again r) ∙ ap of_code g.0 ∙ code_again q, i.0, i.1)
 
-server_data_is : (a x : List ℕ) → server_data a ++ x ≡ bytes 4 (length a) ++ (a ++ x)
+pub server_data_is : (a x : List ℕ) → server_data a ++ x ≡ bytes 4 (length a) ++ (a ++ x)
 unfolding server_data
 server_data_is a x = simp append_assoc
 
@@ -61,6 +64,10 @@ pub one_name_listed : (a b x y : List ℕ) → length a < 2 ^ 32 → length b < 
 one_name_listed a b x y ha hb e =
     let h = same_field 4 width4 (length a) (length b) _ _ ha hb (sym (server_data_is a x) ∙ e ∙ server_data_is b y) in
     same_front a b x y h.0 h.1
+
+pub one_context : (i j : ℕ) (a b : List ℕ) → i < 2 ^ 32 → j < 2 ^ 32 → context_data i a ≡ context_data j b → (i ≡ j) × (a ≡ b)
+unfolding context_data
+one_context i j a b hi hj e = same_field 4 width4 i j a b hi hj e
 
 export_info_is : (s f : ℕ) (x : List ℕ) → export_info s f ++ x ≡ bytes 2 INFO_EXPORT ++ (bytes 8 s ++ (bytes 2 f ++ x))
 unfolding export_info
@@ -97,7 +104,7 @@ one_export_reply s t f g z x y hs ht hf hg e =
     let b = same_field 2 width2 f g _ _ hf hg a.1 in
     (a.0, b.0, (same_front (padding z) (padding z) x y refl b.1).1)
 
-simple_head_is : (e c : ℕ) (x : List ℕ) → simple_reply_head e c ++ x ≡ bytes 4 SIMPLE_REPLY_MAGIC ++ (bytes 4 e ++ (bytes 8 c ++ x))
+pub simple_head_is : (e c : ℕ) (x : List ℕ) → simple_reply_head e c ++ x ≡ bytes 4 SIMPLE_REPLY_MAGIC ++ (bytes 4 e ++ (bytes 8 c ++ x))
 unfolding simple_reply_head
 simple_head_is e c x = simp append_assoc
 

@@ -1,7 +1,7 @@
 -- Internal: reading a frame from its front.
 use Rattle.std.specs.Borrow.{Bor}
 use Rattle.std.specs.Option.{option_map}
-use Rattle.std.specs.Prelude.{◌≡◌, ℕ, ◌+◌, ◌*◌, ◌≤◌, Option, Some, None, Bool, true, false, List, take, drop, length, nat_le, nat_lt, ◌==◌, ◌&&◌, if◌then◌else◌}
+use Rattle.std.specs.Prelude.{◌≡◌, ℕ, zero, suc, ◌+◌, ◌*◌, ◌≤◌, Option, Some, None, Bool, true, false, List, take, drop, length, nat_le, nat_lt, ◌==◌, ◌&&◌, ◌||◌, bytes_eq, if◌then◌else◌}
 use Rattle.nbd_wire.specs.declared.Kind.{Kind}
 use Rattle.nbd_wire.specs.declared.Kind.TheVariants.{Flags, Options, Requests}
 use Rattle.nbd_wire.specs.declared.Request.{Request}
@@ -9,6 +9,7 @@ use Rattle.nbd_wire.specs.declared.Frame.{Frame}
 use Rattle.nbd_wire.specs.declared.Frame.TheVariants.{ClientFlags, ClientOption, Command, Malformed}
 use Rattle.nbd_wire.specs.declared.TheConstants.{OPTION_MAGIC, REQUEST_MAGIC, MAX_OPTION, MAX_REQUEST}
 use Rattle.nbd_wire.specs.Numbers.{number}
+use Rattle.nbd_wire.specs.Contexts.{allocation, base}
 use Rattle.nbd_wire.specs.Grammar.{Message, client_flags, client_option, command, malformed, payload_len}
 
 -- the bytes of the fixed part
@@ -85,6 +86,22 @@ name_in text =
     let k = number 2 b in
     if nat_lt (length text) 4 then None else if nat_lt (length a) n then None else if nat_lt (length b) 2 then None
     else if length (drop 2 b) == 2 * k then Some (take n a) else None
+
+-- a text stands at the front, behind its length
+unfoldable pub has_string : List ℕ → Bool
+has_string text = nat_le 4 (length text) && nat_le (number 4 text) (length (drop 4 text))
+
+unfoldable pub string_at : List ℕ → List ℕ
+string_at text = take (number 4 text) (drop 4 text)
+
+unfoldable pub behind_string : List ℕ → List ℕ
+behind_string text = drop (number 4 text) (drop 4 text)
+
+-- Whether a text is exactly so many queries; and if so, whether one of them, or of those before, is the context's name, and whether one is its namespace.
+abbrev pub told_by : ℕ → List ℕ → Bool → Bool → Option (Bool × Bool)
+told_by zero text asks all = if length text == 0 then Some (asks, all) else None
+told_by (suc n) text asks all =
+    if has_string text then told_by n (behind_string text) (asks || bytes_eq (string_at text) allocation) (all || bytes_eq (string_at text) base) else None
 
 -- a name that the program found, or none
 abbrev pub NameIs : Option (Bor (List ℕ)) → Option (List ℕ) → Type 0

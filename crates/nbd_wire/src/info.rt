@@ -9,7 +9,7 @@ ghost use Rattle.nbd_wire.specs.Reading.{name_in, NameIs};
 use bytes::Buf;
 
 #[tactic(auto, unfolding(crate::specs::Numbers::number), using(crate::proofs::Fields::first_32))]
-fn u32_first(text: &[u8]) -> Option<(u32, &[u8])>
+pub(crate) fn u32_first(text: &[u8]) -> Option<(u32, &[u8])>
     ensures { MatchOption result (length text.now < 4)
         (λ r. (4 ≤ length text.now) × (r.0 ≡ number 4 text.now) × (r.1.now ≡ drop 4 text.now)) }
 {

@@ -1,10 +1,15 @@
 //! Laws of the grammar, over all texts.
 
-ghost use Rattle.std.specs.Prelude.{◌≡◌, ◌<◌, ◌^◌, ◌++◌, ℕ, Bool, List, length};
+ghost use Rattle.std.specs.Prelude.{◌≡◌, ◌<◌, ◌+◌, ◌*◌, ◌^◌, ◌++◌, ℕ, Bool, List, [], length};
 ghost use Rattle.nbd_wire.specs.declared.Kind.{Kind};
 ghost use Rattle.nbd_wire.specs.declared.writing.ReplyType.{ReplyType};
+ghost use Rattle.nbd_wire.specs.Chunks.{chunk, data_chunk, done_chunk, error_chunk};
+ghost use Rattle.nbd_wire.specs.Contexts.{FitExtents, IsQuery, context_data, extents_text, status_chunk, status_head};
 ghost use Rattle.nbd_wire.specs.Grammar.{Message, IsFrame};
+ghost use Rattle.nbd_wire.specs.Numbers.{bytes};
 ghost use Rattle.nbd_wire.specs.Replies.{IsInfo, block_size_info, export_info, export_reply, option_reply, server_data, simple_reply_head};
+
+use crate::chunks::ChunkType;
 
 /// No frame of a phase begins another of that phase, and none says two things: a text has at most
 /// one first frame.
@@ -18,6 +23,12 @@ pub fn one_name()
     ensures { (text name other types also : List ℕ) → IsInfo text name types → IsInfo text other also → name ≡ other }
 {}
 
+/// The data of LIST_META_CONTEXT and SET_META_CONTEXT has one name and one list of queries.
+pub fn one_query()
+    ensures { (text name other : List ℕ) (queries also : List (List ℕ)) → IsQuery text name queries → IsQuery text other also
+        → (name ≡ other) × (queries ≡ also) }
+{}
+
 /// No reply begins another that may stand in its place, and none says two things: what is sent tells a client where each reply
 /// ends, and what it is. How much data a simple reply has is told by the request.
 pub fn one_first_reply()
@@ -26,6 +37,8 @@ pub fn one_first_reply()
         → (option ≡ other) × (reply ≡ also) × (a ≡ b) × (x ≡ y) }
     ensures names { (a b x y : List ℕ) → length a < 2 ^ 32 → length b < 2 ^ 32 → server_data a ++ x ≡ server_data b ++ y
         → (a ≡ b) × (x ≡ y) }
+    ensures contexts { (id other : ℕ) (name also : List ℕ) → id < 2 ^ 32 → other < 2 ^ 32 → context_data id name ≡ context_data other also
+        → (id ≡ other) × (name ≡ also) }
     ensures information { (size other flags also : ℕ) (x y : List ℕ) → size < 2 ^ 64 → other < 2 ^ 64 → flags < 2 ^ 16 → also < 2 ^ 16
         → export_info size flags ++ x ≡ export_info other also ++ y → (size ≡ other) × (flags ≡ also) × (x ≡ y) }
     ensures sizes { (least preferred most also other last : ℕ) (x y : List ℕ) → least < 2 ^ 32 → preferred < 2 ^ 32 → most < 2 ^ 32
@@ -36,4 +49,19 @@ pub fn one_first_reply()
         → (size ≡ other) × (flags ≡ also) × (x ≡ y) }
     ensures requests { (error other cookie also : ℕ) (x y : List ℕ) → error < 2 ^ 32 → other < 2 ^ 32 → cookie < 2 ^ 64 → also < 2 ^ 64
         → simple_reply_head error cookie ++ x ≡ simple_reply_head other also ++ y → (error ≡ other) × (cookie ≡ also) × (x ≡ y) }
+{}
+
+/// No chunk begins another, none says two things, and none begins as a simple reply does. The chunks that are written are chunks of these types with this data.
+pub fn one_first_chunk()
+    ensures chunks { (kind other : ChunkType) (cookie also : ℕ) (a b x y : List ℕ) → cookie < 2 ^ 64 → also < 2 ^ 64
+        → length a < 2 ^ 32 → length b < 2 ^ 32 → chunk kind cookie a ++ x ≡ chunk other also b ++ y
+        → (kind ≡ other) × (cookie ≡ also) × (a ≡ b) × (x ≡ y) }
+    ensures simple { (kind : ChunkType) (cookie error also : ℕ) (a x y : List ℕ) → chunk kind cookie a ++ x ≡ simple_reply_head error also ++ y → ⊥ }
+    ensures reads { (cookie offset : ℕ) (given : List ℕ) → data_chunk cookie offset given ≡ chunk ChunkType.Data cookie (bytes 8 offset ++ given) }
+    ensures statuses { (cookie also : ℕ) (extents others : List (ℕ × ℕ)) (x y : List ℕ) → cookie < 2 ^ 64 → also < 2 ^ 64
+        → FitExtents extents → FitExtents others → 4 + 8 * length extents < 2 ^ 32 → 4 + 8 * length others < 2 ^ 32
+        → status_chunk cookie extents ++ x ≡ status_chunk also others ++ y → (cookie ≡ also) × (extents ≡ others) × (x ≡ y) }
+    ensures extents { (cookie : ℕ) (extents : List (ℕ × ℕ)) → status_chunk cookie extents ≡ status_head cookie (length extents) ++ extents_text extents }
+    ensures errors { (error cookie : ℕ) → error_chunk error cookie ≡ chunk ChunkType.Error cookie (bytes 4 error ++ bytes 2 0) }
+    ensures done { (cookie : ℕ) → done_chunk cookie ≡ chunk ChunkType.Done cookie [] }
 {}

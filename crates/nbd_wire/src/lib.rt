@@ -1,16 +1,20 @@
-//! The frames of the NBD protocol (`proto.md`): the fixed newstyle handshake, and transmission with simple replies.
+//! The frames of the NBD protocol (`proto.md`): the fixed newstyle handshake, and transmission with simple replies, or with structured ones.
 //!
 //! All numbers are big-endian. A frame of the client is read from the front of what came, once [`wanted`] says that all
 //! of it is there. Replies are written into a buffer, at a place.
 #![tactic(auto)]
 
+mod chunks;
+mod contexts;
 mod info;
 mod laws;
 mod reading;
 mod writing;
 
+pub use chunks::{ChunkType, put_data_head, put_done_chunk, put_error_chunk};
+pub use contexts::{Query, put_context_reply, put_extent, put_status_head, read_query};
 pub use info::info_name;
-pub use laws::{one_first_frame, one_first_reply, one_name};
+pub use laws::{one_first_chunk, one_first_frame, one_first_reply, one_name, one_query};
 pub use reading::{fixed_len, read_frame, wanted, whole_len};
 pub use writing::{
     ReplyType, put_block_size_info, put_export_info, put_export_reply, put_greeting,
@@ -32,6 +36,9 @@ pub const REQUEST_MAGIC: u32 = 0x2560_9513;
 /// The magic of each simple reply, `NBD_SIMPLE_REPLY_MAGIC` ("Simple reply message").
 pub const SIMPLE_REPLY_MAGIC: u32 = 0x6744_6698;
 
+/// The magic of each chunk of a structured reply, `NBD_STRUCTURED_REPLY_MAGIC` ("Structured reply chunk message").
+pub const CHUNK_MAGIC: u32 = 0x668e_33ef;
+
 /// The handshake flags of the greeting, `NBD_FLAG_FIXED_NEWSTYLE` and `NBD_FLAG_NO_ZEROES` ("Handshake flags").
 pub const HANDSHAKE_FLAGS: u16 = 3;
 
@@ -49,6 +56,18 @@ pub const OPTION_INFO: u32 = 6;
 
 /// The option `NBD_OPT_GO` ("Option types").
 pub const OPTION_GO: u32 = 7;
+
+/// The option `NBD_OPT_STRUCTURED_REPLY` ("Option types"). It has no data.
+pub const OPTION_STRUCTURED_REPLY: u32 = 8;
+
+/// The option `NBD_OPT_LIST_META_CONTEXT` ("Option types").
+pub const OPTION_LIST_META_CONTEXT: u32 = 9;
+
+/// The option `NBD_OPT_SET_META_CONTEXT` ("Option types").
+pub const OPTION_SET_META_CONTEXT: u32 = 10;
+
+/// The number of the meta context `base:allocation`, which the server chooses ("Metadata querying").
+pub const ALLOCATION_CONTEXT: u32 = 1;
 
 /// The information type `NBD_INFO_EXPORT` ("Information types").
 pub const INFO_EXPORT: u16 = 0;
@@ -73,6 +92,9 @@ pub const COMMAND_TRIM: u16 = 4;
 
 /// The command type `NBD_CMD_WRITE_ZEROES` ("Request types").
 pub const COMMAND_WRITE_ZEROES: u16 = 6;
+
+/// The command type `NBD_CMD_BLOCK_STATUS` ("Request types").
+pub const COMMAND_BLOCK_STATUS: u16 = 7;
 
 /// How many bytes of data an option may have.
 pub const MAX_OPTION: u32 = 8192;

@@ -22,6 +22,8 @@ pub enum ReplyType {
     Server,
     /// `NBD_REP_INFO`: information on a volume.
     Information,
+    /// `NBD_REP_META_CONTEXT`: a meta context.
+    Context,
     /// `NBD_REP_ERR_UNSUP`: the option is not known.
     Unsupported,
     /// `NBD_REP_ERR_INVALID`: the data of the option has another form.
@@ -39,6 +41,7 @@ impl ReplyType {
             ReplyType::Acknowledged => 1,
             ReplyType::Server => 2,
             ReplyType::Information => 3,
+            ReplyType::Context => 4,
             ReplyType::Unsupported => 0x8000_0001,
             ReplyType::Invalid => 0x8000_0003,
             ReplyType::Unknown => 0x8000_0006,
@@ -46,7 +49,7 @@ impl ReplyType {
     }
 }
 
-fn put_u16(out: &mut [u8], at: usize, n: u16) -> usize
+pub(crate) fn put_u16(out: &mut [u8], at: usize, n: u16) -> usize
     requires { at + 2 ≤ length out.old }
     ensures bytes { Puts out.old at (bytes 2 n) out.new result }
     ensures end { result ≡ at + 2 }
@@ -56,7 +59,7 @@ fn put_u16(out: &mut [u8], at: usize, n: u16) -> usize
     at + 2
 }
 
-fn put_u32(out: &mut [u8], at: usize, n: u32) -> usize
+pub(crate) fn put_u32(out: &mut [u8], at: usize, n: u32) -> usize
     requires { at + 4 ≤ length out.old }
     ensures bytes { Puts out.old at (bytes 4 n) out.new result }
     ensures end { result ≡ at + 4 }
@@ -66,7 +69,7 @@ fn put_u32(out: &mut [u8], at: usize, n: u32) -> usize
     at + 4
 }
 
-fn put_u64(out: &mut [u8], at: usize, n: u64) -> usize
+pub(crate) fn put_u64(out: &mut [u8], at: usize, n: u64) -> usize
     requires { at + 8 ≤ length out.old }
     ensures bytes { Puts out.old at (bytes 8 n) out.new result }
     ensures end { result ≡ at + 8 }
@@ -76,7 +79,7 @@ fn put_u64(out: &mut [u8], at: usize, n: u64) -> usize
     at + 8
 }
 
-fn put_bytes(out: &mut [u8], at: usize, bytes: &[u8]) -> usize
+pub(crate) fn put_bytes(out: &mut [u8], at: usize, bytes: &[u8]) -> usize
     requires { at + length bytes.now ≤ length out.old }
     ensures bytes { Puts out.old at bytes.now out.new result }
     ensures end { result ≡ at + length bytes.now }

@@ -8,6 +8,8 @@ mod blocks;
 #[cfg(test)]
 mod cache;
 #[cfg(test)]
+mod contexts;
+#[cfg(test)]
 mod counts;
 #[cfg(test)]
 mod disk;

@@ -1,8 +1,9 @@
 use nbd_wire::{
     COMMAND_READ, COMMAND_TRIM, COMMAND_WRITE_ZEROES, Frame, Kind, MAX_FRAME, OPTION_ABORT,
     OPTION_EXPORT_NAME, OPTION_GO, OPTION_LIST, ReplyType, Request, info_name, put_block_size_info,
-    put_export_info, put_export_reply, put_greeting, put_option_reply_head, put_server_reply,
-    put_simple_reply_head, read_frame, wanted,
+    put_data_head, put_done_chunk, put_error_chunk, put_export_info, put_export_reply,
+    put_greeting, put_option_reply_head, put_server_reply, put_simple_reply_head, read_frame,
+    wanted,
 };
 
 const GO_FRAME: &[u8] = b"IHAVEOPT\0\0\0\x07\0\0\0\x07\0\0\0\x010\0\0";
@@ -240,6 +241,24 @@ fn errors_carry_no_data(rt: HostRuntime) {
         reply == *b"\x67\x44\x66\x98\0\0\0\x16\0\0\0\0\0\0\0\x09",
     );
     assert!(rt; (ends, are_written) == ((20, 16), (true, true)));
+}
+
+#[test]
+fn chunks_are_written_in_their_place(rt: HostRuntime) {
+    let mut read = [0xffu8; 28];
+    let mut refused = [0xffu8; 26];
+    let mut done = [0xffu8; 20];
+    let ends = (
+        put_data_head(&mut read, 0, 2, 512, 1024),
+        put_error_chunk(&mut refused, 0, 22, 9),
+        put_done_chunk(&mut done, 0, 5),
+    );
+    let are_written = (
+        read == *b"\x66\x8e\x33\xef\0\x01\0\x01\0\0\0\0\0\0\0\x02\0\0\x04\x08\0\0\0\0\0\0\x02\0",
+        refused == *b"\x66\x8e\x33\xef\0\x01\x80\x01\0\0\0\0\0\0\0\x09\0\0\0\x06\0\0\0\x16\0\0",
+        done == *b"\x66\x8e\x33\xef\0\x01\0\0\0\0\0\0\0\0\0\x05\0\0\0\0",
+    );
+    assert!(rt; (ends, are_written) == ((28, 26, 20), (true, true, true)));
 }
 
 #[test]

@@ -1,0 +1,7 @@
+use Rattle.nbd_wire.specs.Chunks.{data_head}
+use Rattle.nbd_wire.proofs.Puts.{puts_then}
+use Rattle.nbd_wire.proofs.chunks.put_data_head.Goals as goal
+
+pub returns-clause-bytes : goal.returns-clause-bytes
+unfolding data_head
+returns-clause-bytes c = puts_then _ _ _ _ _ _ _ _ (c.put_chunk_head-after_head.ensures.bytes) c.put_u64.ensures.bytes

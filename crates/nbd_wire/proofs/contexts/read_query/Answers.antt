@@ -1,0 +1,28 @@
+use Rattle.std.proofs.Common.{rules, ℕ, List, length, ap, sym, arith}
+use Rattle.nbd_wire.specs.Contexts.{IsQuery}
+use Rattle.nbd_wire.proofs.Queries.{no_name, no_count, no_queries, query_found}
+use Rattle.nbd_wire.proofs.contexts.read_query.Goals as goal
+
+pub returns-in_err-name-clause-none : goal.returns-in_err-name-clause-none
+returns-in_err-name-clause-none c =
+    let none : (name : List ℕ) (queries : List (List ℕ)) → IsQuery c.args.payload.now name queries → ⊥ = no_name c.args.payload.now c.in_err-name.ensures in
+    search (rules, none)
+
+pub returns-in_err-count-clause-none : goal.returns-in_err-count-clause-none
+returns-in_err-count-clause-none c =
+    let none : (name : List ℕ) (queries : List (List ℕ)) → IsQuery c.args.payload.now name queries → ⊥ =
+    no_count c.args.payload.now (omega (arith, ap length c.in_ok-name.ensures.2, c.in_err-count.ensures)) in
+    search (rules, none)
+
+pub returns-in_err-asks-clause-none : goal.returns-in_err-asks-clause-none
+returns-in_err-asks-clause-none c =
+    let none : (name : List ℕ) (queries : List (List ℕ)) → IsQuery c.args.payload.now name queries → ⊥ =
+    no_queries c.args.payload.now c.in_ok-name.rest.now c.in_ok-count.text.now c.in_ok-count.count c.in_ok-name.ensures.2 c.in_ok-count.ensures.1 c.in_ok-count.ensures.2
+    (sym c.in_err-asks.ensures) in
+    search (rules, none)
+
+pub returns-clause-found : goal.returns-clause-found
+returns-clause-found c =
+    query_found c.args.payload.now c.in_ok-name.name.now c.in_ok-name.rest.now c.in_ok-count.text.now c.in_ok-count.count c.in_ok-asks.asks c.in_ok-asks.all
+    (λ i. omega (arith, c.type_inv.payload i)) c.in_ok-name.ensures.0 c.in_ok-name.ensures.1 c.in_ok-name.ensures.2 c.in_ok-count.ensures.0 c.in_ok-count.ensures.1
+    c.in_ok-count.ensures.2 (sym c.in_ok-asks.ensures)
