@@ -11,7 +11,7 @@ use Rattle.tp_model.specs.Pool.{PlainPool, Outline, hold_count, hold_total}
 use Rattle.tp_model.specs.Calls.{Call, Answer, Done, Gave, Line, Found, Refused, Sized, Listed, Hold, LetGo, NextId, VolumeBlocks, is_failed, holds_after}
 use Rattle.nbd_wire.specs.declared.Kind.{Kind}
 use Rattle.nbd_wire.specs.declared.Request.{Request}
-use Rattle.nbd_wire.specs.declared.TheConstants.{COMMAND_DISC, OPTION_ABORT, OPTION_EXPORT_NAME, OPTION_GO, OPTION_INFO, OPTION_LIST}
+use Rattle.nbd_wire.specs.declared.TheConstants.{COMMAND_DISC, OPTION_ABORT, OPTION_EXPORT_NAME, OPTION_GO, OPTION_INFO, OPTION_LIST, OPTION_LIST_META_CONTEXT, OPTION_SET_META_CONTEXT, OPTION_STRUCTURED_REPLY}
 use Rattle.nbd_wire.specs.declared.writing.ReplyType.TheVariants.{Acknowledged, Invalid, Unsupported}
 use Rattle.nbd_wire.specs.Replies.{option_reply}
 use Rattle.nbd_wire.specs.Grammar.{Message, client_flags, client_option, command, malformed}
@@ -19,16 +19,20 @@ use Rattle.nbd_session.specs.declared.phase.Course.{Course}
 use Rattle.nbd_session.specs.declared.phase.Course.TheVariants.{Listens, Works}
 use Rattle.nbd_session.specs.declared.phase.Profile.{Profile}
 use Rattle.nbd_session.specs.declared.phase.Terms.{Terms}
+use Rattle.nbd_session.specs.declared.phase.Manner.{Manner}
 use Rattle.nbd_session.specs.declared.phase.Phase.{Phase}
 use Rattle.nbd_session.specs.declared.phase.Phase.TheVariants.{Flags, Options, Transmission, Ended}
 use Rattle.nbd_session.specs.declared.request.Verdict.{Verdict}
 use Rattle.nbd_session.specs.declared.request.Verdict.TheVariants as verdicts
 use Rattle.nbd_session.specs.Requests.{bytes_of_blocks, form_of, known_bytes, verdict_in, verdict_on}
 use Rattle.nbd_session.specs.declared.session.Answered.{Answered}
-use Rattle.nbd_session.specs.Session.{State, state, has_ended, Outcome, outcome, option_error, VolumeOption, export_name, go, info, is_there, is_at_work, is_extended, kind_of, left_in, terms_of, transmission_flags, LetsGo, Ends, Tells, Serves, IsMade, MakesPart, IsDeaf, IsSized, Sizes, IsHeld, Holds, Enters, Finds, AsksFor, LooksFor, IsInvalid, IsValid, Informs, Exports, Finding, IsEnough, IsLast, IsRefused, Lists, NamesAll, NamesNone, Answers, Waits, TakesFrame, Steps}
+use Rattle.nbd_wire.specs.Contexts.{asks_for, lists}
+use Rattle.nbd_session.specs.Buffers.{IsSound}
+use Rattle.nbd_session.specs.Status.{first_block, unit_of}
+use Rattle.nbd_session.specs.Session.{State, state, has_ended, Outcome, outcome, option_error, VolumeOption, export_name, go, info, in_chunks, in_context, is_there, is_at_work, is_extended, kind_of, left_in, list_context, manner_of, set_context, structures, terms_of, transmission_flags, LetsGo, Ends, Tells, Serves, IsMade, MakesPart, IsDeaf, IsSized, Sizes, IsHeld, Holds, Enters, Finds, AsksFor, LooksFor, IsInvalid, IsValid, Informs, Exports, Finding, IsEnough, IsLast, IsRefused, Lists, NamesAll, NamesNone, Answers, Waits, TakesFrame, Steps, Extends, IsNoQuery, IsQueried, Queries, Walks, Chooses}
 use Rattle.tp_model.specs.Clauses.{Continues, HasTrace, PoolCall, Traced, TracedCall, View, ViewLaws, outline_of_traced}
 use Rattle.tp_model.proofs.Running.{call_traced, goes_on, stays}
-use Rattle.nbd_session.specs.Clauses.{IsReady, Follows, HoldsFollow, KeepsSizes, PlainCall, Advances, Leaves, IsCalm, holds_between, takes_long}
+use Rattle.nbd_session.specs.Clauses.{IsReady, Follows, GoesBeyond, HoldsFollow, KeepsSizes, PlainCall, Advances, Leaves, IsCalm, holds_between, manner_in}
 use Rattle.nbd_session.proofs.Counting.{one_more, still_held}
 use Rattle.nbd_session.proofs.Following.{steps_likewise, lets_go_likewise}
 use Rattle.nbd_session.proofs.Stepping.{calm_state, wanted_at_start}
@@ -151,8 +155,11 @@ module _ {D : Type 0} (view : View D) (laws : ViewLaws view) where
   }
 
   -- a session that goes on to its options, or ends, where nothing is called
+  to_terms : (old new : D) (z y : Terms) → GoesBeyond z y → new ≡ old → Moves old new (Options z) (Options y)
+  to_terms old new z y f e = rests old new (Options z) (Options y) e refl f tt
+
   to_options : (old new : D) (z : Terms) → new ≡ old → Moves old new (Options z) (Options z)
-  to_options old new z e = rests old new (Options z) (Options z) e refl refl tt
+  to_options old new z e = to_terms old new z z (refl, refl) e
 
   to_end : (old new : D) (z : Terms) → new ≡ old → Moves old new (Options z) Ended
   to_end old new z e = rests old new (Options z) Ended e (inl refl) tt tt
@@ -178,53 +185,54 @@ module _ {D : Type 0} (view : View D) (laws : ViewLaws view) where
   tells_move old new phase o sent next h m = moves_to old new phase next o.next h.1 m
 
   -- a request leaves a session where it is, or begins work
-  stays_in : (old new : D) (v n : ℕ) (c d : Course) (call : Call) (answer : Answer) (next : Phase) → next ≡ Transmission v n d → takes_long c ≡ takes_long d → PoolCall view old call answer new
+  stays_in : (old new : D) (v n : ℕ) (c d : Course) (call : Call) (answer : Answer) (next : Phase) → next ≡ Transmission v n d → manner_in c ≡ manner_in d → PoolCall view old call answer new
       → holds_after (view.outline old).holds call answer ≡ (view.outline old).holds → Moves old new (Transmission v n c) next
   stays_in old new v n c d call answer next at same h holds =
       moves_to old new (Transmission v n c) next (Transmission v n d) at (called old new (Transmission v n c) (Transmission v n d) call answer h holds (refl, refl, same) tt)
 
-  not_asked : (old new : D) (v n : ℕ) (x : Bool) → new ≡ old → Moves old new (Transmission v n (Listens x)) (Transmission v n (Listens x))
+  not_asked : (old new : D) (v n : ℕ) (x : Manner) → new ≡ old → Moves old new (Transmission v n (Listens x)) (Transmission v n (Listens x))
   not_asked old new v n x e = rests old new (Transmission v n (Listens x)) (Transmission v n (Listens x)) e refl (refl, refl, refl) tt
 
-  -- only an extended session begins work
-  long_is_extended : (x : Bool) (size : ℕ) (r : Request) → verdict_in x size r ≡ verdicts.Long → x ≡ true
-  long_is_extended true size r e = refl
-  long_is_extended false size r e = absurd (never_long size r e)
+  described_moves : (old new : D) (b : Bool) (v n : ℕ) (x : Manner) (r : Request) (sent told : List ℕ) (next : Phase) → next ≡ Transmission v n (Listens x)
+      → MatchBool b (Walks view.outline (PoolCall view) v r old sent new) ((sent ≡ told) × (new ≡ old)) → Moves old new (Transmission v n (Listens x)) next
+  described_moves old new true v n x r sent told next at h = stays_in old new v n (Listens x) (Listens x) _ h.answer next at refl h.calls refl
+  described_moves old new false v n x r sent told next at h = moves_to old new (Transmission v n (Listens x)) next (Transmission v n (Listens x)) at (not_asked old new v n x h.1)
 
-  serves_move : (old new : D) (d : Verdict) (v n : ℕ) (x : Bool) (r : Request) (payload sent : List ℕ) (next : Phase) → (d ≡ verdicts.Long → x ≡ true)
+  serves_move : (old new : D) (d : Verdict) (v n : ℕ) (x : Manner) (r : Request) (payload sent : List ℕ) (next : Phase)
       → Serves view.outline (PoolCall view) d v n x r payload old sent next new → Moves old new (Transmission v n (Listens x)) next
-  serves_move old new verdicts.Disconnect v n x r payload sent next is h = ends_move old new [] (Transmission v n (Listens x)) next sent h
-  serves_move old new (verdicts.Refuse e) v n x r payload sent next is h = tells_move old new (Transmission v n (Listens x)) _ sent next h (not_asked old new v n x h.2)
-  serves_move old new verdicts.Nothing v n x r payload sent next is h = tells_move old new (Transmission v n (Listens x)) _ sent next h (not_asked old new v n x h.2)
-  serves_move old new verdicts.Read v n x r payload sent next is h = stays_in old new v n (Listens x) (Listens x) _ h.0.answer next h.1 refl h.0.calls refl
-  serves_move old new verdicts.Write v n x r payload sent next is h = stays_in old new v n (Listens x) (Listens x) _ h.0.answer next h.1 refl h.0.calls refl
-  serves_move old new verdicts.Trim v n x r payload sent next is h = stays_in old new v n (Listens x) (Listens x) _ h.0.answer next h.1 refl h.0.calls refl
-  serves_move old new verdicts.WriteZeroes v n x r payload sent next is h = stays_in old new v n (Listens x) (Listens x) _ h.0.answer next h.1 refl h.0.calls refl
-  serves_move old new verdicts.Flush v n x r payload sent next is h = stays_in old new v n (Listens x) (Listens x) _ h.0.answer next h.1 refl h.0.calls refl
-  serves_move old new verdicts.Long v n x r payload sent next is h =
-      moves_to old new (Transmission v n (Listens x)) next (Transmission v n (Works r)) h.1 (rests old new (Transmission v n (Listens x)) (Transmission v n (Works r)) h.2 refl (refl, refl, is refl) tt)
+  serves_move old new verdicts.Disconnect v n x r payload sent next h = ends_move old new [] (Transmission v n (Listens x)) next sent h
+  serves_move old new (verdicts.Refuse e) v n x r payload sent next h = tells_move old new (Transmission v n (Listens x)) _ sent next h (not_asked old new v n x h.2)
+  serves_move old new verdicts.Nothing v n x r payload sent next h = tells_move old new (Transmission v n (Listens x)) _ sent next h (not_asked old new v n x h.2)
+  serves_move old new verdicts.Read v n x r payload sent next h = stays_in old new v n (Listens x) (Listens x) _ h.0.answer next h.1 refl h.0.calls refl
+  serves_move old new verdicts.Write v n x r payload sent next h = stays_in old new v n (Listens x) (Listens x) _ h.0.answer next h.1 refl h.0.calls refl
+  serves_move old new verdicts.Trim v n x r payload sent next h = stays_in old new v n (Listens x) (Listens x) _ h.0.answer next h.1 refl h.0.calls refl
+  serves_move old new verdicts.WriteZeroes v n x r payload sent next h = stays_in old new v n (Listens x) (Listens x) _ h.0.answer next h.1 refl h.0.calls refl
+  serves_move old new verdicts.Flush v n x r payload sent next h = stays_in old new v n (Listens x) (Listens x) _ h.0.answer next h.1 refl h.0.calls refl
+  serves_move old new verdicts.Status v n x r payload sent next h = described_moves old new (nat_lt (first_block (unit_of (view.outline old).geometry) r) 16777216) v n x r sent _ next h.1 h.0
+  serves_move old new verdicts.Long v n x r payload sent next h =
+      moves_to old new (Transmission v n (Listens x)) next (Transmission v n (Works x r)) h.1 (rests old new (Transmission v n (Listens x)) (Transmission v n (Works x r)) h.2 refl (refl, refl, refl) tt)
 
   -- and a part of one leaves it at work, or where it was
-  made_next : (v n : ℕ) (r rest : Request) (last : Bool) (answer : Answer) (sent : List ℕ) (next : Phase) → IsMade v n r rest last answer sent next
-      → (d : Course) × (next ≡ Transmission v n d) × (takes_long d ≡ true)
-  made_next v n r rest true Done sent next h = (Listens true, h.1, refl)
-  made_next v n r rest false Done sent next h = (Works rest, h.1, refl)
-  made_next v n r rest last (Gave sectors) sent next h = (Listens true, h.1, refl)
-  made_next v n r rest last (Line bytes) sent next h = (Listens true, h.1, refl)
-  made_next v n r rest last (Found id) sent next h = (Listens true, h.1, refl)
-  made_next v n r rest last (Sized blocks) sent next h = (Listens true, h.1, refl)
-  made_next v n r rest last (Listed slots) sent next h = (Listens true, h.1, refl)
-  made_next v n r rest last (Refused reason) sent next h = (Listens true, h.1, refl)
+  made_next : (v n : ℕ) (m : Manner) (r rest : Request) (last : Bool) (answer : Answer) (sent : List ℕ) (next : Phase) → IsMade v n m r rest last answer sent next
+      → (d : Course) × (next ≡ Transmission v n d) × (manner_in d ≡ m)
+  made_next v n m r rest true Done sent next h = (Listens m, h.1, refl)
+  made_next v n m r rest false Done sent next h = (Works m rest, h.1, refl)
+  made_next v n m r rest last (Gave sectors) sent next h = (Listens m, h.1, refl)
+  made_next v n m r rest last (Line bytes) sent next h = (Listens m, h.1, refl)
+  made_next v n m r rest last (Found id) sent next h = (Listens m, h.1, refl)
+  made_next v n m r rest last (Sized blocks) sent next h = (Listens m, h.1, refl)
+  made_next v n m r rest last (Listed slots) sent next h = (Listens m, h.1, refl)
+  made_next v n m r rest last (Refused reason) sent next h = (Listens m, h.1, refl)
 
   part_holds : (b : Bool) (trim zeroes : Call) (answer : Answer) (holds : FinMap nat_cmp ℕ) → holds_after holds trim answer ≡ holds → holds_after holds zeroes answer ≡ holds
       → holds_after holds (if b then trim else zeroes) answer ≡ holds
   part_holds true trim zeroes answer holds t z = t
   part_holds false trim zeroes answer holds t z = z
 
-  part_moves : (old new : D) (v n : ℕ) (r : Request) (sent : List ℕ) (next : Phase) → MakesPart view.outline (PoolCall view) v n r old sent next new → Moves old new (Transmission v n (Works r)) next
-  part_moves old new v n r sent next h =
-      let to = made_next v n r _ _ h.answer sent next h.is_made in
-      stays_in old new v n (Works r) to.0 _ h.answer next to.1 (sym to.2) h.calls (part_holds (is_trim (form_of r)) _ _ h.answer (view.outline old).holds refl refl)
+  part_moves : (old new : D) (v n : ℕ) (m : Manner) (r : Request) (sent : List ℕ) (next : Phase) → MakesPart view.outline (PoolCall view) v n m r old sent next new → Moves old new (Transmission v n (Works m r)) next
+  part_moves old new v n m r sent next h =
+      let to = made_next v n m r _ _ h.answer sent next h.is_made in
+      stays_in old new v n (Works m r) to.0 _ h.answer next to.1 (sym to.2) h.calls (part_holds (is_trim (form_of r)) _ _ h.answer (view.outline old).holds refl refl)
 
   -- the geometry, who holds what, and the sizes stay
   record Stays (old new : D) : Type 0 where
@@ -255,16 +263,30 @@ module _ {D : Type 0} (view : View D) (laws : ViewLaws view) where
     knows = m.knows;
   }
 
+  -- Where an option leads that tells of a volume: into transmission, where it holds the volume, or on to options.
+  abbrev LeadsTo : Terms → Bool → ℕ → ℕ → Phase → Type 0
+  LeadsTo z true id size next = next ≡ Transmission id size (Listens (manner_of z id))
+  LeadsTo z false id size next = (y : Terms) × (next ≡ Options y) × GoesBeyond z y
+
   -- Where an option goes that looks for a volume.
   record Lands (z : Terms) (o : VolumeOption) : Type 0 where
-    found : (id size flags : ℕ) → (o.found id size flags).next ≡ (if o.holds then Transmission id size (Listens (is_extended z.profile)) else Options z)
+    found : (id size flags : ℕ) → LeadsTo z o.holds id size (o.found id size flags).next
     missing : (old new : D) → new ≡ old → Moves old new (Options z) o.missing.next
 
   go_lands : (z : Terms) → Lands z (go z)
   go_lands z = record { found = λ id size flags. refl; missing = λ old new e. to_options old new z e }
 
   info_lands : (z : Terms) → Lands z (info z)
-  info_lands z = record { found = λ id size flags. refl; missing = λ old new e. to_options old new z e }
+  info_lands z = record { found = λ id size flags. (z, refl, (refl, refl)); missing = λ old new e. to_options old new z e }
+
+  list_lands : (z : Terms) (b : Bool) → Lands z (list_context z b)
+  list_lands z b = record { found = λ id size flags. (z, refl, (refl, refl)); missing = λ old new e. to_options old new z e }
+
+  set_lands : (z : Terms) (b : Bool) → Lands z (set_context z b)
+  set_lands z b = record {
+    found = λ id size flags. (in_context z (if b then id else 16777216), refl, (refl, refl));
+    missing = λ old new e. to_terms old new z (in_context z 16777216) (refl, refl) e;
+  }
 
   export_lands : (z : Terms) → Lands z (export_name z)
   export_lands z = record { found = λ id size flags. refl; missing = λ old new e. to_end old new z e }
@@ -273,15 +295,15 @@ module _ {D : Type 0} (view : View D) (laws : ViewLaws view) where
     abbrev found_so : ℕ → ℕ → Outcome
     found_so id blocks = o.found id (bytes_of_blocks g blocks) flags
 
-    found_next : (b : Bool) (id blocks : ℕ) → o.holds ≡ b → (found_so id blocks).next ≡ (if b then Transmission id (bytes_of_blocks g blocks) (Listens (is_extended z.profile)) else Options z)
-    found_next b id blocks is = lands.found id (bytes_of_blocks g blocks) flags ∙ ap (λ (x : Bool). if x then Transmission id (bytes_of_blocks g blocks) (Listens (is_extended z.profile)) else Options z) is
+    found_next : (b : Bool) (id blocks : ℕ) → o.holds ≡ b → LeadsTo z b id (bytes_of_blocks g blocks) (found_so id blocks).next
+    found_next b id blocks is = subst (λ (x : Bool). LeadsTo z x id (bytes_of_blocks g blocks) (found_so id blocks).next) is (lands.found id (bytes_of_blocks g blocks) flags)
 
     -- of a volume that is not held
     told_moves : (old asked new : D) (id : ℕ) (answer : Answer) (sent : List ℕ) (next : Phase) → o.holds ≡ false → PoolCall view old (VolumeBlocks id) answer asked
         → IsSized view.outline (PoolCall view) false (found_so id) id answer asked sent next new → Moves old new (Options z) next
     told_moves old asked new id (Sized blocks) sent next is call h =
         behind old asked new z next (record { geometry = call.geometry; holds = call.holds; more = call.more })
-        (moves_to asked new (Options z) next (Options z) (h.1 ∙ found_next false id blocks is) (to_options asked new z h.2))
+        (let to = found_next false id blocks is in moves_to asked new (Options z) next (Options to.0) (h.1 ∙ to.1) (to_terms asked new z to.0 to.2 h.2))
     told_moves old asked new id (Refused reason) sent next is call h =
         behind old asked new z next (record { geometry = call.geometry; holds = call.holds; more = call.more })
         (moves_to asked new (Options z) next Ended h.1 (to_end asked new z h.2))
@@ -312,7 +334,7 @@ module _ {D : Type 0} (view : View D) (laws : ViewLaws view) where
       sized_moves : (asked new : D) (answer : Answer) (sent : List ℕ) (next : Phase) → o.holds ≡ true → PoolCall view held (VolumeBlocks id) answer asked
           → IsSized view.outline (PoolCall view) true (found_so id) id answer asked sent next new → Moves old new (Options z) next
       sized_moves asked new (Sized blocks) sent next is call h =
-          let to : Phase = Transmission id (bytes_of_blocks g blocks) (Listens (is_extended z.profile)) in
+          let to : Phase = Transmission id (bytes_of_blocks g blocks) (Listens (manner_of z id)) in
           let P : D → Type 0 = λ d. Moves old d (Options z) to in
           moves_to old new (Options z) next to (h.1 ∙ found_next true id blocks is) (subst P (sym h.2) (record {
             geometry = call.geometry ∙ hold.geometry;
@@ -410,7 +432,7 @@ module _ {D : Type 0} (view : View D) (laws : ViewLaws view) where
       → Moves old new (Options z) next
   names_move old new true z sent next (inl h) =
       let m = finding_stays (IsLast view.outline (PoolCall view)) (λ from d d' e. last_stays (nat_lt from 16777216) from d d' e) 0 h.ids old new h.finding in
-      moves_to old new (Options z) next (Options z) h.next_is (record { geometry = m.geometry; holds = m.holds; follows = refl; more = m.more; knows = tt })
+      moves_to old new (Options z) next (Options z) h.next_is (record { geometry = m.geometry; holds = m.holds; follows = (refl, refl); more = m.more; knows = tt })
   names_move old new true z sent next (inr h) = none h.finding where
     goes : Stays old new → Moves old new (Options z) next
     goes m = moves_to old new (Options z) next Ended h.next_is (record { geometry = m.geometry; holds = inl m.holds; follows = tt; more = m.more; knows = tt })
@@ -428,19 +450,53 @@ module _ {D : Type 0} (view : View D) (laws : ViewLaws view) where
   lists_move old new true z payload sent next h = ends_move old new [] (Options z) next sent h
   lists_move old new false z payload sent next h = names_move old new (length payload == 0) z sent next h
 
-  chosen_moves : (old new : D) (is_go is_info is_export is_list is_abort : Bool) (z : Terms) (option : ℕ) (payload sent : List ℕ) (next : Phase)
+  structured_moves : (old new : D) (b : Bool) (z : Terms) (sent : List ℕ) (next : Phase)
+      → Tells view.outline (PoolCall view) (if b then outcome (option_reply OPTION_STRUCTURED_REPLY Acknowledged []) (Options (in_chunks z)) else option_error OPTION_STRUCTURED_REPLY Invalid z) old sent next new
+      → Moves old new (Options z) next
+  structured_moves old new true z sent next h =
+      tells_move old new (Options z) (outcome (option_reply OPTION_STRUCTURED_REPLY Acknowledged []) (Options (in_chunks z))) sent next h (to_terms old new z (in_chunks z) (refl, refl) h.2)
+  structured_moves old new false z sent next h = tells_move old new (Options z) (option_error OPTION_STRUCTURED_REPLY Invalid z) sent next h (to_options old new z h.2)
+
+  queries_move : (old new : D) (b c : Bool) (option : ℕ) (asks : List (List ℕ) → Bool) (o : Bool → VolumeOption) (z y : Terms) (payload sent : List ℕ) (next : Phase)
+      → ((x : Bool) → Lands z (o x)) → GoesBeyond z y
+      → MatchBool b (Ends view.outline (PoolCall view) [] (Options z) old sent next new)
+      (MatchBool c (IsNoQuery view.outline (PoolCall view) option y payload old sent next new ⊎ IsQueried view.outline (PoolCall view) asks o payload old sent next new)
+      (Tells view.outline (PoolCall view) (option_error option Invalid y) old sent next new))
+      → Moves old new (Options z) next
+  queries_move old new true c option asks o z y payload sent next lands f h = ends_move old new [] (Options z) next sent h
+  queries_move old new false true option asks o z y payload sent next lands f (inl h) = tells_move old new (Options z) (option_error option Invalid y) sent next h.tells (to_terms old new z y f h.tells.2)
+  queries_move old new false true option asks o z y payload sent next lands f (inr h) = looks_move old new z (o (asks h.queries)) (lands (asks h.queries)) h.name sent next h.looks
+  queries_move old new false false option asks o z y payload sent next lands f h = tells_move old new (Options z) (option_error option Invalid y) sent next h (to_terms old new z y f h.2)
+
+  extended_moves : (old new : D) (is_chunks is_list is_set : Bool) (z : Terms) (option : ℕ) (payload sent : List ℕ) (next : Phase)
+      → MatchBool is_chunks (Tells view.outline (PoolCall view) (structures z payload) old sent next new)
+      (MatchBool is_list (Queries view.outline (PoolCall view) OPTION_LIST_META_CONTEXT lists (list_context z) z z payload old sent next new)
+      (MatchBool is_set (Queries view.outline (PoolCall view) OPTION_SET_META_CONTEXT asks_for (set_context z) z (in_context z 16777216) payload old sent next new)
+      (Tells view.outline (PoolCall view) (option_error option Unsupported z) old sent next new)))
+      → Moves old new (Options z) next
+  extended_moves old new true is_list is_set z option payload sent next h = structured_moves old new (length payload == 0) z sent next h
+  extended_moves old new false true is_set z option payload sent next h =
+      queries_move old new (is_failed (view.outline old).mode) z.is_structured OPTION_LIST_META_CONTEXT lists (list_context z) z z payload sent next (list_lands z) (refl, refl) h
+  extended_moves old new false false true z option payload sent next h =
+      queries_move old new (is_failed (view.outline old).mode) z.is_structured OPTION_SET_META_CONTEXT asks_for (set_context z) z (in_context z 16777216) payload sent next (set_lands z) (refl, refl) h
+  extended_moves old new false false false z option payload sent next h = tells_move old new (Options z) (option_error option Unsupported z) sent next h (to_options old new z h.2)
+
+  chosen_moves : (old new : D) (is_go is_info is_export is_list is_abort is_long : Bool) (z : Terms) (option : ℕ) (payload sent : List ℕ) (next : Phase)
       → MatchBool is_go (Informs view.outline (PoolCall view) OPTION_GO (go z) z payload old sent next new)
       (MatchBool is_info (Informs view.outline (PoolCall view) OPTION_INFO (info z) z payload old sent next new)
       (MatchBool is_export (Exports view.outline (PoolCall view) (export_name z) z payload old sent next new)
       (MatchBool is_list (Lists view.outline (PoolCall view) z payload old sent next new)
-      (MatchBool is_abort (Ends view.outline (PoolCall view) (option_reply OPTION_ABORT Acknowledged []) (Options z) old sent next new) (Tells view.outline (PoolCall view) (option_error option Unsupported z) old sent next new)))))
+      (MatchBool is_abort (Ends view.outline (PoolCall view) (option_reply OPTION_ABORT Acknowledged []) (Options z) old sent next new)
+      (MatchBool is_long (Extends view.outline (PoolCall view) z option payload old sent next new) (Tells view.outline (PoolCall view) (option_error option Unsupported z) old sent next new))))))
       → Moves old new (Options z) next
-  chosen_moves old new true is_info is_export is_list is_abort z option payload sent next h = informs_move old new z (go z) (go_lands z) (is_failed (view.outline old).mode) OPTION_GO payload sent next h
-  chosen_moves old new false true is_export is_list is_abort z option payload sent next h = informs_move old new z (info z) (info_lands z) (is_failed (view.outline old).mode) OPTION_INFO payload sent next h
-  chosen_moves old new false false true is_list is_abort z option payload sent next h = exports_move old new z (export_name z) (export_lands z) (is_failed (view.outline old).mode) payload sent next h
-  chosen_moves old new false false false true is_abort z option payload sent next h = lists_move old new (is_failed (view.outline old).mode) z payload sent next h
-  chosen_moves old new false false false false true z option payload sent next h = ends_move old new (option_reply OPTION_ABORT Acknowledged []) (Options z) next sent h
-  chosen_moves old new false false false false false z option payload sent next h = tells_move old new (Options z) (option_error option Unsupported z) sent next h (to_options old new z h.2)
+  chosen_moves old new true is_info is_export is_list is_abort is_long z option payload sent next h = informs_move old new z (go z) (go_lands z) (is_failed (view.outline old).mode) OPTION_GO payload sent next h
+  chosen_moves old new false true is_export is_list is_abort is_long z option payload sent next h = informs_move old new z (info z) (info_lands z) (is_failed (view.outline old).mode) OPTION_INFO payload sent next h
+  chosen_moves old new false false true is_list is_abort is_long z option payload sent next h = exports_move old new z (export_name z) (export_lands z) (is_failed (view.outline old).mode) payload sent next h
+  chosen_moves old new false false false true is_abort is_long z option payload sent next h = lists_move old new (is_failed (view.outline old).mode) z payload sent next h
+  chosen_moves old new false false false false true is_long z option payload sent next h = ends_move old new (option_reply OPTION_ABORT Acknowledged []) (Options z) next sent h
+  chosen_moves old new false false false false false true z option payload sent next h =
+      extended_moves old new (option == OPTION_STRUCTURED_REPLY) (option == OPTION_LIST_META_CONTEXT) (option == OPTION_SET_META_CONTEXT) z option payload sent next h
+  chosen_moves old new false false false false false false z option payload sent next h = tells_move old new (Options z) (option_error option Unsupported z) sent next h (to_options old new z h.2)
 
   answers_move : (old new : D) (phase next : Phase) (m : Message) (sent : List ℕ) → Answers view.outline (PoolCall view) phase m old sent next new → Moves old new phase next
   answers_move old new (Flags a) next (client_flags z) sent h =
@@ -449,18 +505,29 @@ module _ {D : Type 0} (view : View D) (laws : ViewLaws view) where
   answers_move old new (Flags a) next (command r q) sent h = absurd h
   answers_move old new (Flags a) next malformed sent h = ends_move old new [] (Flags a) next sent h
   answers_move old new (Options z) next (client_flags y) sent h = absurd h
-  answers_move old new (Options z) next (client_option o q) sent h = chosen_moves old new (o == OPTION_GO) (o == OPTION_INFO) (o == OPTION_EXPORT_NAME) (o == OPTION_LIST) (o == OPTION_ABORT) z o q sent next h
+  answers_move old new (Options z) next (client_option o q) sent h = chosen_moves old new (o == OPTION_GO) (o == OPTION_INFO) (o == OPTION_EXPORT_NAME) (o == OPTION_LIST) (o == OPTION_ABORT) (is_extended z.profile) z o q sent next h
   answers_move old new (Options z) next (command r q) sent h = absurd h
   answers_move old new (Options z) next malformed sent h = ends_move old new [] (Options z) next sent h
   answers_move old new (Transmission v n (Listens x)) next (client_flags y) sent h = absurd h
   answers_move old new (Transmission v n (Listens x)) next (client_option o q) sent h = absurd h
-  answers_move old new (Transmission v n (Listens x)) next (command r q) sent h = serves_move old new (verdict_in x n r) v n x r q sent next (long_is_extended x n r) h
+  answers_move old new (Transmission v n (Listens x)) next (command r q) sent h = serves_move old new (verdict_in x n r) v n x r q sent next h
   answers_move old new (Transmission v n (Listens x)) next malformed sent h = ends_move old new [] (Transmission v n (Listens x)) next sent h
-  answers_move old new (Transmission v n (Works r)) next m sent h = absurd h
+  answers_move old new (Transmission v n (Works x r)) next m sent h = absurd h
   answers_move old new Ended next (client_flags y) sent h = absurd h
   answers_move old new Ended next (client_option o q) sent h = absurd h
   answers_move old new Ended next (command r q) sent h = absurd h
   answers_move old new Ended next malformed sent h = ends_move old new [] Ended next sent h
+
+  sound_by : (z : Terms) (next : Phase) → Follows (Options z) next → IsSound next
+  sound_by z (Flags a) f = tt
+  sound_by z (Options y) f = tt
+  sound_by z (Transmission v n (Listens x)) f = tt
+  sound_by z (Transmission v n (Works x r)) f = absurd cc
+  sound_by z Ended f = tt
+
+  -- no option begins a long request
+  pub chosen_sound : (old new : D) (z : Terms) (option : ℕ) (payload sent : List ℕ) (next : Phase) → Chooses view.outline (PoolCall view) z option payload old sent next new → IsSound next
+  chosen_sound old new z option payload sent next h = sound_by z next (answers_move old new (Options z) next (client_option option payload) sent h).follows
 
   -- the same of a step
   record Stands (old new : D) (phase next : Phase) : Type 0 where
@@ -472,7 +539,7 @@ module _ {D : Type 0} (view : View D) (laws : ViewLaws view) where
 
   same_phase : (phase : Phase) → Follows phase phase
   same_phase (Flags a) = refl
-  same_phase (Options z) = refl
+  same_phase (Options z) = (refl, refl)
   same_phase (Transmission v n c) = (refl, refl, refl)
   same_phase Ended = tt
 
@@ -500,7 +567,7 @@ module _ {D : Type 0} (view : View D) (laws : ViewLaws view) where
 
   deaf_stands : (phase : Phase) (old new : D) (from to : State) (piece sent : List ℕ) (taken : ℕ) (ended : Bool) → from.phase ≡ phase
       → IsDeaf view.outline (PoolCall view) phase from old piece taken sent ended to new → IsReady phase (view.outline old) (view.more old) → Stands old new phase to.phase
-  deaf_stands (Transmission v n (Works r)) old new from to piece sent taken ended e h ready = moves_stand old new (Transmission v n (Works r)) to.phase (part_moves old new v n r sent to.phase h.part) ready
+  deaf_stands (Transmission v n (Works m r)) old new from to piece sent taken ended e h ready = moves_stand old new (Transmission v n (Works m r)) to.phase (part_moves old new v n m r sent to.phase h.part) ready
   deaf_stands Ended old new from to piece sent taken ended e h ready = stays_there old new Ended to.phase (h.phase_is ∙ e) h.pool_is ready
   deaf_stands (Flags a) old new from to piece sent taken ended e h ready = absurd h
   deaf_stands (Options z) old new from to piece sent taken ended e h ready = absurd h
@@ -517,7 +584,7 @@ module _ {D : Type 0} (view : View D) (laws : ViewLaws view) where
   -- how much is taken
   deaf_taken : (phase : Phase) (old new : D) (from to : State) (piece sent : List ℕ) (taken : ℕ) (ended : Bool)
       → IsDeaf view.outline (PoolCall view) phase from old piece taken sent ended to new → (0 < length piece → is_at_work phase ≡ false → 0 < taken) × (taken ≤ length piece)
-  deaf_taken (Transmission v n (Works r)) old new from to piece sent taken ended h = let e = h.taken_is in ((λ lt w. absurd cc), omega arith)
+  deaf_taken (Transmission v n (Works m r)) old new from to piece sent taken ended h = let e = h.taken_is in ((λ lt w. absurd cc), omega arith)
   deaf_taken Ended old new from to piece sent taken ended h = let e = h.taken_is in ((λ lt w. omega arith), omega arith)
   deaf_taken (Flags a) old new from to piece sent taken ended h = absurd h
   deaf_taken (Options z) old new from to piece sent taken ended h = absurd h
@@ -536,7 +603,7 @@ module _ {D : Type 0} (view : View D) (laws : ViewLaws view) where
   elsewhere : (next to : Phase) → next ≡ to → is_at_work to ≡ false → is_at_work next ≡ true → ⊥
   elsewhere next to e idle w = let same : is_at_work next ≡ is_at_work to = ap is_at_work e in absurd cc
 
-  serves_quiet : (old new : D) (d : Verdict) (v n : ℕ) (x : Bool) (r : Request) (payload sent : List ℕ) (next : Phase)
+  serves_quiet : (old new : D) (d : Verdict) (v n : ℕ) (x : Manner) (r : Request) (payload sent : List ℕ) (next : Phase)
       → Serves view.outline (PoolCall view) d v n x r payload old sent next new → is_at_work next ≡ true → sent ≡ []
   serves_quiet old new verdicts.Disconnect v n x r payload sent next h w = absurd (elsewhere next Ended h.1 refl w)
   serves_quiet old new (verdicts.Refuse e) v n x r payload sent next h w = absurd (elsewhere next (Transmission v n (Listens x)) h.1 refl w)
@@ -546,6 +613,7 @@ module _ {D : Type 0} (view : View D) (laws : ViewLaws view) where
   serves_quiet old new verdicts.Trim v n x r payload sent next h w = absurd (elsewhere next (Transmission v n (Listens x)) h.1 refl w)
   serves_quiet old new verdicts.WriteZeroes v n x r payload sent next h w = absurd (elsewhere next (Transmission v n (Listens x)) h.1 refl w)
   serves_quiet old new verdicts.Flush v n x r payload sent next h w = absurd (elsewhere next (Transmission v n (Listens x)) h.1 refl w)
+  serves_quiet old new verdicts.Status v n x r payload sent next h w = absurd (elsewhere next (Transmission v n (Listens x)) h.1 refl w)
   serves_quiet old new verdicts.Long v n x r payload sent next h w = h.0
 
   flags_idle : (a : Profile) (next : Phase) → Follows (Flags a) next → is_at_work next ≡ true → ⊥
@@ -557,7 +625,7 @@ module _ {D : Type 0} (view : View D) (laws : ViewLaws view) where
   options_idle : (z : Terms) (next : Phase) → Follows (Options z) next → is_at_work next ≡ true → ⊥
   options_idle z (Flags a) f w = f
   options_idle z (Options y) f w = absurd cc
-  options_idle z (Transmission v n c) f w = elsewhere (Transmission v n c) (Transmission v n (Listens (is_extended z.profile))) (ap (λ (d : Course). Transmission v n d) f) refl w
+  options_idle z (Transmission v n c) f w = elsewhere (Transmission v n c) (Transmission v n (Listens (manner_of z v))) (ap (λ (d : Course). Transmission v n d) f) refl w
   options_idle z Ended f w = absurd cc
 
   answers_quiet : (old new : D) (phase next : Phase) (m : Message) (sent : List ℕ) → Answers view.outline (PoolCall view) phase m old sent next new → is_at_work next ≡ true → sent ≡ []
@@ -567,25 +635,25 @@ module _ {D : Type 0} (view : View D) (laws : ViewLaws view) where
   answers_quiet old new (Transmission v n (Listens x)) next (client_option o q) sent h w = absurd h
   answers_quiet old new (Transmission v n (Listens x)) next (command r q) sent h w = serves_quiet old new (verdict_in x n r) v n x r q sent next h w
   answers_quiet old new (Transmission v n (Listens x)) next malformed sent h w = h.0
-  answers_quiet old new (Transmission v n (Works r)) next m sent h w = absurd h
+  answers_quiet old new (Transmission v n (Works x r)) next m sent h w = absurd h
   answers_quiet old new Ended next (client_flags y) sent h w = absurd h
   answers_quiet old new Ended next (client_option o q) sent h w = absurd h
   answers_quiet old new Ended next (command r q) sent h w = absurd h
   answers_quiet old new Ended next malformed sent h w = h.0
 
-  made_quiet : (v n : ℕ) (r rest : Request) (last : Bool) (answer : Answer) (sent : List ℕ) (next : Phase) → IsMade v n r rest last answer sent next → is_at_work next ≡ true → sent ≡ []
-  made_quiet v n r rest true Done sent next h w = absurd (elsewhere next (Transmission v n (Listens true)) h.1 refl w)
-  made_quiet v n r rest false Done sent next h w = h.0
-  made_quiet v n r rest last (Gave sectors) sent next h w = absurd (elsewhere next (Transmission v n (Listens true)) h.1 refl w)
-  made_quiet v n r rest last (Line bytes) sent next h w = absurd (elsewhere next (Transmission v n (Listens true)) h.1 refl w)
-  made_quiet v n r rest last (Found id) sent next h w = absurd (elsewhere next (Transmission v n (Listens true)) h.1 refl w)
-  made_quiet v n r rest last (Sized blocks) sent next h w = absurd (elsewhere next (Transmission v n (Listens true)) h.1 refl w)
-  made_quiet v n r rest last (Listed slots) sent next h w = absurd (elsewhere next (Transmission v n (Listens true)) h.1 refl w)
-  made_quiet v n r rest last (Refused reason) sent next h w = absurd (elsewhere next (Transmission v n (Listens true)) h.1 refl w)
+  made_quiet : (v n : ℕ) (m : Manner) (r rest : Request) (last : Bool) (answer : Answer) (sent : List ℕ) (next : Phase) → IsMade v n m r rest last answer sent next → is_at_work next ≡ true → sent ≡ []
+  made_quiet v n m r rest true Done sent next h w = absurd (elsewhere next (Transmission v n (Listens m)) h.1 refl w)
+  made_quiet v n m r rest false Done sent next h w = h.0
+  made_quiet v n m r rest last (Gave sectors) sent next h w = absurd (elsewhere next (Transmission v n (Listens m)) h.1 refl w)
+  made_quiet v n m r rest last (Line bytes) sent next h w = absurd (elsewhere next (Transmission v n (Listens m)) h.1 refl w)
+  made_quiet v n m r rest last (Found id) sent next h w = absurd (elsewhere next (Transmission v n (Listens m)) h.1 refl w)
+  made_quiet v n m r rest last (Sized blocks) sent next h w = absurd (elsewhere next (Transmission v n (Listens m)) h.1 refl w)
+  made_quiet v n m r rest last (Listed slots) sent next h w = absurd (elsewhere next (Transmission v n (Listens m)) h.1 refl w)
+  made_quiet v n m r rest last (Refused reason) sent next h w = absurd (elsewhere next (Transmission v n (Listens m)) h.1 refl w)
 
   deaf_quiet : (phase : Phase) (old new : D) (from to : State) (piece sent : List ℕ) (taken : ℕ) (ended : Bool)
       → IsDeaf view.outline (PoolCall view) phase from old piece taken sent ended to new → is_at_work to.phase ≡ true → sent ≡ []
-  deaf_quiet (Transmission v n (Works r)) old new from to piece sent taken ended h w = made_quiet v n r _ _ h.part.answer sent to.phase h.part.is_made w
+  deaf_quiet (Transmission v n (Works m r)) old new from to piece sent taken ended h w = made_quiet v n m r _ _ h.part.answer sent to.phase h.part.is_made w
   deaf_quiet Ended old new from to piece sent taken ended h w = h.sent_is
   deaf_quiet (Flags a) old new from to piece sent taken ended h w = absurd h
   deaf_quiet (Options z) old new from to piece sent taken ended h w = absurd h
@@ -602,8 +670,8 @@ module _ {D : Type 0} (view : View D) (laws : ViewLaws view) where
   -- parts of a request end no session
   deaf_open : (phase : Phase) (old new : D) (from to : State) (piece sent : List ℕ) (taken : ℕ) (ended : Bool)
       → IsDeaf view.outline (PoolCall view) phase from old piece taken sent ended to new → is_at_work phase ≡ true → has_ended to.phase ≡ false
-  deaf_open (Transmission v n (Works r)) old new from to piece sent taken ended h w =
-      let next = made_next v n r _ _ h.part.answer sent to.phase h.part.is_made in
+  deaf_open (Transmission v n (Works m r)) old new from to piece sent taken ended h w =
+      let next = made_next v n m r _ _ h.part.answer sent to.phase h.part.is_made in
       ap has_ended next.1
   deaf_open Ended old new from to piece sent taken ended h w = absurd cc
   deaf_open (Flags a) old new from to piece sent taken ended h w = absurd h
@@ -614,7 +682,7 @@ module _ {D : Type 0} (view : View D) (laws : ViewLaws view) where
   working_speaks_not (Flags a) kind e w = absurd cc
   working_speaks_not (Options z) kind e w = absurd cc
   working_speaks_not (Transmission v n (Listens x)) kind e w = absurd cc
-  working_speaks_not (Transmission v n (Works r)) kind e w = absurd cc
+  working_speaks_not (Transmission v n (Works m r)) kind e w = absurd cc
   working_speaks_not Ended kind e w = absurd cc
 
   open_by : (o : Option Kind) (old new : D) (from to : State) (piece sent : List ℕ) (taken : ℕ) (ended : Bool) → kind_of from.phase ≡ o

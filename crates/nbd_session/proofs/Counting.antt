@@ -1,5 +1,5 @@
 -- How often a volume is held, before and after a session begins to hold one, or ends.
-use Rattle.std.proofs.Common.{◌≡◌, ◌≢◌, ℕ, ◌+◌, ◌-◌, ◌<◌, ◌≤◌, ◌==◌, Bool, false, cond, Option, Some, None, inl, inr, refl, sym, ap, subst, ◌∙◌, arith}
+use Rattle.std.proofs.Common.{◌≡◌, ◌≢◌, ℕ, ◌+◌, ◌-◌, ◌<◌, ◌≤◌, ◌==◌, Bool, cond, Option, Some, None, inl, inr, refl, sym, ap, subst, ◌∙◌, arith}
 use Rattle.std.specs.Prelude.{if◌then◌else◌}
 use Rattle.std.specs.Option.{unwrap_or}
 use Rattle.std.specs.Ordering.{nat_cmp}
@@ -13,6 +13,7 @@ use Rattle.nbd_session.specs.declared.phase.Course.TheVariants.{Listens}
 use Rattle.nbd_session.specs.declared.phase.Phase.{Phase}
 use Rattle.nbd_session.specs.declared.phase.Phase.TheVariants.{Flags, Options, Transmission, Ended}
 use Rattle.nbd_session.specs.Clauses.{Follows, HoldsFollow, held_beside}
+use Rattle.nbd_session.specs.Session.{manner_of}
 
 -- ---- one volume more, or less
 
@@ -110,7 +111,7 @@ beside_stays (Options z) (Options y) h h' i f e = ap (λ (m : FinMap nat_cmp ℕ
 beside_stays (Options z) (Transmission v n c) h h' i f e = ap (λ (m : FinMap nat_cmp ℕ). held_beside (Transmission v n c) m i) e ∙ entered v n i c h
 beside_stays (Options z) Ended h h' i f (inl e) = ap (λ (m : FinMap nat_cmp ℕ). hold_count m i) e
 beside_stays (Options z) Ended h h' i f (inr (v, e)) =
-    ap (λ (m : FinMap nat_cmp ℕ). hold_count m i) e ∙ (left v 0 i (Listens false) (holds_after h (Hold v) Done) ∙ entered v 0 i (Listens false) h)
+    ap (λ (m : FinMap nat_cmp ℕ). hold_count m i) e ∙ (left v 0 i (Listens (manner_of z v)) (holds_after h (Hold v) Done) ∙ entered v 0 i (Listens (manner_of z v)) h)
 beside_stays (Transmission v n c) (Flags a) h h' i f e = absurd f
 beside_stays (Transmission v n c) (Options z) h h' i f e = absurd f
 beside_stays (Transmission v n c) (Transmission w m d) h h' i f e =

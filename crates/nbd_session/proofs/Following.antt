@@ -4,21 +4,27 @@ use Rattle.std.specs.Prelude.{MatchOption, MatchBool, ◌==◌, if◌then◌else
 use Rattle.tp_model.specs.declared.mode.Mode.{Mode}
 use Rattle.tp_model.specs.Geometry.{Geometry}
 use Rattle.tp_model.specs.Pool.{Outline}
-use Rattle.tp_model.specs.Calls.{Call, Answer, Done, Found, Gave, Hold, LetGo, Line, NextId, Refused, Sized, Listed, VolumeBlocks, is_failed, is_read_only}
+use Rattle.tp_model.specs.Calls.{Call, Answer, Done, Found, Gave, Hold, LetGo, Line, NextId, Refused, Sized, Listed, VolumeBlocks, Walk, is_failed, is_read_only}
 use Rattle.nbd_wire.specs.declared.Kind.{Kind}
 use Rattle.nbd_wire.specs.declared.Request.{Request}
-use Rattle.nbd_wire.specs.declared.TheConstants.{OPTION_ABORT, OPTION_EXPORT_NAME, OPTION_GO, OPTION_INFO, OPTION_LIST}
+use Rattle.nbd_wire.specs.declared.TheConstants.{OPTION_ABORT, OPTION_EXPORT_NAME, OPTION_GO, OPTION_INFO, OPTION_LIST, OPTION_LIST_META_CONTEXT, OPTION_SET_META_CONTEXT, OPTION_STRUCTURED_REPLY}
 use Rattle.nbd_wire.specs.declared.writing.ReplyType.TheVariants.{Acknowledged, Invalid, Unsupported}
 use Rattle.nbd_wire.specs.Replies.{option_reply}
 use Rattle.nbd_wire.specs.Grammar.{Message, client_flags, client_option, command, malformed}
 use Rattle.nbd_session.specs.declared.phase.Course.TheVariants.{Listens, Works}
 use Rattle.nbd_session.specs.declared.phase.Terms.{Terms}
+use Rattle.nbd_session.specs.declared.phase.Manner.{Manner}
 use Rattle.nbd_session.specs.declared.phase.Phase.{Phase}
 use Rattle.nbd_session.specs.declared.phase.Phase.TheVariants.{Flags, Options, Transmission, Ended}
 use Rattle.nbd_session.specs.declared.request.Verdict.{Verdict}
 use Rattle.nbd_session.specs.declared.request.Verdict.TheVariants as verdicts
 use Rattle.nbd_session.specs.Requests.{bytes_of_blocks, is_last, part_call, rest_of, verdict_in}
-use Rattle.nbd_session.specs.Session.{State, Outcome, outcome, option_error, VolumeOption, export_name, go, info, kind_of, transmission_flags, terms_of, LetsGo, Ends, Tells, Performs, Serves, IsMade, MakesPart, IsDeaf, IsSized, Sizes, IsHeld, Holds, Enters, Finds, AsksFor, LooksFor, is_there, IsInvalid, IsValid, Informs, Exports, Finding, IsEnough, IsLast, IsRefused, Lists, NamesAll, NamesNone, Answers, Waits, TakesFrame, Steps}
+use Rattle.tp_model.specs.declared.refusal.NbdError.TheVariants as errors
+use Rattle.tp_model.specs.Refusals.{nbd_code}
+use Rattle.nbd_wire.specs.Chunks.{error_chunk}
+use Rattle.nbd_wire.specs.Contexts.{asks_for, lists}
+use Rattle.nbd_session.specs.Status.{first_block, unit_of}
+use Rattle.nbd_session.specs.Session.{State, Outcome, outcome, option_error, VolumeOption, export_name, go, info, in_context, is_extended, kind_of, list_context, set_context, structures, transmission_flags, terms_of, LetsGo, Ends, Tells, Performs, Serves, IsMade, MakesPart, IsDeaf, IsSized, Sizes, IsHeld, Holds, Enters, Finds, AsksFor, LooksFor, is_there, IsInvalid, IsValid, Informs, Exports, Finding, IsEnough, IsLast, IsRefused, Lists, NamesAll, NamesNone, Answers, Waits, TakesFrame, Steps, Describes, Extends, IsDescribed, IsNoQuery, IsQueried, Queries, Walks}
 
 -- Calls of one kind of pool, and Calls' of another. R: what stands between them, and goes on from call to call.
 module _ {D B : Type 0} (outline : D → Outline) (Calls : D → Call → Answer → D → Type 0) (outline' : B → Outline) (Calls' : B → Call → Answer → B → Type 0) (R : D → B → Type 0)
@@ -141,33 +147,49 @@ module _ {D B : Type 0} (outline : D → Outline) (Calls : D → Call → Answer
     ends_likewise : (last : List ℕ) (phase next : Phase) (sent : List ℕ) → Ends outline Calls last phase old sent next new → Likewise (Ends outline' Calls' last phase s sent next) new
     ends_likewise last phase next sent h = let m = lets_go_likewise phase h.2 in (m.0, (h.0, h.1, m.1), m.2)
 
-    performs_likewise : (call : Call) (cookie : ℕ) (sent : List ℕ) → Performs outline Calls call cookie old sent new → Likewise (Performs outline' Calls' call cookie s sent) new
-    performs_likewise call cookie sent h = let m = call_likewise call h.answer h.calls in (m.0, record { answer = h.answer; calls = m.1; sent_is = h.sent_is }, m.2)
+    performs_likewise : (call : Call) (reply : Answer → List ℕ) (sent : List ℕ) → Performs outline Calls call reply old sent new → Likewise (Performs outline' Calls' call reply s sent) new
+    performs_likewise call reply sent h = let m = call_likewise call h.answer h.calls in (m.0, record { answer = h.answer; calls = m.1; sent_is = h.sent_is }, m.2)
 
-    performed : (call : Call) (cookie v n : ℕ) (x : Bool) (sent : List ℕ) (next : Phase) → Performs outline Calls call cookie old sent new × (next ≡ Transmission v n (Listens x))
-        → Likewise (λ s'. Performs outline' Calls' call cookie s sent s' × (next ≡ Transmission v n (Listens x))) new
-    performed call cookie v n x sent next h = let m = performs_likewise call cookie sent h.0 in (m.0, (m.1, h.1), m.2)
+    performed : (call : Call) (reply : Answer → List ℕ) (v n : ℕ) (x : Manner) (sent : List ℕ) (next : Phase) → Performs outline Calls call reply old sent new × (next ≡ Transmission v n (Listens x))
+        → Likewise (λ s'. Performs outline' Calls' call reply s sent s' × (next ≡ Transmission v n (Listens x))) new
+    performed call reply v n x sent next h = let m = performs_likewise call reply sent h.0 in (m.0, (m.1, h.1), m.2)
 
     tells_likewise : (o : Outcome) (sent : List ℕ) (next : Phase) → Tells outline Calls o old sent next new → Likewise (Tells outline' Calls' o s sent next) new
     tells_likewise o sent next h = resting _ old new s h.2 is_shown (h.0, h.1, refl)
 
-    serves_likewise : (d : Verdict) (v n : ℕ) (x : Bool) (r : Request) (payload sent : List ℕ) (next : Phase) → Serves outline Calls d v n x r payload old sent next new
+    described_by : (b : Bool) (v : ℕ) (r : Request) (sent told : List ℕ) → MatchBool b (Walks outline Calls v r old sent new) ((sent ≡ told) × (new ≡ old))
+        → Likewise (λ s'. MatchBool b (Walks outline' Calls' v r s sent s') ((sent ≡ told) × (s' ≡ s))) new
+    described_by true v r sent told h =
+        let P : Geometry → Type 0 = λ g. Likewise (Calls' s (Walk v (first_block (unit_of g) r)) h.answer) new in
+        let m = subst P (sym same_geometry) (call_likewise (Walk v (first_block (unit_of (outline old).geometry) r)) h.answer h.calls) in
+        let Q : Geometry → Type 0 = λ g. IsDescribed (unit_of g) r h.answer sent in
+        (m.0, record { answer = h.answer; calls = m.1; is_described = subst Q (sym same_geometry) h.is_described }, m.2)
+    described_by false v r sent told h = resting _ old new s h.1 is_shown (h.0, refl)
+
+    describes_likewise : (v : ℕ) (r : Request) (sent : List ℕ) → Describes outline Calls v r old sent new → Likewise (Describes outline' Calls' v r s sent) new
+    describes_likewise v r sent h =
+        let P : Geometry → Type 0 = λ g. Likewise (λ s'. MatchBool (nat_lt (first_block (unit_of g) r) 16777216) (Walks outline' Calls' v r s sent s')
+        ((sent ≡ error_chunk (nbd_code errors.Invalid) r.cookie) × (s' ≡ s))) new in
+        subst P (sym same_geometry) (described_by (nat_lt (first_block (unit_of (outline old).geometry) r) 16777216) v r sent _ h)
+
+    serves_likewise : (d : Verdict) (v n : ℕ) (x : Manner) (r : Request) (payload sent : List ℕ) (next : Phase) → Serves outline Calls d v n x r payload old sent next new
         → Likewise (Serves outline' Calls' d v n x r payload s sent next) new
     serves_likewise verdicts.Disconnect v n x r payload sent next h = ends_likewise [] (Transmission v n (Listens x)) next sent h
     serves_likewise (verdicts.Refuse e) v n x r payload sent next h = tells_likewise _ sent next h
     serves_likewise verdicts.Nothing v n x r payload sent next h = tells_likewise _ sent next h
-    serves_likewise verdicts.Read v n x r payload sent next h = performed _ r.cookie v n x sent next h
-    serves_likewise verdicts.Write v n x r payload sent next h = performed _ r.cookie v n x sent next h
-    serves_likewise verdicts.Trim v n x r payload sent next h = performed _ r.cookie v n x sent next h
-    serves_likewise verdicts.WriteZeroes v n x r payload sent next h = performed _ r.cookie v n x sent next h
-    serves_likewise verdicts.Flush v n x r payload sent next h = performed _ r.cookie v n x sent next h
+    serves_likewise verdicts.Read v n x r payload sent next h = performed _ _ v n x sent next h
+    serves_likewise verdicts.Write v n x r payload sent next h = performed _ _ v n x sent next h
+    serves_likewise verdicts.Trim v n x r payload sent next h = performed _ _ v n x sent next h
+    serves_likewise verdicts.WriteZeroes v n x r payload sent next h = performed _ _ v n x sent next h
+    serves_likewise verdicts.Flush v n x r payload sent next h = performed _ _ v n x sent next h
+    serves_likewise verdicts.Status v n x r payload sent next h = let m = describes_likewise v r sent h.0 in (m.0, (m.1, h.1), m.2)
     serves_likewise verdicts.Long v n x r payload sent next h = tells_likewise _ sent next h
 
-    pub part_likewise : (v n : ℕ) (r : Request) (sent : List ℕ) (next : Phase) → MakesPart outline Calls v n r old sent next new → Likewise (MakesPart outline' Calls' v n r s sent next) new
-    part_likewise v n r sent next h =
+    pub part_likewise : (v n : ℕ) (x : Manner) (r : Request) (sent : List ℕ) (next : Phase) → MakesPart outline Calls v n x r old sent next new → Likewise (MakesPart outline' Calls' v n x r s sent next) new
+    part_likewise v n x r sent next h =
         let P : Geometry → Type 0 = λ g. Likewise (Calls' s (part_call v g r) h.answer) new in
         let m = subst P (sym same_geometry) (call_likewise (part_call v (outline old).geometry r) h.answer h.calls) in
-        let Q : Geometry → Type 0 = λ g. IsMade v n r (rest_of g r) (is_last g r) h.answer sent next in
+        let Q : Geometry → Type 0 = λ g. IsMade v n x r (rest_of g r) (is_last g r) h.answer sent next in
         (m.0, record { answer = h.answer; calls = m.1; is_made = subst Q (sym same_geometry) h.is_made }, m.2)
 
     asks_likewise : (o : VolumeOption) (id : ℕ) (sent : List ℕ) (next : Phase) → AsksFor outline Calls o id old sent next new → Likewise (AsksFor outline' Calls' o id s sent next) new
@@ -239,23 +261,59 @@ module _ {D B : Type 0} (outline : D → Outline) (Calls : D → Call → Answer
         (MatchBool (length payload == 0) (NamesAll outline' Calls' z s sent next s' ⊎ NamesNone outline' Calls' s sent next s') (Tells outline' Calls' (option_error OPTION_LIST Invalid z) s sent next s'))) new in
         subst P (sym (same_mode)) (lists_by (is_failed (outline old).mode) z payload sent next h)
 
-    chosen_by : (is_go is_info is_export is_list is_abort : Bool) (z : Terms) (option : ℕ) (payload sent : List ℕ) (next : Phase)
+    queries_by : (b c : Bool) (option : ℕ) (asks : List (List ℕ) → Bool) (o : Bool → VolumeOption) (z y : Terms) (payload sent : List ℕ) (next : Phase)
+        → MatchBool b (Ends outline Calls [] (Options z) old sent next new)
+        (MatchBool c (IsNoQuery outline Calls option y payload old sent next new ⊎ IsQueried outline Calls asks o payload old sent next new) (Tells outline Calls (option_error option Invalid y) old sent next new))
+        → Likewise (λ s'. MatchBool b (Ends outline' Calls' [] (Options z) s sent next s')
+        (MatchBool c (IsNoQuery outline' Calls' option y payload s sent next s' ⊎ IsQueried outline' Calls' asks o payload s sent next s') (Tells outline' Calls' (option_error option Invalid y) s sent next s'))) new
+    queries_by true c option asks o z y payload sent next h = ends_likewise [] (Options z) next sent h
+    queries_by false true option asks o z y payload sent next (inl h) = let m = tells_likewise _ sent next h.tells in (m.0, inl (record { no_query = h.no_query; tells = m.1 }), m.2)
+    queries_by false true option asks o z y payload sent next (inr h) =
+        let m = looks_likewise (o (asks h.queries)) h.name sent next h.looks in
+        (m.0, inr (record { name = h.name; queries = h.queries; query = h.query; looks = m.1 }), m.2)
+    queries_by false false option asks o z y payload sent next h = tells_likewise (option_error option Invalid y) sent next h
+
+    queries_likewise : (option : ℕ) (asks : List (List ℕ) → Bool) (o : Bool → VolumeOption) (z y : Terms) (payload sent : List ℕ) (next : Phase) → Queries outline Calls option asks o z y payload old sent next new
+        → Likewise (Queries outline' Calls' option asks o z y payload s sent next) new
+    queries_likewise option asks o z y payload sent next h =
+        let P : Mode → Type 0 = λ m. Likewise (λ s'. MatchBool (is_failed m) (Ends outline' Calls' [] (Options z) s sent next s')
+        (MatchBool z.is_structured (IsNoQuery outline' Calls' option y payload s sent next s' ⊎ IsQueried outline' Calls' asks o payload s sent next s') (Tells outline' Calls' (option_error option Invalid y) s sent next s'))) new in
+        subst P (sym (same_mode)) (queries_by (is_failed (outline old).mode) z.is_structured option asks o z y payload sent next h)
+
+    extends_likewise : (is_chunks is_list is_set : Bool) (z : Terms) (option : ℕ) (payload sent : List ℕ) (next : Phase)
+        → MatchBool is_chunks (Tells outline Calls (structures z payload) old sent next new)
+        (MatchBool is_list (Queries outline Calls OPTION_LIST_META_CONTEXT lists (list_context z) z z payload old sent next new)
+        (MatchBool is_set (Queries outline Calls OPTION_SET_META_CONTEXT asks_for (set_context z) z (in_context z 16777216) payload old sent next new)
+        (Tells outline Calls (option_error option Unsupported z) old sent next new)))
+        → Likewise (λ s'. MatchBool is_chunks (Tells outline' Calls' (structures z payload) s sent next s')
+        (MatchBool is_list (Queries outline' Calls' OPTION_LIST_META_CONTEXT lists (list_context z) z z payload s sent next s')
+        (MatchBool is_set (Queries outline' Calls' OPTION_SET_META_CONTEXT asks_for (set_context z) z (in_context z 16777216) payload s sent next s')
+        (Tells outline' Calls' (option_error option Unsupported z) s sent next s')))) new
+    extends_likewise true is_list is_set z option payload sent next h = tells_likewise (structures z payload) sent next h
+    extends_likewise false true is_set z option payload sent next h = queries_likewise OPTION_LIST_META_CONTEXT lists (list_context z) z z payload sent next h
+    extends_likewise false false true z option payload sent next h = queries_likewise OPTION_SET_META_CONTEXT asks_for (set_context z) z (in_context z 16777216) payload sent next h
+    extends_likewise false false false z option payload sent next h = tells_likewise (option_error option Unsupported z) sent next h
+
+    chosen_by : (is_go is_info is_export is_list is_abort is_long : Bool) (z : Terms) (option : ℕ) (payload sent : List ℕ) (next : Phase)
         → MatchBool is_go (Informs outline Calls OPTION_GO (go z) z payload old sent next new)
         (MatchBool is_info (Informs outline Calls OPTION_INFO (info z) z payload old sent next new)
         (MatchBool is_export (Exports outline Calls (export_name z) z payload old sent next new)
         (MatchBool is_list (Lists outline Calls z payload old sent next new)
-        (MatchBool is_abort (Ends outline Calls (option_reply OPTION_ABORT Acknowledged []) (Options z) old sent next new) (Tells outline Calls (option_error option Unsupported z) old sent next new)))))
+        (MatchBool is_abort (Ends outline Calls (option_reply OPTION_ABORT Acknowledged []) (Options z) old sent next new)
+        (MatchBool is_long (Extends outline Calls z option payload old sent next new) (Tells outline Calls (option_error option Unsupported z) old sent next new))))))
         → Likewise (λ s'. MatchBool is_go (Informs outline' Calls' OPTION_GO (go z) z payload s sent next s')
         (MatchBool is_info (Informs outline' Calls' OPTION_INFO (info z) z payload s sent next s')
         (MatchBool is_export (Exports outline' Calls' (export_name z) z payload s sent next s')
         (MatchBool is_list (Lists outline' Calls' z payload s sent next s')
-        (MatchBool is_abort (Ends outline' Calls' (option_reply OPTION_ABORT Acknowledged []) (Options z) s sent next s') (Tells outline' Calls' (option_error option Unsupported z) s sent next s')))))) new
-    chosen_by true is_info is_export is_list is_abort z option payload sent next h = informs_likewise OPTION_GO (go z) z payload sent next h
-    chosen_by false true is_export is_list is_abort z option payload sent next h = informs_likewise OPTION_INFO (info z) z payload sent next h
-    chosen_by false false true is_list is_abort z option payload sent next h = exports_likewise (export_name z) z payload sent next h
-    chosen_by false false false true is_abort z option payload sent next h = lists_likewise z payload sent next h
-    chosen_by false false false false true z option payload sent next h = ends_likewise (option_reply OPTION_ABORT Acknowledged []) (Options z) next sent h
-    chosen_by false false false false false z option payload sent next h = tells_likewise (option_error option Unsupported z) sent next h
+        (MatchBool is_abort (Ends outline' Calls' (option_reply OPTION_ABORT Acknowledged []) (Options z) s sent next s')
+        (MatchBool is_long (Extends outline' Calls' z option payload s sent next s') (Tells outline' Calls' (option_error option Unsupported z) s sent next s'))))))) new
+    chosen_by true is_info is_export is_list is_abort is_long z option payload sent next h = informs_likewise OPTION_GO (go z) z payload sent next h
+    chosen_by false true is_export is_list is_abort is_long z option payload sent next h = informs_likewise OPTION_INFO (info z) z payload sent next h
+    chosen_by false false true is_list is_abort is_long z option payload sent next h = exports_likewise (export_name z) z payload sent next h
+    chosen_by false false false true is_abort is_long z option payload sent next h = lists_likewise z payload sent next h
+    chosen_by false false false false true is_long z option payload sent next h = ends_likewise (option_reply OPTION_ABORT Acknowledged []) (Options z) next sent h
+    chosen_by false false false false false true z option payload sent next h = extends_likewise (option == OPTION_STRUCTURED_REPLY) (option == OPTION_LIST_META_CONTEXT) (option == OPTION_SET_META_CONTEXT) z option payload sent next h
+    chosen_by false false false false false false z option payload sent next h = tells_likewise (option_error option Unsupported z) sent next h
 
     pub answers_likewise : (phase next : Phase) (m : Message) (sent : List ℕ) → Answers outline Calls phase m old sent next new → Likewise (Answers outline' Calls' phase m s sent next) new
     answers_likewise (Flags a) next (client_flags z) sent h = tells_likewise (outcome [] (Options (terms_of a z))) sent next h
@@ -263,14 +321,14 @@ module _ {D B : Type 0} (outline : D → Outline) (Calls : D → Call → Answer
     answers_likewise (Flags a) next (command r q) sent h = absurd h
     answers_likewise (Flags a) next malformed sent h = ends_likewise [] (Flags a) next sent h
     answers_likewise (Options z) next (client_flags y) sent h = absurd h
-    answers_likewise (Options z) next (client_option o q) sent h = chosen_by (o == OPTION_GO) (o == OPTION_INFO) (o == OPTION_EXPORT_NAME) (o == OPTION_LIST) (o == OPTION_ABORT) z o q sent next h
+    answers_likewise (Options z) next (client_option o q) sent h = chosen_by (o == OPTION_GO) (o == OPTION_INFO) (o == OPTION_EXPORT_NAME) (o == OPTION_LIST) (o == OPTION_ABORT) (is_extended z.profile) z o q sent next h
     answers_likewise (Options z) next (command r q) sent h = absurd h
     answers_likewise (Options z) next malformed sent h = ends_likewise [] (Options z) next sent h
     answers_likewise (Transmission v n (Listens x)) next (client_flags y) sent h = absurd h
     answers_likewise (Transmission v n (Listens x)) next (client_option o q) sent h = absurd h
     answers_likewise (Transmission v n (Listens x)) next (command r q) sent h = serves_likewise (verdict_in x n r) v n x r q sent next h
     answers_likewise (Transmission v n (Listens x)) next malformed sent h = ends_likewise [] (Transmission v n (Listens x)) next sent h
-    answers_likewise (Transmission v n (Works r)) next m sent h = absurd h
+    answers_likewise (Transmission v n (Works x r)) next m sent h = absurd h
     answers_likewise Ended next (client_flags y) sent h = absurd h
     answers_likewise Ended next (client_option o q) sent h = absurd h
     answers_likewise Ended next (command r q) sent h = absurd h
@@ -279,9 +337,9 @@ module _ {D B : Type 0} (outline : D → Outline) (Calls : D → Call → Answer
     -- a session that reads no frames
     deaf_likewise : (phase : Phase) (from to : State) (piece sent : List ℕ) (taken : ℕ) (ended : Bool) → IsDeaf outline Calls phase from old piece taken sent ended to new
         → Likewise (IsDeaf outline' Calls' phase from s piece taken sent ended to) new
-    deaf_likewise (Transmission v n (Works r)) from to piece sent taken ended h =
-        let m = part_likewise v n r sent to.phase h.part in
-        (m.0, record { part = m.1; none = h.none; taken_is = h.taken_is; ended_is = h.ended_is; held_is = h.held_is }, m.2)
+    deaf_likewise (Transmission v n (Works m r)) from to piece sent taken ended h =
+        let x = part_likewise v n m r sent to.phase h.part in
+        (x.0, record { part = x.1; none = h.none; taken_is = h.taken_is; ended_is = h.ended_is; held_is = h.held_is }, x.2)
     deaf_likewise Ended from to piece sent taken ended h =
         resting _ old new s h.pool_is is_shown (record { taken_is = h.taken_is; sent_is = h.sent_is; ended_is = h.ended_is; phase_is = h.phase_is; held_is = h.held_is; pool_is = refl })
     deaf_likewise (Flags a) from to piece sent taken ended h = absurd h

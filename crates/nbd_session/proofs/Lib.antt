@@ -13,3 +13,6 @@ pub mod Places
 pub mod Turning
 pub mod Naming
 pub mod Parting
+pub mod Judging
+pub mod Spanning
+pub mod Exact

@@ -11,6 +11,7 @@ use Rattle.tp_model.specs.Pool.{Outline}
 use Rattle.tp_model.specs.Calls.{Answer, Call, Done, Refused, Trim, WriteZeroes}
 use Rattle.nbd_wire.specs.declared.Request.{Request}
 use Rattle.nbd_session.specs.declared.phase.Course.TheVariants.{Listens, Works}
+use Rattle.nbd_session.specs.declared.phase.Manner.{Manner}
 use Rattle.nbd_session.specs.declared.phase.Phase.TheVariants.{Transmission}
 use Rattle.nbd_session.specs.Requests.{behind, form_of, has_fua, has_no_hole, is_last, len_of_part, part_call, rest_of, up_to_cut}
 use Rattle.nbd_session.specs.Session.{IsMade, MakesPart, reply_to}
@@ -64,24 +65,24 @@ zeroes_are id g r count no_hole fua is c n f =
 
 -- ---- what is told of it
 
-module _ {D : Type 0} (outline : D → Outline) (Calls : D → Call → Answer → D → Type 0) (id size : ℕ) (r : Request) (p p' : D) where
-  pub part_refused : (reason : Refusal) (sent : List ℕ) → Calls p (part_call id (outline p).geometry r) (Refused reason) p' → sent ≡ reply_to r.cookie (Refused reason) → MakesPart outline Calls id size r p sent (Transmission id size (Listens true)) p'
+module _ {D : Type 0} (outline : D → Outline) (Calls : D → Call → Answer → D → Type 0) (id size : ℕ) (m : Manner) (r : Request) (p p' : D) where
+  pub part_refused : (reason : Refusal) (sent : List ℕ) → Calls p (part_call id (outline p).geometry r) (Refused reason) p' → sent ≡ reply_to r.cookie (Refused reason) → MakesPart outline Calls id size m r p sent (Transmission id size (Listens m)) p'
   part_refused reason sent call sent_is = record { answer = Refused reason; calls = call; is_made = (sent_is, refl) }
 
-  made_last : (last : Bool) (rest : Request) (sent : List ℕ) → last ≡ true → sent ≡ reply_to r.cookie Done → IsMade id size r rest last Done sent (Transmission id size (Listens true))
+  made_last : (last : Bool) (rest : Request) (sent : List ℕ) → last ≡ true → sent ≡ reply_to r.cookie Done → IsMade id size m r rest last Done sent (Transmission id size (Listens m))
   made_last true rest sent e is = (is, refl)
   made_last false rest sent e is = absurd cc
 
-  made_more : (last : Bool) (rest : Request) (sent : List ℕ) → last ≡ false → sent ≡ [] → IsMade id size r rest last Done sent (Transmission id size (Works rest))
+  made_more : (last : Bool) (rest : Request) (sent : List ℕ) → last ≡ false → sent ≡ [] → IsMade id size m r rest last Done sent (Transmission id size (Works m rest))
   made_more false rest sent e is = (is, refl)
   made_more true rest sent e is = absurd cc
 
   pub part_last : (last : Bool) (sent : List ℕ) → Calls p (part_call id (outline p).geometry r) Done p' → last ≡ is_last (outline p).geometry r → last ≡ true → sent ≡ reply_to r.cookie Done
-      → MakesPart outline Calls id size r p sent (Transmission id size (Listens true)) p'
+      → MakesPart outline Calls id size m r p sent (Transmission id size (Listens m)) p'
   part_last last sent call is yes_ sent_is = record { answer = Done; calls = call; is_made = made_last (is_last (outline p).geometry r) _ sent (sym is ∙ yes_) sent_is }
 
   pub part_more : (last : Bool) (len : ℕ) (sent : List ℕ) → Calls p (part_call id (outline p).geometry r) Done p' → last ≡ is_last (outline p).geometry r → last ≡ false → len ≡ up_to_cut (outline p).geometry r → sent ≡ []
-      → MakesPart outline Calls id size r p sent (Transmission id size (Works (behind r len))) p'
+      → MakesPart outline Calls id size m r p sent (Transmission id size (Works m (behind r len))) p'
   part_more last len sent call is more cut sent_is =
-      let P : ℕ → Type 0 = λ n. MakesPart outline Calls id size r p sent (Transmission id size (Works (behind r n))) p' in
+      let P : ℕ → Type 0 = λ n. MakesPart outline Calls id size m r p sent (Transmission id size (Works m (behind r n))) p' in
       subst P (sym cut) (record { answer = Done; calls = call; is_made = made_more (is_last (outline p).geometry r) (rest_of (outline p).geometry r) sent (sym is ∙ more) sent_is })

@@ -21,7 +21,7 @@ module _ {S : Type 0} (outline : S → Outline) (Calls : S → Call → Answer �
   place_deaf (Flags f) old new other p q p' q' piece sent also taken next ended ends a b = absurd b
   place_deaf (Options z) old new other p q p' q' piece sent also taken next ended ends a b = absurd b
   place_deaf (Transmission v n (Listens x)) old new other p q p' q' piece sent also taken next ended ends a b = absurd b
-  place_deaf (Transmission v n (Works r)) old new other p q p' q' piece sent also taken next ended ends a b = a.taken_is ∙ sym b.taken_is
+  place_deaf (Transmission v n (Works m r)) old new other p q p' q' piece sent also taken next ended ends a b = a.taken_is ∙ sym b.taken_is
   place_deaf Ended old new other p q p' q' piece sent also taken next ended ends a b = a.taken_is ∙ sym b.taken_is
 
   place_case : (old new other : State) (p q p' q' : S) (piece sent also : List ℕ) (taken next : ℕ) (ended ends : Bool) (o : Option Kind)

@@ -40,7 +40,7 @@ frame_of_phase (Transmission v n (Listens x)) kinds.Requests (client_flags b) te
 frame_of_phase (Transmission v n (Listens x)) kinds.Requests (client_option o p) text e h = absurd h
 frame_of_phase (Transmission v n (Listens x)) kinds.Flags m text e h = absurd cc
 frame_of_phase (Transmission v n (Listens x)) kinds.Options m text e h = absurd cc
-frame_of_phase (Transmission v n (Works r)) kind m text e h = absurd cc
+frame_of_phase (Transmission v n (Works x r)) kind m text e h = absurd cc
 frame_of_phase Ended kind m text e h = absurd cc
 
 -- what is wanted in a phase
@@ -54,7 +54,7 @@ wanted_is (Options z) kinds.Requests t e = absurd cc
 wanted_is (Transmission v n (Listens x)) kinds.Requests t e = refl
 wanted_is (Transmission v n (Listens x)) kinds.Flags t e = absurd cc
 wanted_is (Transmission v n (Listens x)) kinds.Options t e = absurd cc
-wanted_is (Transmission v n (Works r)) kind t e = absurd cc
+wanted_is (Transmission v n (Works m r)) kind t e = absurd cc
 wanted_is Ended kind t e = absurd cc
 
 fixed_pos : (kind : Kind) → 0 < fixed_len kind
@@ -69,14 +69,14 @@ pub wanted_at_start : (phase : Phase) → 0 < wanted_in phase []
 wanted_at_start (Flags a) = wanted_pos kinds.Flags
 wanted_at_start (Options z) = wanted_pos kinds.Options
 wanted_at_start (Transmission v n (Listens x)) = wanted_pos kinds.Requests
-wanted_at_start (Transmission v n (Works r)) = omega arith
+wanted_at_start (Transmission v n (Works m r)) = omega arith
 wanted_at_start Ended = omega arith
 
 -- the bytes that are held begin no frame
 pub calm_state : (phase : Phase) (filled : ℕ) (input : List ℕ) → filled ≤ length input → filled < wanted_in phase (take filled input) → IsCalm (state phase (take filled input))
 calm_state (Flags a) filled input le lt = wants_more kinds.Flags (take filled input) (let l = length-take-le filled input le in omega arith)
 calm_state (Options z) filled input le lt = wants_more kinds.Options (take filled input) (let l = length-take-le filled input le in omega arith)
-calm_state (Transmission v n (Works r)) filled input le lt = let e : filled ≡ 0 = omega arith in ap (λ (i : ℕ). take i input) e
+calm_state (Transmission v n (Works m r)) filled input le lt = let e : filled ≡ 0 = omega arith in ap (λ (i : ℕ). take i input) e
 calm_state (Transmission v n (Listens x)) filled input le lt = wants_more kinds.Requests (take filled input) (let l = length-take-le filled input le in omega arith)
 calm_state Ended filled input le lt = let e : filled ≡ 0 = omega arith in ap (λ (n : ℕ). take n input) e
 
@@ -85,7 +85,7 @@ pub sound_few : (phase : Phase) → IsSound phase → left_in phase < 4294967296
 sound_few (Flags a) h = omega arith
 sound_few (Options z) h = omega arith
 sound_few (Transmission v n (Listens x)) h = omega arith
-sound_few (Transmission v n (Works r)) h = h.few
+sound_few (Transmission v n (Works m r)) h = h.few
 sound_few Ended h = omega arith
 
 fixed_whole : (kind : Kind) (t : List ℕ) → fixed_len kind ≤ whole_len kind t
@@ -133,7 +133,7 @@ deaf_wants : (phase : Phase) (t : List ℕ) → kind_of phase ≡ None → wante
 deaf_wants (Flags a) t e = absurd cc
 deaf_wants (Options z) t e = absurd cc
 deaf_wants (Transmission v n (Listens x)) t e = absurd cc
-deaf_wants (Transmission v n (Works r)) t e = refl
+deaf_wants (Transmission v n (Works m r)) t e = refl
 deaf_wants Ended t e = refl
 
 pub deaf_holds : (phase : Phase) (filled : ℕ) (input : List ℕ) → kind_of phase ≡ None → filled < wanted_in phase (take filled input) → take filled input ≡ []

@@ -37,7 +37,7 @@ module _ {A : Type 0} (outline : A → Outline) (Calls : A → Call → Answer �
   rests (Flags a) p = resting kinds.Flags (Flags a) p refl
   rests (Options z) p = resting kinds.Options (Options z) p refl
   rests (Transmission v n (Listens x)) p = resting kinds.Requests (Transmission v n (Listens x)) p refl
-  rests (Transmission v n (Works r)) p = stops
+  rests (Transmission v n (Works m r)) p = stops
   rests Ended p = over
 
   -- after its end a session sends nothing
@@ -45,7 +45,7 @@ module _ {A : Type 0} (outline : A → Outline) (Calls : A → Call → Answer �
   ended_talks (waits kind speaks part) e = absurd (never_both _ kind speaks e)
   ended_talks over e = (refl, refl, refl)
   ended_talks stops e = absurd cc
-  ended_talks (works v n r first others mid q part talk sent_is) e = absurd cc
+  ended_talks (works v n m r first others mid q part talk sent_is) e = absurd cc
   ended_talks (goes kind message frame rest first others mid q speaks is_frame text_is answer talk sent_is) e = absurd (never_both _ kind speaks e)
 
   -- dropped, whatever it was
@@ -60,12 +60,12 @@ module _ {A : Type 0} (outline : A → Outline) (Calls : A → Call → Answer �
   by_deaf : (phase : Phase) (old new : State) (p p' : A) (piece sent : List ℕ) (taken : ℕ) (b : Bool) → old.phase ≡ phase
       → IsDeaf outline Calls phase old p piece taken sent b new p' → Talks outline Calls phase (old.held ++ take taken piece) p sent new p'
   by_deaf Ended old new p p' piece sent taken b e h = dropped (old.held ++ take taken piece) sent p p' new (h.sent_is, state_is new Ended [] (h.phase_is ∙ e) h.held_is, h.pool_is)
-  by_deaf (Transmission v n (Works r)) old new p p' piece sent taken b e h =
+  by_deaf (Transmission v n (Works m r)) old new p p' piece sent taken b e h =
       let text : old.held ++ take taken piece ≡ [] = ap (λ (x : List ℕ). x ++ take taken piece) h.none ∙ ap (λ (i : ℕ). take i piece) h.taken_is in
-      let P : List ℕ → Type 0 = λ t. Talks outline Calls (Transmission v n (Works r)) t p sent new p' in
+      let P : List ℕ → Type 0 = λ t. Talks outline Calls (Transmission v n (Works m r)) t p sent new p' in
       let R : State → Type 0 = λ s. Talks outline Calls new.phase [] p' [] s p' in
       let after : Talks outline Calls new.phase [] p' [] new p' = subst R (sym (state_is new new.phase [] refl h.held_is)) (rests new.phase p') in
-      subst P (sym text) (works v n r sent [] new.phase p' h.part after (sym (append-nil sent)))
+      subst P (sym text) (works v n m r sent [] new.phase p' h.part after (sym (append-nil sent)))
   by_deaf (Flags a) old new p p' piece sent taken b e h = absurd h
   by_deaf (Options z) old new p p' piece sent taken b e h = absurd h
   by_deaf (Transmission v n (Listens x)) old new p p' piece sent taken b e h = absurd h
@@ -96,8 +96,8 @@ module _ {A : Type 0} (outline : A → Outline) (Calls : A → Call → Answer �
   goes_on (waits kind speaks part) more others new p' h = h
   goes_on {text = text} {p = p} over more others new p' h = dropped (text ++ more) others p p' new (ended_talks h refl)
   goes_on stops more others new p' h = h
-  goes_on (works v n r first others' mid q part talk sent_is) more others new p' h =
-      works v n r first (others' ++ others) mid q part (goes_on talk more others new p' h) (ap (λ (x : List ℕ). x ++ others) sent_is ∙ append_assoc first others' others)
+  goes_on (works v n m r first others' mid q part talk sent_is) more others new p' h =
+      works v n m r first (others' ++ others) mid q part (goes_on talk more others new p' h) (ap (λ (x : List ℕ). x ++ others) sent_is ∙ append_assoc first others' others)
   goes_on (goes kind message frame rest first others' mid q speaks is_frame text_is answer talk sent_is) more others new p' h =
       goes kind message frame (rest ++ more) first (others' ++ others) mid q speaks is_frame (ap (λ (x : List ℕ). x ++ more) text_is ∙ append_assoc frame rest more) answer
       (goes_on talk more others new p' h) (ap (λ (x : List ℕ). x ++ others) sent_is ∙ append_assoc first others' others)

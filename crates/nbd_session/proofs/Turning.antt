@@ -23,10 +23,10 @@ module _ {D B : Type 0} (outline : D → Outline) (Calls : D → Call → Answer
   talks_likewise b r (waits kind k partial) = (b, waits kind k partial, r)
   talks_likewise b r over = (b, over, r)
   talks_likewise b r stops = (b, stops, r)
-  talks_likewise {phase} {text} {sent} {p} b r (works v n q first others mid at part talk all) =
-      let x = part_likewise outline Calls outline' Calls' R same call_follows p at b r v n q first mid part in
+  talks_likewise {phase} {text} {sent} {p} b r (works v n m q first others mid at part talk all) =
+      let x = part_likewise outline Calls outline' Calls' R same call_follows p at b r v n m q first mid part in
       let y = talks_likewise x.0 x.2 talk in
-      (y.0, works v n q first others mid x.0 x.1 y.1 all, y.2)
+      (y.0, works v n m q first others mid x.0 x.1 y.1 all, y.2)
   talks_likewise {phase} {text} {sent} {p} b r (goes kind message frame rest first others mid q k whole cut answer talks all) =
       let x = answers_likewise outline Calls outline' Calls' R same call_follows p q b r phase mid message first answer in
       let y = talks_likewise x.0 x.2 talks in

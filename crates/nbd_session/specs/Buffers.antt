@@ -11,16 +11,16 @@ use Rattle.nbd_session.specs.declared.phase.Phase.TheVariants.{Flags, Options, T
 abbrev pub wanted_in : Phase → List ℕ → ℕ
 wanted_in (Flags profile) text = wanted kinds.Flags text
 wanted_in (Options terms) text = wanted kinds.Options text
-wanted_in (Transmission volume size (Listens is_extended)) text = wanted kinds.Requests text
-wanted_in (Transmission volume size (Works rest)) text = 1
+wanted_in (Transmission volume size (Listens manner)) text = wanted kinds.Requests text
+wanted_in (Transmission volume size (Works manner rest)) text = 1
 wanted_in Ended text = 1
 
 -- what is left of a request lies in the volume
 abbrev pub IsSound : Phase → Type 0
 IsSound (Flags profile) = Unit {0}
 IsSound (Options terms) = Unit {0}
-IsSound (Transmission volume size (Listens is_extended)) = Unit {0}
-IsSound (Transmission volume size (Works rest)) = IsLeft size rest
+IsSound (Transmission volume size (Listens manner)) = Unit {0}
+IsSound (Transmission volume size (Works manner rest)) = IsLeft size rest
 IsSound Ended = Unit {0}
 
 pub record AreBuffers (phase : Phase) (filled : ℕ) (input output : List ℕ) : Type 0 where

@@ -8,18 +8,20 @@ use Rattle.tp_model.specs.Clauses.{Continues, HasTrace, PoolCall, Traced, Traced
 use Rattle.nbd_wire.specs.Grammar.{Message, client_flags, client_option, command, malformed, payload_len, IsPartial}
 use Rattle.nbd_session.specs.declared.phase.Course.{Course}
 use Rattle.nbd_session.specs.declared.phase.Course.TheVariants.{Listens, Works}
+use Rattle.nbd_session.specs.declared.phase.Manner.{Manner}
 use Rattle.nbd_session.specs.declared.phase.Phase.{Phase}
 use Rattle.nbd_session.specs.declared.phase.Phase.TheVariants.{Flags, Options, Transmission, Ended}
+use Rattle.nbd_session.specs.declared.phase.Terms.{Terms}
 use Rattle.nbd_session.specs.Requests.{known_bytes}
-use Rattle.nbd_session.specs.Session.{State, kind_of, has_ended, is_at_work, is_extended, left_in, LetsGo, Steps}
+use Rattle.nbd_session.specs.Session.{State, kind_of, has_ended, is_at_work, left_in, manner_of, LetsGo, Steps}
 use Rattle.nbd_session.specs.Talk.{Converses}
 
 -- a frame that may come in the phase
 abbrev pub IsOf : Phase → Message → Type 0
 IsOf (Flags profile) (client_flags no_zeroes) = Unit {0}
 IsOf (Options terms) (client_option option payload) = Unit {0}
-IsOf (Transmission volume size (Listens is_extended)) (command r payload) = length payload ≡ payload_len r
-IsOf (Transmission volume size (Works rest)) message = ⊥
+IsOf (Transmission volume size (Listens manner)) (command r payload) = length payload ≡ payload_len r
+IsOf (Transmission volume size (Works manner rest)) message = ⊥
 IsOf Ended malformed = ⊥
 IsOf phase malformed = Unit {0}
 IsOf phase _ = ⊥
@@ -49,18 +51,22 @@ abbrev pub held_beside : Phase → FinMap nat_cmp ℕ → ℕ → ℕ
 held_beside (Transmission volume size course) holds id = if volume == id then hold_count holds id - 1 else hold_count holds id
 held_beside phase holds id = hold_count holds id
 
--- it takes requests of any length that have no data
-abbrev pub takes_long : Course → Bool
-takes_long (Listens is_extended) = is_extended
-takes_long (Works rest) = true
+-- how it takes and answers requests
+abbrev pub manner_in : Course → Manner
+manner_in (Listens manner) = manner
+manner_in (Works manner rest) = manner
 
--- Where a session may go by one frame, or one part of a request: it keeps its profile and its flags, and its volume with its size.
+-- Options may change what is asked for beside the volume, and nothing else.
+abbrev pub GoesBeyond : Terms → Terms → Type 0
+GoesBeyond old new = (new.no_zeroes ≡ old.no_zeroes) × (new.profile ≡ old.profile)
+
+-- Where a session may go by one frame, or one part of a request: it keeps its profile and its flags, and its volume with its size and its manner.
 abbrev pub Follows : Phase → Phase → Type 0
 Follows (Flags profile) (Flags same) = profile ≡ same
 Follows (Flags profile) (Options terms) = profile ≡ terms.profile
-Follows (Options terms) (Options same) = terms ≡ same
-Follows (Options terms) (Transmission volume size course) = course ≡ Listens (is_extended terms.profile)
-Follows (Transmission volume size course) (Transmission same also next) = (volume ≡ same) × (size ≡ also) × (takes_long course ≡ takes_long next)
+Follows (Options terms) (Options same) = GoesBeyond terms same
+Follows (Options terms) (Transmission volume size course) = course ≡ Listens (manner_of terms volume)
+Follows (Transmission volume size course) (Transmission same also next) = (volume ≡ same) × (size ≡ also) × (manner_in course ≡ manner_in next)
 Follows phase Ended = Unit {0}
 Follows phase _ = ⊥
 

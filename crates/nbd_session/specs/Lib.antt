@@ -6,3 +6,5 @@ pub mod Held
 pub mod Looking
 pub mod Buffers
 pub mod Turns
+pub mod Status
+pub mod Spans

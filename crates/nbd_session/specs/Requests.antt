@@ -7,8 +7,9 @@ use Rattle.tp_model.specs.declared.refusal.NbdError.{NbdError}
 use Rattle.tp_model.specs.declared.refusal.NbdError.TheVariants.{Invalid, NoSpace}
 use Rattle.tp_model.specs.Calls.{Call, Trim, WriteZeroes, first_failed}
 use Rattle.nbd_wire.specs.declared.Request.{Request}
-use Rattle.nbd_wire.specs.declared.TheConstants.{COMMAND_READ, COMMAND_WRITE, COMMAND_DISC, COMMAND_TRIM, COMMAND_WRITE_ZEROES}
+use Rattle.nbd_wire.specs.declared.TheConstants.{COMMAND_READ, COMMAND_WRITE, COMMAND_DISC, COMMAND_TRIM, COMMAND_WRITE_ZEROES, COMMAND_BLOCK_STATUS}
 use Rattle.nbd_wire.specs.Grammar.{Message, client_flags, client_option, command, malformed, IsRequest}
+use Rattle.nbd_session.specs.declared.phase.Manner.{Manner}
 use Rattle.nbd_session.specs.declared.request.Verdict.{Verdict}
 use Rattle.nbd_session.specs.declared.request.Verdict.TheVariants as verdicts
 
@@ -55,9 +56,43 @@ long_error size r = first_failed (
     ∷ (not (r.offset % 512 == 0 && r.bytes % 512 == 0), Invalid)
     ∷ (nat_lt size (r.offset + r.bytes), if forms.is_write_zeroes r then NoSpace else Invalid) ∷ [])
 
+-- READs are read in chunks where that was asked for.
+abbrev pub reads_in_chunks : Manner → Request → Bool
+reads_in_chunks manner r = manner.is_structured && r.kind == COMMAND_READ
+
+-- They, and BLOCK_STATUS, are answered in chunks then, also where they are refused.
+abbrev pub is_chunked : Manner → Request → Bool
+is_chunked manner r = manner.is_structured && (r.kind == COMMAND_READ || r.kind == COMMAND_BLOCK_STATUS)
+
+-- BLOCK_STATUS is answered where the volume's context was asked for.
+abbrev pub is_status : Manner → Request → Bool
+is_status manner r = manner.tells_blocks && r.kind == COMMAND_BLOCK_STATUS
+
+-- The error of the first test of a BLOCK_STATUS that fails: it may have FUA, which has no effect, and REQ_ONE, and asks for some sectors of the volume.
+abbrev pub has_status_flags : ℕ → Bool
+has_status_flags flags = nat_lt (flags % 8) 2 && nat_lt flags 16
+
+abbrev pub status_error : ℕ → Request → Option NbdError
+status_error size r = first_failed (
+    (not (has_status_flags r.flags), Invalid)
+    ∷ (not (r.offset % 512 == 0 && r.len % 512 == 0), Invalid)
+    ∷ (r.len == 0, Invalid)
+    ∷ (nat_lt size (r.offset + r.len), Invalid) ∷ [])
+
+-- Such a READ may have the flag DF, the third: its data are to come in one chunk, as they always do.
+abbrev pub without_df : ℕ → ℕ
+without_df flags = if flags / 4 % 2 == 1 then flags - 4 else flags
+
+abbrev pub plainly : Manner → Request → Request
+plainly manner r =
+    if reads_in_chunks manner r then record { flags = without_df r.flags; kind = r.kind; cookie = r.cookie; offset = r.offset; len = r.len } else r
+
 -- An extended session takes requests of any length that have no data.
-abbrev pub verdict_in : Bool → ℕ → Request → Verdict
-verdict_in extended size r = if extended && is_long r then option_map_or verdicts.Refuse (long_error size (form_of r)) verdicts.Long else verdict_on size r
+abbrev pub verdict_in : Manner → ℕ → Request → Verdict
+verdict_in manner size r =
+    if is_status manner r then option_map_or verdicts.Refuse (status_error size r) verdicts.Status
+    else if manner.is_extended && is_long r then option_map_or verdicts.Refuse (long_error size (form_of r)) verdicts.Long
+    else verdict_on size (plainly manner r)
 
 -- the bytes of the most whole blocks that 2048 sectors have
 abbrev pub part_bytes : Geometry → ℕ
@@ -117,6 +152,7 @@ IsTested verdicts.WriteZeroes size r = IsWhole size r
 IsTested verdicts.Flush size r = Unit {0}
 IsTested verdicts.Disconnect size r = Unit {0}
 IsTested verdicts.Long size r = IsLeft size r
+IsTested verdicts.Status size r = IsLeft size r
 
 -- a READ stands whole at the front of a text
 pub record BeginsWithRead (text : List ℕ) : Type 0 where

@@ -3,20 +3,25 @@
 use Rattle.std.specs.Prelude.{◌≡◌, ℕ, ◌/◌, ◌<◌, ◌≤◌, Bool, true, false, List, [], ◌∷◌, ◌+◌, ◌++◌, length, take, nat_lt, Option, Some, None, MatchOption, MatchBool, ◌==◌, if◌then◌else◌, ◌⊎◌}
 use Rattle.std.specs.List.{concat, flat_map}
 use Rattle.std.specs.Fmt.{decimal}
+use Rattle.tp_model.specs.declared.refusal.NbdError.{NbdError}
+use Rattle.tp_model.specs.declared.refusal.NbdError.TheVariants as errors
 use Rattle.tp_model.specs.declared.refusal.Refusal.{Refusal}
 use Rattle.tp_model.specs.Refusals.{nbd_code, nbd_error}
 use Rattle.tp_model.specs.Sectors.{sectors_of}
 use Rattle.tp_model.specs.Pool.{Outline}
-use Rattle.tp_model.specs.Calls.{Call, Answer, Done, Gave, Line, Found, Refused, Sized, Listed, Hold, LetGo, NextId, VolumeBlocks, Read, Write, Trim, WriteZeroes, Flush, is_failed, is_read_only}
+use Rattle.tp_model.specs.Calls.{Call, Answer, Done, Gave, Line, Found, Refused, Sized, Listed, Hold, LetGo, NextId, VolumeBlocks, Read, Write, Trim, Walk, WriteZeroes, Flush, is_failed, is_read_only}
 use Rattle.nbd_wire.specs.declared.Kind.{Kind}
 use Rattle.nbd_wire.specs.declared.Kind.TheVariants as kinds
 use Rattle.nbd_wire.specs.declared.Request.{Request}
-use Rattle.nbd_wire.specs.declared.TheConstants.{OPTION_ABORT, OPTION_EXPORT_NAME, OPTION_GO, OPTION_INFO, OPTION_LIST}
+use Rattle.nbd_wire.specs.declared.TheConstants.{OPTION_ABORT, OPTION_EXPORT_NAME, OPTION_GO, OPTION_INFO, OPTION_LIST, OPTION_LIST_META_CONTEXT, OPTION_SET_META_CONTEXT, OPTION_STRUCTURED_REPLY, ALLOCATION_CONTEXT}
 use Rattle.nbd_wire.specs.declared.writing.ReplyType.{ReplyType}
-use Rattle.nbd_wire.specs.declared.writing.ReplyType.TheVariants.{Acknowledged, Server, Information, Unsupported, Invalid, Unknown}
+use Rattle.nbd_wire.specs.declared.writing.ReplyType.TheVariants.{Acknowledged, Context, Server, Information, Unsupported, Invalid, Unknown}
+use Rattle.nbd_wire.specs.Chunks.{data_chunk, done_chunk, error_chunk}
+use Rattle.nbd_wire.specs.Contexts.{IsQuery, allocation, asks_for, context_data, lists}
 use Rattle.nbd_wire.specs.Grammar.{Message, client_flags, client_option, command, malformed, IsFrame, IsPartial}
 use Rattle.nbd_wire.specs.Replies.{simple_reply, option_reply, export_info, export_reply, block_size_info, server_data, IsInfo}
 use Rattle.nbd_session.specs.declared.phase.Course.TheVariants.{Listens, Works}
+use Rattle.nbd_session.specs.declared.phase.Manner.{Manner}
 use Rattle.nbd_session.specs.declared.phase.Phase.{Phase}
 use Rattle.nbd_session.specs.declared.phase.Phase.TheVariants.{Flags, Options, Transmission, Ended}
 use Rattle.nbd_session.specs.declared.phase.Profile.{Profile}
@@ -24,7 +29,8 @@ use Rattle.nbd_session.specs.declared.phase.Profile.TheVariants.{Strict, Extende
 use Rattle.nbd_session.specs.declared.phase.Terms.{Terms}
 use Rattle.nbd_session.specs.declared.request.Verdict.{Verdict}
 use Rattle.nbd_session.specs.declared.request.Verdict.TheVariants as verdicts
-use Rattle.nbd_session.specs.Requests.{bytes_of_blocks, has_fua, has_no_hole, is_last, part_call, rest_of, verdict_in}
+use Rattle.nbd_session.specs.Status.{IsStatus, first_block, unit_of}
+use Rattle.nbd_session.specs.Requests.{bytes_of_blocks, has_fua, has_no_hole, is_chunked, is_last, part_call, rest_of, verdict_in}
 
 -- what a session shows: its phase, and the bytes that it holds of an unfinished frame
 pub record State : Type 0 where
@@ -38,8 +44,8 @@ state phase held = record { phase = phase; held = held }
 abbrev pub kind_of : Phase → Option Kind
 kind_of (Flags profile) = Some kinds.Flags
 kind_of (Options terms) = Some kinds.Options
-kind_of (Transmission volume size (Listens is_extended)) = Some kinds.Requests
-kind_of (Transmission volume size (Works rest)) = None
+kind_of (Transmission volume size (Listens manner)) = Some kinds.Requests
+kind_of (Transmission volume size (Works manner rest)) = None
 kind_of Ended = None
 
 abbrev pub has_ended : Phase → Bool
@@ -52,22 +58,30 @@ has_ended Ended = true
 abbrev pub is_at_work : Phase → Bool
 is_at_work (Flags profile) = false
 is_at_work (Options terms) = false
-is_at_work (Transmission volume size (Listens is_extended)) = false
-is_at_work (Transmission volume size (Works rest)) = true
+is_at_work (Transmission volume size (Listens manner)) = false
+is_at_work (Transmission volume size (Works manner rest)) = true
 is_at_work Ended = false
 
 -- how many bytes of a request are left
 abbrev pub left_in : Phase → ℕ
 left_in (Flags profile) = 0
 left_in (Options terms) = 0
-left_in (Transmission volume size (Listens is_extended)) = 0
-left_in (Transmission volume size (Works rest)) = rest.len
+left_in (Transmission volume size (Listens manner)) = 0
+left_in (Transmission volume size (Works manner rest)) = rest.len
 left_in Ended = 0
 
 -- ---- what is offered
 
 abbrev pub terms_of : Profile → Bool → Terms
-terms_of profile no_zeroes = record { no_zeroes = no_zeroes; profile = profile }
+terms_of profile no_zeroes = record { no_zeroes = no_zeroes; profile = profile; is_structured = false; context = 16777216 }
+
+-- the same where READs are to be answered in chunks
+abbrev pub in_chunks : Terms → Terms
+in_chunks terms = record { no_zeroes = terms.no_zeroes; profile = terms.profile; is_structured = true; context = terms.context }
+
+-- the same where this volume is to be told of, or none, where the number is no id
+abbrev pub in_context : Terms → ℕ → Terms
+in_context terms context = record { no_zeroes = terms.no_zeroes; profile = terms.profile; is_structured = terms.is_structured; context = context }
 
 abbrev pub is_extended : Profile → Bool
 is_extended Strict = false
@@ -80,13 +94,16 @@ default_of Strict = None
 default_of Extended = None
 default_of (WithDefault volume) = if nat_lt volume 16777216 then Some volume else None
 
--- A session that is extended tells CAN_MULTI_CONN too.
-abbrev pub flags_in : Profile → ℕ → ℕ
-flags_in profile flags = if is_extended profile then 0x100 + flags else flags
+-- A session that is extended tells CAN_MULTI_CONN too, and one that answers READs in chunks SEND_DF.
+abbrev pub flags_in : Terms → ℕ → ℕ
+flags_in terms flags = (if is_extended terms.profile then 0x100 else 0) + ((if terms.is_structured then 0x80 else 0) + flags)
+
+abbrev pub manner_of : Terms → ℕ → Manner
+manner_of terms id = record { is_extended = is_extended terms.profile; is_structured = terms.is_structured; tells_blocks = terms.context == id }
 
 -- transmission begins so
 abbrev pub begun : Terms → ℕ → ℕ → Phase
-begun terms id size = Transmission id size (Listens (is_extended terms.profile))
+begun terms id size = Transmission id size (Listens (manner_of terms id))
 
 -- ---- what is sent
 
@@ -99,6 +116,23 @@ reply_to cookie (Found id) = simple_reply 0 cookie []
 reply_to cookie (Sized blocks) = simple_reply 0 cookie []
 reply_to cookie (Listed slots) = simple_reply 0 cookie []
 reply_to cookie (Refused reason) = simple_reply (nbd_code (nbd_error reason)) cookie []
+
+-- The same in one chunk, which tells where the bytes begin, to a READ.
+abbrev pub chunk_to : Request → Answer → List ℕ
+chunk_to r (Gave sectors) = data_chunk r.cookie r.offset (concat sectors)
+chunk_to r (Refused reason) = error_chunk (nbd_code (nbd_error reason)) r.cookie
+chunk_to r _ = done_chunk r.cookie
+
+-- the reply to a READ that the pool answered
+abbrev pub read_reply : Manner → Request → Answer → List ℕ
+read_reply manner r answer = if manner.is_structured then chunk_to r answer else reply_to r.cookie answer
+
+-- the reply to a request that fails before the pool is asked, and to one of no bytes
+abbrev pub error_reply : Manner → Request → NbdError → List ℕ
+error_reply manner r e = if is_chunked manner r then error_chunk (nbd_code e) r.cookie else simple_reply (nbd_code e) r.cookie []
+
+abbrev pub empty_reply : Manner → Request → List ℕ
+empty_reply manner r = if is_chunked manner r then done_chunk r.cookie else simple_reply 0 r.cookie []
 
 -- HAS_FLAGS, SEND_FLUSH, SEND_FUA, SEND_TRIM and SEND_WRITE_ZEROES, and READ_ONLY where the pool is so
 abbrev pub transmission_flags : Outline → ℕ
@@ -146,6 +180,12 @@ IsOutcome o sent next = (sent ≡ o.sent) × (next ≡ o.next)
 abbrev pub option_error : ℕ → ReplyType → Terms → Outcome
 option_error option reply terms = outcome (option_reply option reply []) (Options terms)
 
+-- STRUCTURED_REPLY, which has no data: READs are answered in chunks from now on.
+abbrev pub structures : Terms → List ℕ → Outcome
+structures terms payload =
+    if length payload == 0 then outcome (option_reply OPTION_STRUCTURED_REPLY Acknowledged []) (Options (in_chunks terms))
+    else option_error OPTION_STRUCTURED_REPLY Invalid terms
+
 -- what an option does that looks for a volume
 pub record VolumeOption : Type 0 where
   pub default : Option ℕ  -- the volume of the empty name
@@ -158,7 +198,7 @@ abbrev pub go : Terms → VolumeOption
 go terms = record {
   default = default_of terms.profile;
   holds = true;
-  found = λ id size flags. outcome (info_reply OPTION_GO size (flags_in terms.profile flags)) (begun terms id size);
+  found = λ id size flags. outcome (info_reply OPTION_GO size (flags_in terms flags)) (begun terms id size);
   missing = option_error OPTION_GO Unknown terms;
 }
 
@@ -167,8 +207,31 @@ abbrev pub info : Terms → VolumeOption
 info terms = record {
   default = default_of terms.profile;
   holds = false;
-  found = λ id size flags. outcome (info_reply OPTION_INFO size (flags_in terms.profile flags)) (Options terms);
+  found = λ id size flags. outcome (info_reply OPTION_INFO size (flags_in terms flags)) (Options terms);
   missing = option_error OPTION_INFO Unknown terms;
+}
+
+-- the answer to an option that looks for the one context: a reply that tells it where it is asked for, and ACK
+unfoldable pub context_reply : ℕ → Bool → List ℕ
+context_reply option is_asked =
+    (if is_asked then option_reply option Context (context_data ALLOCATION_CONTEXT allocation) else []) ++ option_reply option Acknowledged []
+
+-- LIST_META_CONTEXT tells the context where a query fits it, or none was made. It changes nothing.
+abbrev pub list_context : Terms → Bool → VolumeOption
+list_context terms is_listed = record {
+  default = default_of terms.profile;
+  holds = false;
+  found = λ id size flags. outcome (context_reply OPTION_LIST_META_CONTEXT is_listed) (Options terms);
+  missing = option_error OPTION_LIST_META_CONTEXT Unknown terms;
+}
+
+-- SET_META_CONTEXT has the volume told of, where the context is asked for by its name, in place of what was asked for before: also where it fails.
+abbrev pub set_context : Terms → Bool → VolumeOption
+set_context terms is_asked = record {
+  default = default_of terms.profile;
+  holds = false;
+  found = λ id size flags. outcome (context_reply OPTION_SET_META_CONTEXT is_asked) (Options (in_context terms (if is_asked then id else 16777216)));
+  missing = option_error OPTION_SET_META_CONTEXT Unknown (in_context terms 16777216);
 }
 
 -- EXPORT_NAME holds the volume, tells its size and the flags, and enters transmission. It has no errors: a name that is
@@ -177,17 +240,23 @@ abbrev pub export_name : Terms → VolumeOption
 export_name terms = record {
   default = default_of terms.profile;
   holds = true;
-  found = λ id size flags. outcome (export_reply size (flags_in terms.profile flags) terms.no_zeroes) (begun terms id size);
+  found = λ id size flags. outcome (export_reply size (flags_in terms flags) terms.no_zeroes) (begun terms id size);
   missing = outcome [] Ended;
 }
 
 -- The next part of a request was made, and answered so: where that part is done and others are left, the session goes on with these, and else the
 -- request is answered as the part was.
-abbrev pub IsMade : ℕ → ℕ → Request → Request → Bool → Answer → List ℕ → Phase → Type 0
-IsMade id size r rest last Done sent next =
-    MatchBool last (IsOutcome (outcome (reply_to r.cookie Done) (Transmission id size (Listens true))) sent next)
-    (IsOutcome (outcome [] (Transmission id size (Works rest))) sent next)
-IsMade id size r rest last answer sent next = IsOutcome (outcome (reply_to r.cookie answer) (Transmission id size (Listens true))) sent next
+abbrev pub IsMade : ℕ → ℕ → Manner → Request → Request → Bool → Answer → List ℕ → Phase → Type 0
+IsMade id size manner r rest last Done sent next =
+    MatchBool last (IsOutcome (outcome (reply_to r.cookie Done) (Transmission id size (Listens manner))) sent next)
+    (IsOutcome (outcome [] (Transmission id size (Works manner rest))) sent next)
+IsMade id size manner r rest last answer sent next = IsOutcome (outcome (reply_to r.cookie answer) (Transmission id size (Listens manner))) sent next
+
+-- what a walk over a volume told for a BLOCK_STATUS
+abbrev pub IsDescribed : ℕ → Request → Answer → List ℕ → Type 0
+IsDescribed unit r (Listed slots) sent = IsStatus unit r slots sent
+IsDescribed unit r (Refused reason) sent = sent ≡ error_chunk (nbd_code (nbd_error reason)) r.cookie
+IsDescribed unit r answer sent = ⊥
 
 -- S: pools. outline: a pool's geometry, mode and holds. Calls: that a call of a pool is given an answer, and leaves another pool.
 module _ {S : Type 0} (outline : S → Outline) (Calls : S → Call → Answer → S → Type 0) where
@@ -206,34 +275,46 @@ module _ {S : Type 0} (outline : S → Outline) (Calls : S → Call → Answer �
   abbrev pub Ends : List ℕ → Phase → S → List ℕ → Phase → S → Type 0
   Ends last phase p sent next p' = (sent ≡ last) × (next ≡ Ended) × LetsGo phase p p'
 
-  -- a request that the pool is asked
-  pub record Performs (call : Call) (cookie : ℕ) (p : S) (sent : List ℕ) (p' : S) : Type 0 where
+  -- a request that the pool is asked, and how its answer is told
+  pub record Performs (call : Call) (reply : Answer → List ℕ) (p : S) (sent : List ℕ) (p' : S) : Type 0 where
     pub answer : Answer
     pub calls : Calls p call answer p'
-    pub sent_is : sent ≡ reply_to cookie answer
+    pub sent_is : sent ≡ reply answer
+
+  -- BLOCK_STATUS asks for one walk, from the block in which it begins. There is none where a volume has no such block.
+  pub record Walks (id : ℕ) (r : Request) (p : S) (sent : List ℕ) (p' : S) : Type 0 where
+    pub answer : Answer
+    pub calls : Calls p (Walk id (first_block (unit_of (outline p).geometry) r)) answer p'
+    pub is_described : IsDescribed (unit_of (outline p).geometry) r answer sent
+
+  abbrev pub Describes : ℕ → Request → S → List ℕ → S → Type 0
+  Describes id r p sent p' =
+      MatchBool (nat_lt (first_block (unit_of (outline p).geometry) r) 16777216) (Walks id r p sent p')
+      ((sent ≡ error_chunk (nbd_code errors.Invalid) r.cookie) × (p' ≡ p))
 
   -- A request of a volume of this size, whose tests had this outcome. Of a long one nothing is made yet, and all of it is left.
-  abbrev pub Serves : Verdict → ℕ → ℕ → Bool → Request → List ℕ → S → List ℕ → Phase → S → Type 0
-  Serves verdicts.Disconnect id size extended r payload p sent next p' = Ends [] (Transmission id size (Listens extended)) p sent next p'
-  Serves (verdicts.Refuse e) id size extended r payload p sent next p' =
-      Tells (outcome (simple_reply (nbd_code e) r.cookie []) (Transmission id size (Listens extended))) p sent next p'
-  Serves verdicts.Nothing id size extended r payload p sent next p' = Tells (outcome (simple_reply 0 r.cookie []) (Transmission id size (Listens extended))) p sent next p'
-  Serves verdicts.Read id size extended r payload p sent next p' =
-      Performs (Read id (r.offset / 512) (r.len / 512)) r.cookie p sent p' × (next ≡ Transmission id size (Listens extended))
-  Serves verdicts.Write id size extended r payload p sent next p' =
-      Performs (Write id (r.offset / 512) (sectors_of payload) (has_fua r)) r.cookie p sent p' × (next ≡ Transmission id size (Listens extended))
-  Serves verdicts.Trim id size extended r payload p sent next p' =
-      Performs (Trim id (r.offset / 512) (r.len / 512) (has_fua r)) r.cookie p sent p' × (next ≡ Transmission id size (Listens extended))
-  Serves verdicts.WriteZeroes id size extended r payload p sent next p' =
-      Performs (WriteZeroes id (r.offset / 512) (r.len / 512) (has_no_hole r) (has_fua r)) r.cookie p sent p' × (next ≡ Transmission id size (Listens extended))
-  Serves verdicts.Flush id size extended r payload p sent next p' = Performs Flush r.cookie p sent p' × (next ≡ Transmission id size (Listens extended))
-  Serves verdicts.Long id size extended r payload p sent next p' = Tells (outcome [] (Transmission id size (Works r))) p sent next p'
+  abbrev pub Serves : Verdict → ℕ → ℕ → Manner → Request → List ℕ → S → List ℕ → Phase → S → Type 0
+  Serves verdicts.Disconnect id size manner r payload p sent next p' = Ends [] (Transmission id size (Listens manner)) p sent next p'
+  Serves (verdicts.Refuse e) id size manner r payload p sent next p' =
+      Tells (outcome (error_reply manner r e) (Transmission id size (Listens manner))) p sent next p'
+  Serves verdicts.Nothing id size manner r payload p sent next p' = Tells (outcome (empty_reply manner r) (Transmission id size (Listens manner))) p sent next p'
+  Serves verdicts.Read id size manner r payload p sent next p' =
+      Performs (Read id (r.offset / 512) (r.len / 512)) (read_reply manner r) p sent p' × (next ≡ Transmission id size (Listens manner))
+  Serves verdicts.Write id size manner r payload p sent next p' =
+      Performs (Write id (r.offset / 512) (sectors_of payload) (has_fua r)) (reply_to r.cookie) p sent p' × (next ≡ Transmission id size (Listens manner))
+  Serves verdicts.Trim id size manner r payload p sent next p' =
+      Performs (Trim id (r.offset / 512) (r.len / 512) (has_fua r)) (reply_to r.cookie) p sent p' × (next ≡ Transmission id size (Listens manner))
+  Serves verdicts.WriteZeroes id size manner r payload p sent next p' =
+      Performs (WriteZeroes id (r.offset / 512) (r.len / 512) (has_no_hole r) (has_fua r)) (reply_to r.cookie) p sent p' × (next ≡ Transmission id size (Listens manner))
+  Serves verdicts.Flush id size manner r payload p sent next p' = Performs Flush (reply_to r.cookie) p sent p' × (next ≡ Transmission id size (Listens manner))
+  Serves verdicts.Status id size manner r payload p sent next p' = Describes id r p sent p' × (next ≡ Transmission id size (Listens manner))
+  Serves verdicts.Long id size manner r payload p sent next p' = Tells (outcome [] (Transmission id size (Works manner r))) p sent next p'
 
   -- the next part of a request of which so much is left
-  pub record MakesPart (id size : ℕ) (r : Request) (p : S) (sent : List ℕ) (next : Phase) (p' : S) : Type 0 where
+  pub record MakesPart (id size : ℕ) (manner : Manner) (r : Request) (p : S) (sent : List ℕ) (next : Phase) (p' : S) : Type 0 where
     pub answer : Answer
     pub calls : Calls p (part_call id (outline p).geometry r) answer p'
-    pub is_made : IsMade id size r (rest_of (outline p).geometry r) (is_last (outline p).geometry r) answer sent next
+    pub is_made : IsMade id size manner r (rest_of (outline p).geometry r) (is_last (outline p).geometry r) answer sent next
 
   -- The pool was asked how many blocks a volume has, and answered so. A refusal ends the session, which lets the volume go where it holds it.
   abbrev pub IsSized : Bool → (ℕ → Outcome) → ℕ → Answer → S → List ℕ → Phase → S → Type 0
@@ -361,6 +442,35 @@ module _ {S : Type 0} (outline : S → Outline) (Calls : S → Call → Answer �
       (NamesAll terms p sent next p' ⊎ NamesNone p sent next p')
       (Tells (option_error OPTION_LIST Invalid terms) p sent next p'))
 
+  -- an option whose data is no name with queries
+  pub record IsNoQuery (option : ℕ) (terms : Terms) (payload : List ℕ) (p : S) (sent : List ℕ) (next : Phase) (p' : S) : Type 0 where
+    pub no_query : (name : List ℕ) (queries : List (List ℕ)) → IsQuery payload name queries → ⊥
+    pub tells : Tells (option_error option Invalid terms) p sent next p'
+
+  -- an option whose data is one
+  pub record IsQueried (asks : List (List ℕ) → Bool) (o : Bool → VolumeOption) (payload : List ℕ) (p : S) (sent : List ℕ) (next : Phase) (p' : S) : Type 0 where
+    pub name : List ℕ
+    pub queries : List (List ℕ)
+    pub query : IsQuery payload name queries
+    pub looks : LooksFor (o (asks queries)) name p sent next p'
+
+  -- An option of this number that asks for contexts, which takes structured replies. In a failed pool it ends the session, whatever its data. refused: the terms behind an error.
+  abbrev pub Queries : ℕ → (List (List ℕ) → Bool) → (Bool → VolumeOption) → Terms → Terms → List ℕ → S → List ℕ → Phase → S → Type 0
+  Queries option asks o terms refused payload p sent next p' =
+      MatchBool (is_failed (outline p).mode)
+      (Ends [] (Options terms) p sent next p')
+      (MatchBool terms.is_structured
+      (IsNoQuery option refused payload p sent next p' ⊎ IsQueried asks o payload p sent next p')
+      (Tells (option_error option Invalid refused) p sent next p'))
+
+  -- the options of an extended session alone
+  abbrev pub Extends : Terms → ℕ → List ℕ → S → List ℕ → Phase → S → Type 0
+  Extends terms option payload p sent next p' =
+      MatchBool (option == OPTION_STRUCTURED_REPLY) (Tells (structures terms payload) p sent next p')
+      (MatchBool (option == OPTION_LIST_META_CONTEXT) (Queries OPTION_LIST_META_CONTEXT lists (list_context terms) terms terms payload p sent next p')
+      (MatchBool (option == OPTION_SET_META_CONTEXT) (Queries OPTION_SET_META_CONTEXT asks_for (set_context terms) terms (in_context terms 16777216) payload p sent next p')
+      (Tells (option_error option Unsupported terms) p sent next p')))
+
   -- an option, by its number: ABORT is acknowledged and ends the session, whatever its data
   abbrev pub Chooses : Terms → ℕ → List ℕ → S → List ℕ → Phase → S → Type 0
   Chooses terms option payload p sent next p' =
@@ -369,14 +479,15 @@ module _ {S : Type 0} (outline : S → Outline) (Calls : S → Call → Answer �
       (MatchBool (option == OPTION_EXPORT_NAME) (Exports (export_name terms) terms payload p sent next p')
       (MatchBool (option == OPTION_LIST) (Lists terms payload p sent next p')
       (MatchBool (option == OPTION_ABORT) (Ends (option_reply OPTION_ABORT Acknowledged []) (Options terms) p sent next p')
-      (Tells (option_error option Unsupported terms) p sent next p')))))
+      (MatchBool (is_extended terms.profile) (Extends terms option payload p sent next p')
+      (Tells (option_error option Unsupported terms) p sent next p'))))))
 
   -- One frame: what is sent for it, the next phase, and the pool after it.
   abbrev pub Answers : Phase → Message → S → List ℕ → Phase → S → Type 0
   Answers (Flags profile) (client_flags no_zeroes) p sent next p' = Tells (outcome [] (Options (terms_of profile no_zeroes))) p sent next p'
   Answers (Options terms) (client_option option payload) p sent next p' = Chooses terms option payload p sent next p'
-  Answers (Transmission volume size (Listens extended)) (command r payload) p sent next p' = Serves (verdict_in extended size r) volume size extended r payload p sent next p'
-  Answers (Transmission volume size (Works rest)) message p sent next p' = ⊥
+  Answers (Transmission volume size (Listens manner)) (command r payload) p sent next p' = Serves (verdict_in manner size r) volume size manner r payload p sent next p'
+  Answers (Transmission volume size (Works manner rest)) message p sent next p' = ⊥
   Answers phase malformed p sent next p' = Ends [] phase p sent next p'
   Answers phase _ p sent next p' = ⊥
 
@@ -412,8 +523,8 @@ module _ {S : Type 0} (outline : S → Outline) (Calls : S → Call → Answer �
     pub pool_is : p' ≡ p
 
   -- A session whose request has parts left makes the next one, and takes nothing of the piece.
-  pub record GoesOn (volume size : ℕ) (r : Request) (old : State) (p : S) (taken : ℕ) (sent : List ℕ) (ended : Bool) (new : State) (p' : S) : Type 0 where
-    pub part : MakesPart volume size r p sent new.phase p'
+  pub record GoesOn (volume size : ℕ) (manner : Manner) (r : Request) (old : State) (p : S) (taken : ℕ) (sent : List ℕ) (ended : Bool) (new : State) (p' : S) : Type 0 where
+    pub part : MakesPart volume size manner r p sent new.phase p'
     pub none : old.held ≡ []
     pub taken_is : taken ≡ 0
     pub ended_is : ended ≡ has_ended new.phase
@@ -421,7 +532,7 @@ module _ {S : Type 0} (outline : S → Outline) (Calls : S → Call → Answer �
 
   -- one that reads no frames
   abbrev pub IsDeaf : Phase → State → S → List ℕ → ℕ → List ℕ → Bool → State → S → Type 0
-  IsDeaf (Transmission volume size (Works r)) old p piece taken sent ended new p' = GoesOn volume size r old p taken sent ended new p'
+  IsDeaf (Transmission volume size (Works manner r)) old p piece taken sent ended new p' = GoesOn volume size manner r old p taken sent ended new p'
   IsDeaf Ended old p piece taken sent ended new p' = IsOver old p piece taken sent ended new p'
   IsDeaf phase old p piece taken sent ended new p' = ⊥
 

@@ -6,6 +6,7 @@ use Rattle.nbd_wire.specs.declared.Kind.{Kind}
 use Rattle.nbd_wire.specs.Grammar.{Message, IsFrame, IsPartial}
 use Rattle.nbd_wire.specs.declared.Request.{Request}
 use Rattle.nbd_session.specs.declared.phase.Course.TheVariants.{Works}
+use Rattle.nbd_session.specs.declared.phase.Manner.{Manner}
 use Rattle.nbd_session.specs.declared.phase.Phase.{Phase}
 use Rattle.nbd_session.specs.declared.phase.Phase.TheVariants.{Ended, Transmission}
 use Rattle.nbd_session.specs.Session.{State, state, kind_of, Answers, MakesPart}
@@ -20,11 +21,11 @@ module _ {S : Type 0} (outline : S → Outline) (Calls : S → Call → Answer �
     -- the rest of the text after an end is dropped
     over : {text : List ℕ} {p : S} → Talks Ended text p [] (state Ended []) p
     -- parts of a request are left, and nothing of the text is
-    stops : {volume size : ℕ} {r : Request} {p : S} → Talks (Transmission volume size (Works r)) [] p [] (state (Transmission volume size (Works r)) []) p
+    stops : {volume size : ℕ} {m : Manner} {r : Request} {p : S} → Talks (Transmission volume size (Works m r)) [] p [] (state (Transmission volume size (Works m r)) []) p
     -- the next part of a request is made, and then the rest
-    works : {text sent : List ℕ} {p p' : S} {new : State} (volume size : ℕ) (r : Request) (first others : List ℕ) (mid : Phase) (q : S)
-        → MakesPart outline Calls volume size r p first mid q → Talks mid text q others new p' → sent ≡ first ++ others
-        → Talks (Transmission volume size (Works r)) text p sent new p'
+    works : {text sent : List ℕ} {p p' : S} {new : State} (volume size : ℕ) (m : Manner) (r : Request) (first others : List ℕ) (mid : Phase) (q : S)
+        → MakesPart outline Calls volume size m r p first mid q → Talks mid text q others new p' → sent ≡ first ++ others
+        → Talks (Transmission volume size (Works m r)) text p sent new p'
     -- the first frame is answered, and then the rest
     goes : {phase : Phase} {text sent : List ℕ} {p p' : S} {new : State} (kind : Kind) (message : Message) (frame rest first others : List ℕ) (mid : Phase) (q : S)
         → kind_of phase ≡ Some kind → IsFrame kind message frame → text ≡ frame ++ rest

@@ -11,9 +11,9 @@ ghost use Rattle.nbd_session.specs.Clauses.{Advances, IsReady};
 use crate::answer::{MAX_ANSWER, answer};
 use crate::gather::gather;
 use crate::parts::make_part;
-use crate::phase::{Course, Phase};
+use crate::phase::{Course, Manner, Phase};
 use nbd_wire::{Kind, MAX_FRAME, Request, read_frame, wanted};
-use tp_model::{DevId, Volumes};
+use tp_model::{DevId, Volumes, Walked};
 
 fn kind_of(phase: &Phase) -> Option<Kind>
     ensures { result ≡ kind_in phase.now }
@@ -40,7 +40,7 @@ pub fn has_ended_in(phase: Phase) -> bool
 }
 
 /// The answer to a text that is one whole frame, or a fixed part that ends the connection.
-fn answer_text<V: Volumes>(
+fn answer_text<V: Walked>(
     phase: Phase,
     kind: Kind,
     text: &[u8],
@@ -74,6 +74,7 @@ pub struct Advanced {
 fn go_on_with<V: Volumes>(
     volume: DevId,
     size: u64,
+    manner: Manner,
     rest: Request,
     out: &mut [u8],
     pool: &mut V,
@@ -81,7 +82,7 @@ fn go_on_with<V: Volumes>(
     requires size { size ≡ known_bytes (V.view.outline pool.old).geometry (V.view.more pool.old) volume }
     requires left { IsLeft size rest }
     requires room { 16 ≤ length out.old }
-    ensures steps { GoesOn V.view.outline (PoolCall V.view) volume size rest (state (Phase.Transmission volume size (Course.Works rest)) []) pool.old
+    ensures steps { GoesOn V.view.outline (PoolCall V.view) volume size manner rest (state (Phase.Transmission volume size (Course.Works manner rest)) []) pool.old
         result.taken (take result.sent out.new) (has_ended result.phase) (state result.phase []) pool.new }
     ensures filled { result.filled ≡ 0 }
     ensures sound { IsSound result.phase }
@@ -89,7 +90,7 @@ fn go_on_with<V: Volumes>(
     ensures fits { result.sent ≤ length out.new }
     ensures len { length out.new ≡ length out.old }
 {
-    let (next, sent) = make_part(pool, volume, size, rest, out);
+    let (next, sent) = make_part(pool, volume, size, manner, rest, out);
     Advanced {
         phase: next,
         filled: 0,
@@ -118,7 +119,7 @@ fn go_on<V: Volumes>(phase: Phase, out: &mut [u8], pool: &mut V, piece: &[u8]) -
             size,
             course,
         } => match course {
-            Course::Works { rest } => go_on_with(volume, size, rest, out, pool),
+            Course::Works { manner, rest } => go_on_with(volume, size, manner, rest, out, pool),
             Course::Listens { .. } => unreachable!(),
         },
         _ => Advanced {
@@ -132,7 +133,7 @@ fn go_on<V: Volumes>(phase: Phase, out: &mut [u8], pool: &mut V, piece: &[u8]) -
 
 /// Takes bytes up to the end of one frame. What is sent stands at the front of `out`. A frame that stands whole in the
 /// piece is not copied.
-fn take_frame<V: Volumes>(
+fn take_frame<V: Walked>(
     phase: Phase,
     filled: usize,
     input: &mut [u8],
@@ -192,7 +193,7 @@ fn take_frame<V: Volumes>(
 }
 
 /// Takes bytes up to the end of one frame, and answers it at the front of `out`.
-pub fn advance<V: Volumes>(
+pub fn advance<V: Walked>(
     phase: Phase,
     filled: usize,
     input: &mut [u8],

@@ -4,20 +4,25 @@ ghost use Rattle.std.specs.Prelude.{◌≡◌, ◌≤◌, ◌<◌, ◌+◌, ◌/
 ghost use Rattle.tp_model.specs.Sectors.{sectors_of};
 ghost use Rattle.tp_model.specs.Pool.{hold_count};
 ghost use Rattle.tp_model.specs.Calls.{Refused, Read, Write, Trim, WriteZeroes, Flush};
+ghost use Rattle.tp_model.specs.Refusals.{nbd_code, nbd_error};
+ghost use Rattle.nbd_wire.specs.Chunks.{data_chunk, error_chunk};
 ghost use Rattle.nbd_wire.specs.Grammar.{payload_len};
 ghost use Rattle.nbd_wire.specs.Reading.{message_of};
 ghost use Rattle.nbd_wire.specs.Replies.{simple_reply};
 ghost use Rattle.nbd_session.specs.Requests.{IsWhole, has_fua, has_no_hole, known_bytes, verdict_in};
-ghost use Rattle.nbd_session.specs.Session.{Answers, LetsGo, Performs, Serves, reply_to, terms_of};
+ghost use Rattle.nbd_session.specs.Session.{Answers, LetsGo, Performs, Serves, chunk_to, empty_reply, error_reply, read_reply, reply_to, terms_of};
 ghost use Rattle.nbd_session.specs.Buffers.{IsSound};
 ghost use Rattle.tp_model.specs.Clauses.{PoolCall};
 ghost use Rattle.nbd_session.specs.Clauses.{IsOf, IsReady};
 
 use crate::options::choose;
-use crate::phase::{Course, Phase, Profile, Terms};
-use crate::request::{Verdict, judge_in};
-use nbd_wire::{Frame, Request, put_simple_reply_head};
-use tp_model::{DevId, Refusal, Volumes};
+use crate::phase::{Course, Manner, NO_VOLUME, Phase, Profile, Terms};
+use crate::request::{Verdict, is_chunked, judge_in};
+use crate::status::describe;
+use nbd_wire::{
+    Frame, Request, put_data_head, put_done_chunk, put_error_chunk, put_simple_reply_head,
+};
+use tp_model::{DevId, NbdError, Refusal, Volumes, Walked};
 
 /// The longest answer, to LIST, in bytes.
 pub const MAX_ANSWER: usize = 2_097_172;
@@ -53,11 +58,43 @@ pub fn put_read_head(out: &mut [u8], cookie: u64, len: usize) -> usize
     16 + len
 }
 
-/// A READ of some sectors, whose data goes to its place behind the reply's head.
-fn read<V: Volumes>(pool: &mut V, volume: DevId, request: &Request, out: &mut [u8]) -> usize
+/// The chunk that answers a request by this error.
+pub(crate) fn put_error_of(out: &mut [u8], error: NbdError, cookie: u64) -> usize
+    requires { 26 ≤ length out.old }
+    ensures reply { take result out.new ≡ error_chunk (nbd_code error) cookie }
+    ensures fits { result ≤ length out.new }
+    ensures len { length out.new ≡ length out.old }
+{
+    put_error_chunk(out, 0, error.code(), cookie)
+}
+
+/// The chunk that answers a request which the pool refused.
+pub(crate) fn put_refusal_chunk(out: &mut [u8], refusal: Refusal, cookie: u64) -> usize
+    requires { 26 ≤ length out.old }
+    ensures reply { take result out.new ≡ error_chunk (nbd_code (nbd_error refusal)) cookie }
+    ensures fits { result ≤ length out.new }
+    ensures len { length out.new ≡ length out.old }
+{
+    put_error_of(out, refusal.nbd_error(), cookie)
+}
+
+/// Puts the head of the one chunk that answers a READ before its data, which stands there already.
+pub(crate) fn put_chunk_head(out: &mut [u8], request: &Request) -> usize
+    requires most { request.now.len ≤ 1048576 }
+    requires room { 28 + request.now.len ≤ length out.old }
+    ensures reply { take result out.new ≡ data_chunk request.now.cookie request.now.offset (take request.now.len (drop 28 out.old)) }
+    ensures fits { result ≤ length out.new }
+    ensures len { length out.new ≡ length out.old }
+{
+    put_data_head(out, 0, request.cookie, request.offset, request.len);
+    28 + request.len as usize
+}
+
+/// A READ of some sectors that is answered by a simple reply, whose data goes to its place behind the reply's head.
+fn read_simply<V: Volumes>(pool: &mut V, volume: DevId, request: &Request, out: &mut [u8]) -> usize
     requires form { IsWhole (known_bytes (V.view.outline pool.old).geometry (V.view.more pool.old) volume) request.now }
     requires room { 1048592 ≤ length out.old }
-    ensures answer { Performs V.view.outline (PoolCall V.view) (Read volume (request.now.offset / 512) (request.now.len / 512)) request.now.cookie
+    ensures answer { Performs V.view.outline (PoolCall V.view) (Read volume (request.now.offset / 512) (request.now.len / 512)) (reply_to request.now.cookie)
         pool.old (take result out.new) pool.new }
     ensures fits { result ≤ length out.new }
     ensures len { length out.new ≡ length out.old }
@@ -66,6 +103,77 @@ fn read<V: Volumes>(pool: &mut V, volume: DevId, request: &Request, out: &mut [u
     match pool.read(volume, request.offset / 512, &mut out[16..16 + len]) {
         Ok(()) => put_read_head(out, request.cookie, len),
         Err(refusal) => put_refusal(out, refusal, request.cookie),
+    }
+}
+
+/// The same in one chunk.
+fn read_in_chunk<V: Volumes>(
+    pool: &mut V,
+    volume: DevId,
+    request: &Request,
+    out: &mut [u8],
+) -> usize
+    requires form { IsWhole (known_bytes (V.view.outline pool.old).geometry (V.view.more pool.old) volume) request.now }
+    requires room { 1048604 ≤ length out.old }
+    ensures answer { Performs V.view.outline (PoolCall V.view) (Read volume (request.now.offset / 512) (request.now.len / 512)) (chunk_to request.now)
+        pool.old (take result out.new) pool.new }
+    ensures fits { result ≤ length out.new }
+    ensures len { length out.new ≡ length out.old }
+{
+    let len = request.len as usize;
+    match pool.read(volume, request.offset / 512, &mut out[28..28 + len]) {
+        Ok(()) => put_chunk_head(out, request),
+        Err(refusal) => put_refusal_chunk(out, refusal, request.cookie),
+    }
+}
+
+/// A READ of some sectors.
+fn read<V: Volumes>(
+    pool: &mut V,
+    volume: DevId,
+    manner: Manner,
+    request: &Request,
+    out: &mut [u8],
+) -> usize
+    requires form { IsWhole (known_bytes (V.view.outline pool.old).geometry (V.view.more pool.old) volume) request.now }
+    requires room { 1048604 ≤ length out.old }
+    ensures answer { Performs V.view.outline (PoolCall V.view) (Read volume (request.now.offset / 512) (request.now.len / 512)) (read_reply manner request.now)
+        pool.old (take result out.new) pool.new }
+    ensures fits { result ≤ length out.new }
+    ensures len { length out.new ≡ length out.old }
+{
+    if manner.is_structured {
+        read_in_chunk(pool, volume, request, out)
+    } else {
+        read_simply(pool, volume, request, out)
+    }
+}
+
+/// The reply to a request that fails before the pool is asked.
+fn put_error(out: &mut [u8], manner: Manner, request: &Request, error: NbdError) -> usize
+    requires { 26 ≤ length out.old }
+    ensures reply { take result out.new ≡ error_reply manner request.now error }
+    ensures fits { result ≤ length out.new }
+    ensures len { length out.new ≡ length out.old }
+{
+    if is_chunked(manner, request) {
+        put_error_of(out, error, request.cookie)
+    } else {
+        put_reply(out, error.code(), request.cookie)
+    }
+}
+
+/// The reply to a request of no bytes.
+fn put_nothing(out: &mut [u8], manner: Manner, request: &Request) -> usize
+    requires { 20 ≤ length out.old }
+    ensures reply { take result out.new ≡ empty_reply manner request.now }
+    ensures fits { result ≤ length out.new }
+    ensures len { length out.new ≡ length out.old }
+{
+    if is_chunked(manner, request) {
+        put_done_chunk(out, 0, request.cookie)
+    } else {
+        put_reply(out, 0, request.cookie)
     }
 }
 
@@ -94,7 +202,7 @@ fn write<V: Volumes>(
     requires form { IsWhole (known_bytes (V.view.outline pool.old).geometry (V.view.more pool.old) volume) request.now }
     requires payload { length payload.now ≡ request.now.len }
     requires room { 16 ≤ length out.old }
-    ensures answer { Performs V.view.outline (PoolCall V.view) (Write volume (request.now.offset / 512) (sectors_of payload.now) (has_fua request.now)) request.now.cookie
+    ensures answer { Performs V.view.outline (PoolCall V.view) (Write volume (request.now.offset / 512) (sectors_of payload.now) (has_fua request.now)) (reply_to request.now.cookie)
         pool.old (take result out.new) pool.new }
     ensures fits { result ≤ length out.new }
     ensures len { length out.new ≡ length out.old }
@@ -110,7 +218,7 @@ fn write<V: Volumes>(
 fn trim<V: Volumes>(pool: &mut V, volume: DevId, request: &Request, out: &mut [u8]) -> usize
     requires form { IsWhole (known_bytes (V.view.outline pool.old).geometry (V.view.more pool.old) volume) request.now }
     requires room { 16 ≤ length out.old }
-    ensures answer { Performs V.view.outline (PoolCall V.view) (Trim volume (request.now.offset / 512) (request.now.len / 512) (has_fua request.now)) request.now.cookie
+    ensures answer { Performs V.view.outline (PoolCall V.view) (Trim volume (request.now.offset / 512) (request.now.len / 512) (has_fua request.now)) (reply_to request.now.cookie)
         pool.old (take result out.new) pool.new }
     ensures fits { result ≤ length out.new }
     ensures len { length out.new ≡ length out.old }
@@ -128,7 +236,7 @@ fn write_zeroes<V: Volumes>(pool: &mut V, volume: DevId, request: &Request, out:
     requires form { IsWhole (known_bytes (V.view.outline pool.old).geometry (V.view.more pool.old) volume) request.now }
     requires room { 16 ≤ length out.old }
     ensures answer { Performs V.view.outline (PoolCall V.view) (WriteZeroes volume (request.now.offset / 512) (request.now.len / 512) (has_no_hole request.now) (has_fua request.now))
-        request.now.cookie pool.old (take result out.new) pool.new }
+        (reply_to request.now.cookie) pool.old (take result out.new) pool.new }
     ensures fits { result ≤ length out.new }
     ensures len { length out.new ≡ length out.old }
 {
@@ -144,7 +252,7 @@ fn write_zeroes<V: Volumes>(pool: &mut V, volume: DevId, request: &Request, out:
 /// A FLUSH.
 fn flush<V: Volumes>(pool: &mut V, cookie: u64, out: &mut [u8]) -> usize
     requires { 16 ≤ length out.old }
-    ensures answer { Performs V.view.outline (PoolCall V.view) Flush cookie pool.old (take result out.new) pool.new }
+    ensures answer { Performs V.view.outline (PoolCall V.view) Flush (reply_to cookie) pool.old (take result out.new) pool.new }
     ensures fits { result ≤ length out.new }
     ensures len { length out.new ≡ length out.old }
 {
@@ -167,22 +275,22 @@ pub fn end<V: Volumes>(phase: Phase, pool: &mut V) -> Phase
 }
 
 /// Where a session stands that has so much left of a request.
-pub(crate) fn at_work(volume: DevId, size: u64, rest: Request) -> Phase
-    ensures { result ≡ Phase.Transmission volume size (Course.Works rest) }
+pub(crate) fn at_work(volume: DevId, size: u64, manner: Manner, rest: Request) -> Phase
+    ensures { result ≡ Phase.Transmission volume size (Course.Works manner rest) }
 {
     Phase::Transmission {
         volume,
         size,
-        course: Course::Works { rest },
+        course: Course::Works { manner, rest },
     }
 }
 
 /// The answer to one request of a volume of so many bytes.
-fn serve<V: Volumes>(
+fn serve<V: Walked>(
     pool: &mut V,
     volume: DevId,
     size: u64,
-    is_extended: bool,
+    manner: Manner,
     request: Request,
     payload: &[u8],
     out: &mut [u8],
@@ -190,8 +298,8 @@ fn serve<V: Volumes>(
     requires held { 0 < hold_count (V.view.outline pool.old).holds volume }
     requires size { size ≡ known_bytes (V.view.outline pool.old).geometry (V.view.more pool.old) volume }
     requires payload { length payload.now ≡ payload_len request }
-    requires room { 1048592 ≤ length out.old }
-    ensures answer { Serves V.view.outline (PoolCall V.view) (verdict_in is_extended size request) volume size is_extended request payload.now
+    requires room { 1048604 ≤ length out.old }
+    ensures answer { Serves V.view.outline (PoolCall V.view) (verdict_in manner size request) volume size manner request payload.now
         pool.old (take result.1 out.new) result.0 pool.new }
     ensures sound { IsSound result.0 }
     ensures fits { result.1 ≤ length out.new }
@@ -200,18 +308,19 @@ fn serve<V: Volumes>(
     let same = Phase::Transmission {
         volume,
         size,
-        course: Course::Listens { is_extended },
+        course: Course::Listens { manner },
     };
-    match judge_in(is_extended, size, &request) {
+    match judge_in(manner, size, &request) {
         Verdict::Disconnect => (end(same, pool), 0),
-        Verdict::Refuse(error) => (same, put_reply(out, error.code(), request.cookie)),
-        Verdict::Nothing => (same, put_reply(out, 0, request.cookie)),
-        Verdict::Read => (same, read(pool, volume, &request, out)),
+        Verdict::Refuse(error) => (same, put_error(out, manner, &request, error)),
+        Verdict::Nothing => (same, put_nothing(out, manner, &request)),
+        Verdict::Read => (same, read(pool, volume, manner, &request, out)),
         Verdict::Write => (same, write(pool, volume, &request, payload, out)),
         Verdict::Trim => (same, trim(pool, volume, &request, out)),
         Verdict::WriteZeroes => (same, write_zeroes(pool, volume, &request, out)),
         Verdict::Flush => (same, flush(pool, request.cookie, out)),
-        Verdict::Long => (at_work(volume, size, request), 0),
+        Verdict::Long => (at_work(volume, size, manner, request), 0),
+        Verdict::Status => (same, describe(pool, volume, &request, out)),
     }
 }
 
@@ -220,12 +329,17 @@ fn agree(profile: Profile, no_zeroes: bool) -> Phase
     ensures { result ≡ Phase.Options (terms_of profile no_zeroes) }
 {
     Phase::Options {
-        terms: Terms { no_zeroes, profile },
+        terms: Terms {
+            no_zeroes,
+            profile,
+            is_structured: false,
+            context: NO_VOLUME,
+        },
     }
 }
 
 /// The answer to one frame, which stands at the front of `out`, and the next phase.
-pub fn answer<V: Volumes>(
+pub fn answer<V: Walked>(
     phase: Phase,
     frame: Frame<'_>,
     out: &mut [u8],
@@ -255,8 +369,8 @@ pub fn answer<V: Volumes>(
                 size,
                 course,
             } => match course {
-                Course::Listens { is_extended } => {
-                    serve(pool, volume, size, is_extended, request, payload, out)
+                Course::Listens { manner } => {
+                    serve(pool, volume, size, manner, request, payload, out)
                 }
                 Course::Works { .. } => unreachable!(),
             },

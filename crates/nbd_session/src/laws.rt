@@ -1,14 +1,19 @@
 //! Laws of a session, over all texts.
 
-ghost use Rattle.std.specs.Prelude.{◌≡◌, ◌++◌, ℕ, List, Bool};
-ghost use Rattle.tp_model.specs.Pool.{PlainPool, outline_of};
+ghost use Rattle.std.specs.Prelude.{◌≡◌, ◌++◌, ◌<◌, ℕ, List, Bool};
+ghost use Rattle.std.specs.FinMap.{entries};
+ghost use Rattle.tp_model.specs.Pool.{IsSound, PlainPool, outline_of, volume_slots};
+ghost use Rattle.tp_model.specs.Calls.{piece_from};
+ghost use Rattle.nbd_wire.specs.declared.Request.{Request};
 ghost use Rattle.nbd_session.specs.declared.phase.Phase.{Phase};
 ghost use Rattle.nbd_session.specs.Session.{LetsGo, State, Steps};
 ghost use Rattle.nbd_session.specs.Clauses.{Feeds, PlainCall};
+ghost use Rattle.nbd_session.specs.Status.{AreTold, IsBlank, IsMapped, IsStatus, IsUnmapped, TellsOf, first_block, unit_of};
 ghost use Rattle.nbd_session.specs.Talk.{Converses};
 ghost use Rattle.nbd_session.specs.Turns.{AreLives, AreRuns, AreSame, AreTurns, Happened, Life, Sessions, sent_to};
 ghost use Rattle.tp_model.specs.Clauses.{HasTrace, PoolCall, Traced, TracedCall, outline_of_traced};
 
+use tp_listings::pages_are_exact;
 use tp_model::Volumes;
 
 /// How much a step takes depends on what is held and on the piece alone, and not on the pool.
@@ -58,3 +63,15 @@ pub fn lives_are_runs<V: Volumes>()
     ensures { (image : V.view.Image) (s : PlainPool) (lives : List (Life V V.view.Image))
         → V.view.stands_for image s → AreLives V.view image lives → AreRuns V.view s lives }
 {}
+
+/// What BLOCK_STATUS is answered is exact: each byte that is told as data lies in a block that is mapped, and each byte of a hole in one that is not, where sectors are
+/// zero, in any pool that calls make. The extents begin at the request's first byte, each has a byte at least, none ends behind the request, and with REQ_ONE there is one alone.
+pub fn statuses_are_exact()
+    ensures exact { (s : PlainPool) (id : ℕ) (r : Request) (sent : List ℕ) → 0 < r.len → 0 < unit_of s.geometry → first_block (unit_of s.geometry) r < 16777216
+        → IsStatus (unit_of s.geometry) r (piece_from (first_block (unit_of s.geometry) r) (entries (volume_slots s id))) sent
+        → TellsOf (IsMapped s id) (IsUnmapped s id) r sent }
+    ensures zeros { (s : PlainPool) (id at : ℕ) (extents : List (ℕ × ℕ)) → IsSound s → AreTold (IsMapped s id) (IsUnmapped s id) at extents
+        → AreTold (IsMapped s id) (IsBlank s id) at extents }
+{
+    pages_are_exact();
+}

@@ -18,11 +18,16 @@ mod phase;
 mod request;
 mod session;
 mod shared;
+mod spans;
+mod status;
 
 pub use answer::MAX_ANSWER;
 pub use feeding::feed;
-pub use laws::{lives_are_runs, one_place, pieces_join, sessions_are_plain, turns_are_traced};
+pub use laws::{
+    lives_are_runs, one_place, pieces_join, sessions_are_plain, statuses_are_exact,
+    turns_are_traced,
+};
 pub use name::id_of;
-pub use phase::{Course, Phase, Profile, Terms};
+pub use phase::{Course, Manner, Phase, Profile, Terms};
 pub use session::{Answered, Session, Step};
 pub use shared::begins_with_read;

@@ -4,17 +4,20 @@ ghost use Rattle.std.specs.Prelude.{◌≡◌, ◌≤◌, ◌<◌, [], false, tr
 ghost use Rattle.tp_model.specs.Pool.{hold_count, hold_total};
 ghost use Rattle.tp_model.specs.Calls.{is_failed, is_read_only};
 ghost use Rattle.tp_model.specs.Clauses.{PoolCall};
+ghost use Rattle.nbd_wire.specs.Contexts.{asks_for, lists};
 ghost use Rattle.nbd_wire.specs.Replies.{option_reply};
 ghost use Rattle.nbd_session.specs.Requests.{bytes_of_blocks};
 ghost use Rattle.nbd_session.specs.Looking.{IsTold, Learns, LooksUp, TakesHold, TakesOn};
-ghost use Rattle.nbd_session.specs.Session.{AsksFor, Chooses, Exports, Informs, IsOutcome, begun, export_name, flags_in, go, info, info_reply, option_error};
+ghost use Rattle.nbd_session.specs.Session.{AsksFor, Chooses, Exports, Extends, Informs, IsOutcome, Queries, begun, context_reply, export_name, flags_in, go, in_context, info, info_reply, list_context, manner_of, option_error, set_context, structures};
 
 use crate::listing::list;
 use crate::name::meant;
-use crate::phase::{Course, Phase, Profile, Terms, is_extended};
+use crate::phase::{Course, Manner, NO_VOLUME, Phase, Terms, is_extended};
 use nbd_wire::{
-    OPTION_ABORT, OPTION_EXPORT_NAME, OPTION_GO, OPTION_INFO, OPTION_LIST, ReplyType, info_name,
-    put_block_size_info, put_export_info, put_export_reply, put_option_reply_head,
+    OPTION_ABORT, OPTION_EXPORT_NAME, OPTION_GO, OPTION_INFO, OPTION_LIST,
+    OPTION_LIST_META_CONTEXT, OPTION_SET_META_CONTEXT, OPTION_STRUCTURED_REPLY, ReplyType,
+    info_name, put_block_size_info, put_context_reply, put_export_info, put_export_reply,
+    put_option_reply_head, read_query,
 };
 use tp_model::{DevId, Geometry, Mode, Refusal, Volumes};
 
@@ -26,6 +29,9 @@ const READ_ONLY_FLAGS: u16 = 0x6f;
 
 /// The transmission flag CAN_MULTI_CONN.
 const MULTI_CONN: u16 = 0x100;
+
+/// The transmission flag SEND_DF.
+const SEND_DF: u16 = 0x80;
 
 /// An option reply without data, at the front.
 fn put_option_reply(out: &mut [u8], option: u32, reply: ReplyType) -> usize
@@ -78,16 +84,200 @@ fn flags_of(mode: Mode) -> u16
     }
 }
 
-/// The same where the session is extended, with CAN_MULTI_CONN: what one connection was answered, a FLUSH on another keeps.
-fn flags_in(profile: Profile, flags: u16) -> u16
-    requires { flags < 256 }
-    ensures { result ≡ flags_in profile flags }
+/// The same where the session is extended, with CAN_MULTI_CONN: what one connection was answered, a FLUSH on another keeps. Where READs are answered in
+/// chunks, with SEND_DF.
+fn flags_in(terms: Terms, flags: u16) -> u16
+    requires { flags < 128 }
+    ensures { result ≡ flags_in terms flags }
 {
-    if is_extended(profile) {
-        MULTI_CONN + flags
+    let multi_conn = if is_extended(terms.profile) {
+        MULTI_CONN
     } else {
-        flags
+        0
+    };
+    let send_df = if terms.is_structured { SEND_DF } else { 0 };
+    multi_conn + (send_df + flags)
+}
+
+/// How requests are taken and answered once transmission begins.
+fn manner_of(terms: Terms, volume: DevId) -> Manner
+    ensures { result ≡ manner_of terms volume }
+{
+    Manner {
+        is_extended: is_extended(terms.profile),
+        is_structured: terms.is_structured,
+        tells_blocks: terms.context == volume.number(),
     }
+}
+
+/// The same terms with another context.
+fn in_context(terms: Terms, context: u32) -> Terms
+    ensures { result ≡ in_context terms context }
+{
+    Terms { context, ..terms }
+}
+
+/// The answer to an option that looks for the one context, at the front: a reply that tells it where it is asked for, and ACK.
+#[tactic(auto, unfolding(crate::specs::Session::context_reply))]
+fn put_context(out: &mut [u8], option: u32, is_asked: bool) -> usize
+    requires { 59 ≤ length out.old }
+    ensures reply { take result out.new ≡ context_reply option is_asked }
+    ensures fits { result ≤ length out.new }
+    ensures len { length out.new ≡ length out.old }
+{
+    if !is_asked {
+        return put_option_reply(out, option, ReplyType::Acknowledged);
+    }
+    let end = put_context_reply(out, 0, option);
+    put_option_reply_head(out, end, option, ReplyType::Acknowledged, 0)
+}
+
+/// LIST_META_CONTEXT of a volume.
+fn tell_list<V: Volumes>(
+    terms: Terms,
+    volume: DevId,
+    is_listed: bool,
+    out: &mut [u8],
+    pool: &mut V,
+) -> (Phase, usize)
+    requires room { 86 ≤ length out.old }
+    ensures answer { AsksFor V.view.outline (PoolCall V.view) (list_context terms is_listed) volume pool.old (take result.1 out.new) result.0 pool.new }
+    ensures fits { result.1 ≤ length out.new }
+    ensures len { length out.new ≡ length out.old }
+{
+    match find(pool, volume) {
+        Ok(Some(_)) => (
+            Phase::Options { terms },
+            put_context(out, OPTION_LIST_META_CONTEXT, is_listed),
+        ),
+        Ok(None) => answer_error(terms, OPTION_LIST_META_CONTEXT, ReplyType::Unknown, out),
+        Err(_) => (Phase::Ended, 0),
+    }
+}
+
+/// SET_META_CONTEXT of a volume.
+fn tell_set<V: Volumes>(
+    terms: Terms,
+    volume: DevId,
+    is_asked: bool,
+    out: &mut [u8],
+    pool: &mut V,
+) -> (Phase, usize)
+    requires room { 86 ≤ length out.old }
+    ensures answer { AsksFor V.view.outline (PoolCall V.view) (set_context terms is_asked) volume pool.old (take result.1 out.new) result.0 pool.new }
+    ensures fits { result.1 ≤ length out.new }
+    ensures len { length out.new ≡ length out.old }
+{
+    match find(pool, volume) {
+        Ok(Some(_)) => {
+            let context = if is_asked { volume.number() } else { NO_VOLUME };
+            let terms = in_context(terms, context);
+            let sent = put_context(out, OPTION_SET_META_CONTEXT, is_asked);
+            (Phase::Options { terms }, sent)
+        }
+        Ok(None) => {
+            let terms = in_context(terms, NO_VOLUME);
+            answer_error(terms, OPTION_SET_META_CONTEXT, ReplyType::Unknown, out)
+        }
+        Err(_) => (Phase::Ended, 0),
+    }
+}
+
+/// The answer to LIST_META_CONTEXT.
+fn list_contexts<V: Volumes>(
+    terms: Terms,
+    payload: &[u8],
+    out: &mut [u8],
+    pool: &mut V,
+) -> (Phase, usize)
+    requires room { 86 ≤ length out.old }
+    ensures answer { Queries V.view.outline (PoolCall V.view) OPTION_LIST_META_CONTEXT lists (list_context terms) terms terms payload.now pool.old (take result.1 out.new) result.0 pool.new }
+    ensures fits { result.1 ≤ length out.new }
+    ensures len { length out.new ≡ length out.old }
+{
+    if has_failed(pool.mode()) {
+        return (Phase::Ended, 0);
+    }
+    if !terms.is_structured {
+        return answer_error(terms, OPTION_LIST_META_CONTEXT, ReplyType::Invalid, out);
+    }
+    let Some(query) = read_query(payload) else {
+        return answer_error(terms, OPTION_LIST_META_CONTEXT, ReplyType::Invalid, out);
+    };
+    match meant(terms.profile, query.name) {
+        None => answer_error(terms, OPTION_LIST_META_CONTEXT, ReplyType::Unknown, out),
+        Some(volume) => tell_list(terms, volume, query.lists, out, pool),
+    }
+}
+
+/// The answer to SET_META_CONTEXT.
+fn set_contexts<V: Volumes>(
+    terms: Terms,
+    payload: &[u8],
+    out: &mut [u8],
+    pool: &mut V,
+) -> (Phase, usize)
+    requires room { 86 ≤ length out.old }
+    ensures answer { Queries V.view.outline (PoolCall V.view) OPTION_SET_META_CONTEXT asks_for (set_context terms) terms (in_context terms 16777216) payload.now pool.old (take result.1 out.new) result.0 pool.new }
+    ensures fits { result.1 ≤ length out.new }
+    ensures len { length out.new ≡ length out.old }
+{
+    if has_failed(pool.mode()) {
+        return (Phase::Ended, 0);
+    }
+    let forgotten = in_context(terms, NO_VOLUME);
+    if !terms.is_structured {
+        return answer_error(forgotten, OPTION_SET_META_CONTEXT, ReplyType::Invalid, out);
+    }
+    let Some(query) = read_query(payload) else {
+        return answer_error(forgotten, OPTION_SET_META_CONTEXT, ReplyType::Invalid, out);
+    };
+    match meant(terms.profile, query.name) {
+        None => answer_error(forgotten, OPTION_SET_META_CONTEXT, ReplyType::Unknown, out),
+        Some(volume) => tell_set(terms, volume, query.asks, out, pool),
+    }
+}
+
+/// The answer to an option that an extended session alone may take.
+fn extend<V: Volumes>(
+    terms: Terms,
+    option: u32,
+    payload: &[u8],
+    out: &mut [u8],
+    pool: &mut V,
+) -> (Phase, usize)
+    requires room { 86 ≤ length out.old }
+    ensures answer { Extends V.view.outline (PoolCall V.view) terms option payload.now pool.old (take result.1 out.new) result.0 pool.new }
+    ensures fits { result.1 ≤ length out.new }
+    ensures len { length out.new ≡ length out.old }
+{
+    if option == OPTION_STRUCTURED_REPLY {
+        structure(terms, payload, out)
+    } else if option == OPTION_LIST_META_CONTEXT {
+        list_contexts(terms, payload, out, pool)
+    } else if option == OPTION_SET_META_CONTEXT {
+        set_contexts(terms, payload, out, pool)
+    } else {
+        answer_error(terms, option, ReplyType::Unsupported, out)
+    }
+}
+
+/// The answer to STRUCTURED_REPLY.
+fn structure(terms: Terms, payload: &[u8], out: &mut [u8]) -> (Phase, usize)
+    requires room { 20 ≤ length out.old }
+    ensures answer { IsOutcome (structures terms payload.now) (take result.1 out.new) result.0 }
+    ensures fits { result.1 ≤ length out.new }
+    ensures len { length out.new ≡ length out.old }
+{
+    if !payload.is_empty() {
+        return answer_error(terms, OPTION_STRUCTURED_REPLY, ReplyType::Invalid, out);
+    }
+    let terms = Terms {
+        is_structured: true,
+        ..terms
+    };
+    let sent = put_option_reply(out, OPTION_STRUCTURED_REPLY, ReplyType::Acknowledged);
+    (Phase::Options { terms }, sent)
 }
 
 /// Where a session stands that begins with transmission.
@@ -98,7 +288,7 @@ fn begin(terms: Terms, volume: DevId, size: u64) -> Phase
         volume,
         size,
         course: Course::Listens {
-            is_extended: is_extended(terms.profile),
+            manner: manner_of(terms, volume),
         },
     }
 }
@@ -204,7 +394,7 @@ fn enter<V: Volumes>(terms: Terms, volume: DevId, out: &mut [u8], pool: &mut V) 
     ensures fits { result.1 ≤ length out.new }
     ensures len { length out.new ≡ length out.old }
 {
-    let flags = flags_in(terms.profile, flags_of(pool.mode()));
+    let flags = flags_in(terms, flags_of(pool.mode()));
     match find_and_hold(pool, volume) {
         Ok(Some(size)) => (
             begin(terms, volume, size),
@@ -242,7 +432,7 @@ fn tell<V: Volumes>(terms: Terms, volume: DevId, out: &mut [u8], pool: &mut V) -
     ensures fits { result.1 ≤ length out.new }
     ensures len { length out.new ≡ length out.old }
 {
-    let flags = flags_in(terms.profile, flags_of(pool.mode()));
+    let flags = flags_in(terms, flags_of(pool.mode()));
     match find(pool, volume) {
         Ok(Some(size)) => (
             Phase::Options { terms },
@@ -280,7 +470,7 @@ fn export<V: Volumes>(terms: Terms, volume: DevId, out: &mut [u8], pool: &mut V)
     ensures fits { result.1 ≤ length out.new }
     ensures len { length out.new ≡ length out.old }
 {
-    let flags = flags_in(terms.profile, flags_of(pool.mode()));
+    let flags = flags_in(terms, flags_of(pool.mode()));
     match find_and_hold(pool, volume) {
         Ok(Some(size)) => {
             let sent = put_export_reply(out, 0, size, flags, terms.no_zeroes);
@@ -339,6 +529,8 @@ pub fn choose<V: Volumes>(
             Phase::Ended,
             put_option_reply(out, OPTION_ABORT, ReplyType::Acknowledged),
         )
+    } else if is_extended(terms.profile) {
+        extend(terms, option, payload, out, pool)
     } else {
         answer_error(terms, option, ReplyType::Unsupported, out)
     }

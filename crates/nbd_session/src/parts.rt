@@ -8,7 +8,7 @@ ghost use Rattle.nbd_session.specs.Session.{MakesPart, left_in};
 ghost use Rattle.nbd_session.specs.Buffers.{IsSound};
 
 use crate::answer::{at_work, put_refusal, put_reply, wants_fua, wants_no_hole};
-use crate::phase::{Course, Phase};
+use crate::phase::{Course, Manner, Phase};
 use nbd_wire::{COMMAND_TRIM, Request};
 use tp_model::{DevId, Geometry, Refusal, Volumes};
 
@@ -112,13 +112,14 @@ pub fn make_part<V: Volumes>(
     pool: &mut V,
     volume: DevId,
     size: u64,
+    manner: Manner,
     rest: Request,
     out: &mut [u8],
 ) -> (Phase, usize)
     requires size { size ≡ known_bytes (V.view.outline pool.old).geometry (V.view.more pool.old) volume }
     requires left { IsLeft size rest }
     requires room { 16 ≤ length out.old }
-    ensures made { MakesPart V.view.outline (PoolCall V.view) volume size rest pool.old (take result.1 out.new) result.0 pool.new }
+    ensures made { MakesPart V.view.outline (PoolCall V.view) volume size manner rest pool.old (take result.1 out.new) result.0 pool.new }
     ensures sound { IsSound result.0 }
     ensures less { left_in result.0 < rest.len }
     ensures fits { result.1 ≤ length out.new }
@@ -127,7 +128,7 @@ pub fn make_part<V: Volumes>(
     let same = Phase::Transmission {
         volume,
         size,
-        course: Course::Listens { is_extended: true },
+        course: Course::Listens { manner },
     };
     let geometry = pool.geometry();
     let part = part_of(&geometry, &rest);
@@ -137,5 +138,5 @@ pub fn make_part<V: Volumes>(
     if part.is_last {
         return (same, put_reply(out, 0, rest.cookie));
     }
-    (at_work(volume, size, behind(rest, part.len)), 0)
+    (at_work(volume, size, manner, behind(rest, part.len)), 0)
 }

@@ -11,7 +11,7 @@ use tp_model::DevId;
 pub enum Profile {
     /// One connection for each client, requests of at most 1 MiB, and no volume for the empty name.
     Strict,
-    /// Several connections of one client, and TRIM and WRITE_ZEROES of any length.
+    /// Several connections of one client, TRIM and WRITE_ZEROES of any length, structured replies to READ, and BLOCK_STATUS.
     Extended,
     /// The same, and this volume for the empty name; none where the number is over 16777215.
     WithDefault { volume: u32 },
@@ -35,22 +35,40 @@ impl Profile {
     }
 }
 
-/// What a session and its client agreed on before the first option.
+/// The least number that is the id of no volume.
+pub(crate) const NO_VOLUME: u32 = 16_777_216;
+
+/// What a session and its client have agreed on so far.
 #[derive(Clone, Copy, Debug, PartialEq, Eq)]
 pub struct Terms {
     /// Whether the client wants no padding zeroes.
     pub no_zeroes: bool,
     /// What the session offers.
     pub profile: Profile,
+    /// Whether READs are to be answered in chunks, as the client has asked for.
+    pub is_structured: bool,
+    /// The volume of which the client wants to be told where it has data; none where the number is over 16777215.
+    pub context: u32,
+}
+
+/// How requests are taken and answered in transmission.
+#[derive(Clone, Copy, Debug, PartialEq, Eq)]
+pub struct Manner {
+    /// Whether a request that has no data may be longer than 1 MiB.
+    pub is_extended: bool,
+    /// Whether READs are answered in chunks.
+    pub is_structured: bool,
+    /// Whether BLOCK_STATUS is answered.
+    pub tells_blocks: bool,
 }
 
 /// What a session in transmission does next.
 #[derive(Clone, Copy, Debug, PartialEq, Eq)]
 pub enum Course {
-    /// It takes a request, which may be longer than 1 MiB where the session is extended and the request has no data.
-    Listens { is_extended: bool },
-    /// It makes the next part of a request of an extended session, of which so much is left.
-    Works { rest: Request },
+    /// It takes a request.
+    Listens { manner: Manner },
+    /// It makes the next part of a request of which so much is left.
+    Works { manner: Manner, rest: Request },
 }
 
 /// What the client may send next.

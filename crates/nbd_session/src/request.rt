@@ -3,11 +3,12 @@
 ghost use Rattle.std.specs.Prelude.{◌≡◌, ◌⊎◌, IfNone, if◌then◌else◌, true};
 ghost use Rattle.tp_model.specs.Requests.{form_error};
 ghost use Rattle.tp_model.specs.declared.refusal.NbdError.TheVariants.{Invalid, NoSpace};
-ghost use Rattle.nbd_session.specs.Requests.{IsForSectors, IsLeft, IsTested, IsWhole, form_of, is_long, long_error, verdict_in, verdict_on};
+ghost use Rattle.nbd_session.specs.Requests.{IsForSectors, IsLeft, IsTested, IsWhole, form_of, is_chunked, is_long, is_status, long_error, plainly, reads_in_chunks, status_error, verdict_in, verdict_on, without_df};
 
+use crate::phase::Manner;
 use nbd_wire::{
-    COMMAND_DISC, COMMAND_FLUSH, COMMAND_READ, COMMAND_TRIM, COMMAND_WRITE, COMMAND_WRITE_ZEROES,
-    Request,
+    COMMAND_BLOCK_STATUS, COMMAND_DISC, COMMAND_FLUSH, COMMAND_READ, COMMAND_TRIM, COMMAND_WRITE,
+    COMMAND_WRITE_ZEROES, Request,
 };
 use tp_model::NbdError;
 
@@ -32,6 +33,8 @@ pub enum Verdict {
     Disconnect,
     /// The parts of a long request are to be made.
     Long,
+    /// Where there is data is to be told.
+    Status,
 }
 
 /// The error of the first test that fails, for a volume of so many bytes.
@@ -133,16 +136,83 @@ fn error_past_end(is_write_zeroes: bool) -> NbdError
     }
 }
 
-/// What becomes of a request of a session that is extended, or is not.
-pub fn judge_in(is_extended: bool, size: u64, request: &Request) -> Verdict
-    ensures verdict { result ≡ verdict_in is_extended size request.now }
+/// Whether a READ is answered in chunks.
+fn reads_in_chunks(manner: Manner, request: &Request) -> bool
+    ensures { result ≡ reads_in_chunks manner request.now }
+{
+    manner.is_structured && request.kind == COMMAND_READ
+}
+
+/// Whether a request is answered in chunks.
+pub(crate) fn is_chunked(manner: Manner, request: &Request) -> bool
+    ensures { result ≡ is_chunked manner request.now }
+{
+    manner.is_structured && (request.kind == COMMAND_READ || request.kind == COMMAND_BLOCK_STATUS)
+}
+
+/// Whether a request is a BLOCK_STATUS that is answered.
+fn is_status(manner: Manner, request: &Request) -> bool
+    ensures { result ≡ is_status manner request.now }
+{
+    manner.tells_blocks && request.kind == COMMAND_BLOCK_STATUS
+}
+
+/// The error of the first test of a BLOCK_STATUS that fails, for a volume of so many bytes.
+fn status_error_of(size: u64, request: &Request) -> Option<NbdError>
+    ensures error { result ≡ status_error size request.now }
+    ensures passed { IfNone result (IsLeft size request.now) }
+{
+    if request.flags % 8 >= 2 || request.flags >= 16 {
+        return Some(NbdError::Invalid);
+    }
+    if request.offset % 512 != 0 || request.len % 512 != 0 {
+        return Some(NbdError::Invalid);
+    }
+    if request.len == 0 {
+        return Some(NbdError::Invalid);
+    }
+    if request.offset > size || request.len as u64 > size - request.offset {
+        return Some(NbdError::Invalid);
+    }
+    None
+}
+
+/// A request as its tests take it: without the flag DF, where it may have that.
+fn plainly(manner: Manner, request: &Request) -> Request
+    ensures { result ≡ plainly manner request.now }
+{
+    if reads_in_chunks(manner, request) {
+        return Request {
+            flags: without_df(request.flags),
+            ..*request
+        };
+    }
+    *request
+}
+
+/// Command flags without DF, the third.
+fn without_df(flags: u16) -> u16
+    ensures { result ≡ without_df flags }
+{
+    if flags / 4 % 2 == 1 { flags - 4 } else { flags }
+}
+
+/// What becomes of a request that is taken in this manner.
+pub fn judge_in(manner: Manner, size: u64, request: &Request) -> Verdict
+    ensures verdict { result ≡ verdict_in manner size request.now }
     ensures tested { IsTested result size request.now }
 {
-    if is_extended && is_long(request) {
+    if is_status(manner, request) {
+        return match status_error_of(size, request) {
+            Some(error) => Verdict::Refuse(error),
+            None => Verdict::Status,
+        };
+    }
+    if manner.is_extended && is_long(request) {
         return match long_error_of(size, request) {
             Some(error) => Verdict::Refuse(error),
             None => Verdict::Long,
         };
     }
-    judge(size, request)
+    judge(size, &plainly(manner, request))
 }

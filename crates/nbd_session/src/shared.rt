@@ -5,18 +5,18 @@ ghost use Rattle.tp_model.specs.Calls.{Read};
 ghost use Rattle.tp_model.specs.Clauses.{PoolCall};
 ghost use Rattle.nbd_wire.specs.Reading.{message_of, whole_len};
 ghost use Rattle.nbd_session.specs.Requests.{BeginsWithRead, IsWhole, is_read_message, known_bytes, verdict_in};
-ghost use Rattle.nbd_session.specs.Session.{AnswersText, Performs, Serves, Steps, is_at_work, state};
+ghost use Rattle.nbd_session.specs.Session.{AnswersText, Performs, Serves, Steps, chunk_to, is_at_work, read_reply, reply_to, state};
 ghost use Rattle.nbd_session.specs.Clauses.{IsReady};
 
-use crate::answer::{MAX_ANSWER, put_read_head};
-use crate::phase::{Course, Phase};
+use crate::answer::{MAX_ANSWER, put_chunk_head, put_read_head};
+use crate::phase::{Course, Manner, Phase};
 use crate::request::{Verdict, judge_in};
 use crate::session::Answered;
 use nbd_wire::{COMMAND_READ, Frame, Kind, Request, read_frame, wanted};
 use tp_model::{DevId, SharedReads, Volumes};
 
-/// A READ of some sectors, whose data goes to its place behind the reply's head. None where the pool has no shared read of them.
-fn read<V: Volumes, S: SharedReads<V>>(
+/// A READ of some sectors that is answered by a simple reply, whose data goes to its place behind the reply's head. None where the pool has no shared read of them.
+fn read_simply<V: Volumes, S: SharedReads<V>>(
     pool: &S,
     volume: DevId,
     request: &Request,
@@ -24,7 +24,7 @@ fn read<V: Volumes, S: SharedReads<V>>(
 ) -> Option<usize>
     requires form { IsWhole (known_bytes (V.view.outline (S.of pool.now)).geometry (V.view.more (S.of pool.now)) volume) request.now }
     requires room { 1048592 ≤ length out.old }
-    ensures answer { IfSome result (λ sent. Performs V.view.outline (PoolCall V.view) (Read volume (request.now.offset / 512) (request.now.len / 512)) request.now.cookie
+    ensures answer { IfSome result (λ sent. Performs V.view.outline (PoolCall V.view) (Read volume (request.now.offset / 512) (request.now.len / 512)) (reply_to request.now.cookie)
         (S.of pool.now) (take sent out.new) (S.of pool.now)) }
     ensures fits { IfSome result (λ sent. sent ≤ length out.new) }
     ensures len { length out.new ≡ length out.old }
@@ -36,25 +36,68 @@ fn read<V: Volumes, S: SharedReads<V>>(
     Some(put_read_head(out, request.cookie, len))
 }
 
+/// The same in one chunk.
+fn read_in_chunk<V: Volumes, S: SharedReads<V>>(
+    pool: &S,
+    volume: DevId,
+    request: &Request,
+    out: &mut [u8],
+) -> Option<usize>
+    requires form { IsWhole (known_bytes (V.view.outline (S.of pool.now)).geometry (V.view.more (S.of pool.now)) volume) request.now }
+    requires room { 1048604 ≤ length out.old }
+    ensures answer { IfSome result (λ sent. Performs V.view.outline (PoolCall V.view) (Read volume (request.now.offset / 512) (request.now.len / 512)) (chunk_to request.now)
+        (S.of pool.now) (take sent out.new) (S.of pool.now)) }
+    ensures fits { IfSome result (λ sent. sent ≤ length out.new) }
+    ensures len { length out.new ≡ length out.old }
+{
+    let len = request.len as usize;
+    if !pool.read_beside(volume, request.offset / 512, &mut out[28..28 + len]) {
+        return None;
+    }
+    Some(put_chunk_head(out, request))
+}
+
+/// A READ of some sectors. None where the pool has no shared read of them.
+fn read<V: Volumes, S: SharedReads<V>>(
+    pool: &S,
+    volume: DevId,
+    manner: Manner,
+    request: &Request,
+    out: &mut [u8],
+) -> Option<usize>
+    requires form { IsWhole (known_bytes (V.view.outline (S.of pool.now)).geometry (V.view.more (S.of pool.now)) volume) request.now }
+    requires room { 1048604 ≤ length out.old }
+    ensures answer { IfSome result (λ sent. Performs V.view.outline (PoolCall V.view) (Read volume (request.now.offset / 512) (request.now.len / 512)) (read_reply manner request.now)
+        (S.of pool.now) (take sent out.new) (S.of pool.now)) }
+    ensures fits { IfSome result (λ sent. sent ≤ length out.new) }
+    ensures len { length out.new ≡ length out.old }
+{
+    if manner.is_structured {
+        read_in_chunk(pool, volume, request, out)
+    } else {
+        read_simply(pool, volume, request, out)
+    }
+}
+
 /// The answer to one request of a volume of so many bytes, where its tests let it read.
 fn serve<V: Volumes, S: SharedReads<V>>(
     pool: &S,
     volume: DevId,
     size: u64,
-    is_extended: bool,
+    manner: Manner,
     request: Request,
     out: &mut [u8],
 ) -> Option<usize>
     requires size { size ≡ known_bytes (V.view.outline (S.of pool.now)).geometry (V.view.more (S.of pool.now)) volume }
-    requires room { 1048592 ≤ length out.old }
-    ensures answer { (payload : List ℕ) → IfSome result (λ sent. Serves V.view.outline (PoolCall V.view) (verdict_in is_extended size request) volume size is_extended request payload
-        (S.of pool.now) (take sent out.new) (Phase.Transmission volume size (Course.Listens is_extended)) (S.of pool.now)) }
+    requires room { 1048604 ≤ length out.old }
+    ensures answer { (payload : List ℕ) → IfSome result (λ sent. Serves V.view.outline (PoolCall V.view) (verdict_in manner size request) volume size manner request payload
+        (S.of pool.now) (take sent out.new) (Phase.Transmission volume size (Course.Listens manner)) (S.of pool.now)) }
     ensures kind { IfSome result (λ sent. request.kind ≡ COMMAND_READ) }
     ensures fits { IfSome result (λ sent. sent ≤ length out.new) }
     ensures len { length out.new ≡ length out.old }
 {
-    match judge_in(is_extended, size, &request) {
-        Verdict::Read => read(pool, volume, &request, out),
+    match judge_in(manner, size, &request) {
+        Verdict::Read => read(pool, volume, manner, &request, out),
         _ => None,
     }
 }
@@ -64,22 +107,22 @@ fn answer_text<V: Volumes, S: SharedReads<V>>(
     pool: &S,
     volume: DevId,
     size: u64,
-    is_extended: bool,
+    manner: Manner,
     text: &[u8],
     out: &mut [u8],
 ) -> Option<usize>
     requires size { size ≡ known_bytes (V.view.outline (S.of pool.now)).geometry (V.view.more (S.of pool.now)) volume }
     requires fixed { 28 ≤ length text.now }
     requires whole { whole_len Kind.Requests text.now ≡ length text.now }
-    requires room { 1048592 ≤ length out.old }
-    ensures answer { IfSome result (λ sent. AnswersText V.view.outline (PoolCall V.view) Kind.Requests (Phase.Transmission volume size (Course.Listens is_extended)) text.now
-        (S.of pool.now) (take sent out.new) (Phase.Transmission volume size (Course.Listens is_extended)) (S.of pool.now)) }
+    requires room { 1048604 ≤ length out.old }
+    ensures answer { IfSome result (λ sent. AnswersText V.view.outline (PoolCall V.view) Kind.Requests (Phase.Transmission volume size (Course.Listens manner)) text.now
+        (S.of pool.now) (take sent out.new) (Phase.Transmission volume size (Course.Listens manner)) (S.of pool.now)) }
     ensures begins { IfSome result (λ sent. BeginsWithRead text.now) }
     ensures fits { IfSome result (λ sent. sent ≤ length out.new) }
     ensures len { length out.new ≡ length out.old }
 {
     match read_frame(Kind::Requests, text) {
-        Frame::Command { request, .. } => serve(pool, volume, size, is_extended, request, out),
+        Frame::Command { request, .. } => serve(pool, volume, size, manner, request, out),
         _ => None,
     }
 }
@@ -89,14 +132,14 @@ fn take_from<V: Volumes, S: SharedReads<V>>(
     pool: &S,
     volume: DevId,
     size: u64,
-    is_extended: bool,
+    manner: Manner,
     piece: &[u8],
     out: &mut [u8],
 ) -> Option<Answered>
     requires size { size ≡ known_bytes (V.view.outline (S.of pool.now)).geometry (V.view.more (S.of pool.now)) volume }
     requires room { MAX_ANSWER ≤ length out.old }
-    ensures steps { IfSome result (λ a. Steps V.view.outline (PoolCall V.view) (state (Phase.Transmission volume size (Course.Listens is_extended)) []) (S.of pool.now) piece.now
-        a.taken (take a.sent out.new) a.ended (state (Phase.Transmission volume size (Course.Listens is_extended)) []) (S.of pool.now)) }
+    ensures steps { IfSome result (λ a. Steps V.view.outline (PoolCall V.view) (state (Phase.Transmission volume size (Course.Listens manner)) []) (S.of pool.now) piece.now
+        a.taken (take a.sent out.new) a.ended (state (Phase.Transmission volume size (Course.Listens manner)) []) (S.of pool.now)) }
     ensures begins { IfSome result (λ a. BeginsWithRead piece.now) }
     ensures goes_on { IfSome result (λ a. (a.ended ≡ false) × (0 < a.taken) × (a.taken ≤ length piece.now)) }
     ensures fits { IfSome result (λ a. a.sent ≤ length out.new) }
@@ -106,7 +149,7 @@ fn take_from<V: Volumes, S: SharedReads<V>>(
     if length > piece.len() {
         return None;
     }
-    let Some(sent) = answer_text(pool, volume, size, is_extended, &piece[..length], out) else {
+    let Some(sent) = answer_text(pool, volume, size, manner, &piece[..length], out) else {
         return None;
     };
     Some(Answered {
@@ -138,9 +181,7 @@ pub fn take_read<V: Volumes, S: SharedReads<V>>(
             size,
             course,
         } => match course {
-            Course::Listens { is_extended } => {
-                take_from(pool, volume, size, is_extended, piece, out)
-            }
+            Course::Listens { manner } => take_from(pool, volume, size, manner, piece, out),
             Course::Works { .. } => None,
         },
         _ => None,

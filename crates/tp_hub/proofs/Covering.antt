@@ -25,11 +25,13 @@ use Rattle.nbd_wire.specs.Replies.{simple_reply}
 use Rattle.nbd_wire.proofs.Frames.{one_frame}
 use Rattle.nbd_wire.proofs.Told.{one_simple_reply}
 use Rattle.nbd_session.specs.declared.phase.Course.TheVariants.{Listens}
+use Rattle.nbd_session.specs.declared.phase.Manner.{Manner}
 use Rattle.nbd_session.specs.declared.phase.Phase.{Phase}
 use Rattle.nbd_session.specs.declared.phase.Phase.TheVariants.{Transmission}
 use Rattle.nbd_session.specs.declared.request.Verdict.{Verdict}
 use Rattle.nbd_session.specs.declared.request.Verdict.TheVariants as verdicts
-use Rattle.nbd_session.specs.Requests.{form_of, is_long, long_error, verdict_in, verdict_on}
+use Rattle.nbd_session.specs.Requests.{form_of, is_long, long_error, plainly, status_error, verdict_in, verdict_on}
+use Rattle.nbd_session.proofs.Judging.{error_other, plainly_other, status_other}
 use Rattle.nbd_session.specs.Session.{Answers, Serves, State, Steps, TakesFrame, Waits, reply_to, state}
 use Rattle.nbd_session.specs.Turns.{AreTurns, Happened, IsFoundIn, Sessions, TakesTurn, Turn, closed, pool_after, sessions_after}
 use Rattle.nbd_session.specs.Turns as turns
@@ -184,6 +186,14 @@ code_is_some InputOutput = let some : 0 < 5 = omega arith in let few : 5 < 42949
 code_is_some Invalid = let some : 0 < 22 = omega arith in let few : 22 < 4294967296 = omega arith in (some, few)
 code_is_some NoSpace = let some : 0 < 28 = omega arith in let few : 28 < 4294967296 = omega arith in (some, few)
 
+-- a request of another number than READ's
+pub no_read : (r : Request) (n : ℕ) → r.kind ≡ n → 0 < n → (r.kind == 0) ≡ false
+no_read r n is some = ne_eqb r.kind 0 (λ f. absurd (omega (arith, is, some, f)))
+
+-- and one below BLOCK_STATUS's
+pub no_status : (r : Request) (n : ℕ) → r.kind ≡ n → n < 7 → (r.kind == 7) ≡ false
+no_status r n is less = ne_eqb r.kind 7 (λ f. absurd (omega (arith, is, less, f)))
+
 pub no_error : (e : NbdError) (cookie : ℕ) → cookie < 2 ^ 64 → simple_reply 0 cookie [] ≡ simple_reply (nbd_code e) cookie [] → ⊥
 no_error e cookie fits is =
     let code = code_is_some e in
@@ -260,28 +270,29 @@ module _ (HasUse : PlainPool → Type 0) where
         | inr refused ↦ absurd (no_error (nbd_error refused.0) cookie fits (told ∙ ap (reply_to cookie) (sym calls.answer_is ∙ refused.1)))
       ]
 
-  by_verdict : (p t : Traced) (volume size : ℕ) (extended : Bool) (r : Request) (next : Phase) (o : Option NbdError) → r.cookie < 2 ^ 64
-      → Serves outline_of_traced (TracedCall HasUse) (option_map_or verdicts.Refuse o verdicts.Flush) volume size extended r [] p (simple_reply 0 r.cookie []) next t → Flushed p t
-  by_verdict p t volume size extended r next None fits serves = performed p t r.cookie serves.0.answer fits serves.0.calls serves.0.sent_is
-  by_verdict p t volume size extended r next (Some e) fits serves = absurd (no_error e r.cookie fits serves.0)
+  by_verdict : (p t : Traced) (volume size : ℕ) (m : Manner) (r : Request) (next : Phase) (o : Option NbdError) → r.cookie < 2 ^ 64 → (r.kind == 0) ≡ false → (r.kind == 7) ≡ false
+      → Serves outline_of_traced (TracedCall HasUse) (option_map_or verdicts.Refuse o verdicts.Flush) volume size m r [] p (simple_reply 0 r.cookie []) next t → Flushed p t
+  by_verdict p t volume size m r next None fits reads tells serves = performed p t r.cookie serves.0.answer fits serves.0.calls serves.0.sent_is
+  by_verdict p t volume size m r next (Some e) fits reads tells serves = absurd (no_error e r.cookie fits (serves.0 ∙ error_other m r e reads tells))
 
-  verdict_is : (extended : Bool) (size : ℕ) (r : Request) → r.kind ≡ COMMAND_FLUSH → verdict_in extended size r ≡ option_map_or verdicts.Refuse (forms.form_error size (form_of r)) verdicts.Flush
-  verdict_is extended size r is =
+  verdict_is : (m : Manner) (size : ℕ) (r : Request) → r.kind ≡ COMMAND_FLUSH → verdict_in m size r ≡ option_map_or verdicts.Refuse (forms.form_error size (form_of r)) verdicts.Flush
+  verdict_is m size r is =
       let kind : r.kind ≡ 3 = is in
       let trim : (r.kind == 4) ≡ false = ne_eqb r.kind 4 (λ f. absurd (omega (arith, kind, f))) in
       let zeroes : (r.kind == 6) ≡ false = ne_eqb r.kind 6 (λ f. absurd (omega (arith, kind, f))) in
       let disc : (r.kind == 2) ≡ false = ne_eqb r.kind 2 (λ f. absurd (omega (arith, kind, f))) in
       let flush : (r.kind == 3) ≡ true = eq-eqb r.kind 3 kind in
-      let short : (extended && is_long r) ≡ false = ap₂ (λ (a b : Bool). extended && (nat_lt 1048576 r.len && (a || b))) trim zeroes ∙ and_false extended (nat_lt 1048576 r.len) in
-      ap (λ (b : Bool). if b then option_map_or verdicts.Refuse (long_error size (form_of r)) verdicts.Long else verdict_on size r) short
-      ∙ (ap (λ (b : Bool). if b then verdicts.Disconnect else option_map_or verdicts.Refuse (forms.form_error size (form_of r)) (if r.kind == 3 then verdicts.Flush else behind_flush r)) disc
-      ∙ ap (λ (b : Bool). option_map_or verdicts.Refuse (forms.form_error size (form_of r)) (if b then verdicts.Flush else behind_flush r)) flush)
+      let short : (m.is_extended && is_long r) ≡ false = ap₂ (λ (a b : Bool). m.is_extended && (nat_lt 1048576 r.len && (a || b))) trim zeroes ∙ and_false m.is_extended (nat_lt 1048576 r.len) in
+      ap (λ (b : Bool). if b then option_map_or verdicts.Refuse (status_error size r) verdicts.Status else if m.is_extended && is_long r then option_map_or verdicts.Refuse (long_error size (form_of r)) verdicts.Long else verdict_on size (plainly m r)) (status_other m r (no_status r 3 is (omega arith)))
+      ∙ (ap (λ (b : Bool). if b then option_map_or verdicts.Refuse (long_error size (form_of r)) verdicts.Long else verdict_on size (plainly m r)) short
+      ∙ (ap (verdict_on size) (plainly_other m r (no_read r 3 is (omega arith))) ∙ (ap (λ (b : Bool). if b then verdicts.Disconnect else option_map_or verdicts.Refuse (forms.form_error size (form_of r)) (if r.kind == 3 then verdicts.Flush else behind_flush r)) disc
+      ∙ ap (λ (b : Bool). option_map_or verdicts.Refuse (forms.form_error size (form_of r)) (if b then verdicts.Flush else behind_flush r)) flush)))
 
   pub flush_keeps : (at : Sessions) (p : Traced) (h : Happened Traced) → IsFlushed at h → TracedTurn at p h.turn h.sessions h.pool → Flushed p h.pool
   flush_keeps at p h f takes =
       let n = f.session in
       let r = f.request in
-      let phase : Phase = Transmission f.volume f.size (Listens f.extended) in
+      let phase : Phase = Transmission f.volume f.size (Listens f.manner) in
       let held = (at n).held in
       let here : at n ≡ state phase held = state_is (at n) phase held f.serves refl in
       let turned : Steps outline_of_traced (TracedCall HasUse) (at n) p f.piece (length f.piece) (simple_reply 0 r.cookie []) false (h.sessions n) h.pool =
@@ -294,10 +305,10 @@ module _ (HasUse : PlainPool → Type 0) where
         | inr frame ↦
             let there : IsFrame kinds.Requests frame.message (held ++ f.piece) = subst (λ (t : List ℕ). IsFrame kinds.Requests frame.message (held ++ t)) (all_taken f.piece) frame.frame in
             let same = one_frame kinds.Requests frame.message (command r []) (held ++ f.piece) (held ++ f.piece) [] [] there f.frame refl in
-            let answered : Serves outline_of_traced (TracedCall HasUse) (verdict_in f.extended f.size r) f.volume f.size f.extended r [] p (simple_reply 0 r.cookie []) (h.sessions n).phase h.pool =
+            let answered : Serves outline_of_traced (TracedCall HasUse) (verdict_in f.manner f.size r) f.volume f.size f.manner r [] p (simple_reply 0 r.cookie []) (h.sessions n).phase h.pool =
             subst (λ (m : Message). Answers outline_of_traced (TracedCall HasUse) phase m p (simple_reply 0 r.cookie []) (h.sessions n).phase h.pool) same.1 frame.answer in
-            by_verdict p h.pool f.volume f.size f.extended r (h.sessions n).phase (forms.form_error f.size (form_of r)) f.frame.request_fits.cookie
-            (subst (λ (v : Verdict). Serves outline_of_traced (TracedCall HasUse) v f.volume f.size f.extended r [] p (simple_reply 0 r.cookie []) (h.sessions n).phase h.pool) (verdict_is f.extended f.size r f.is_flush) answered)
+            by_verdict p h.pool f.volume f.size f.manner r (h.sessions n).phase (forms.form_error f.size (form_of r)) f.frame.request_fits.cookie (no_read r 3 f.is_flush (omega arith)) (no_status r 3 f.is_flush (omega arith))
+            (subst (λ (v : Verdict). Serves outline_of_traced (TracedCall HasUse) v f.volume f.size f.manner r [] p (simple_reply 0 r.cookie []) (h.sessions n).phase h.pool) (verdict_is f.manner f.size r f.is_flush) answered)
       ]
 
 -- ---- in turns of the plain pool

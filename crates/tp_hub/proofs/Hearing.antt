@@ -122,7 +122,7 @@ module _ {D : Type 0} (view : View D) where
   told_end s new q p' piece sent taken ended is_open adv = by_kind (kind_of s.phase) refl adv.steps
     where
       by_deaf : (phase : Phase) → s.phase ≡ phase → IsDeaf view.outline (PoolCall view) phase s q piece taken sent ended new p' → has_ended new.phase ≡ ended
-      by_deaf (Transmission v size (Works r)) is h = sym h.ended_is
+      by_deaf (Transmission v size (Works x r)) is h = sym h.ended_is
       by_deaf Ended is h = let over : has_ended s.phase ≡ true = ap has_ended is in absurd cc
       by_deaf (Flags a) is h = absurd h
       by_deaf (Options z) is h = absurd h

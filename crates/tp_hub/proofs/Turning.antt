@@ -87,7 +87,7 @@ module _ {S : Type 0} (outline : S → Outline) (Calls : S → Call → calls.An
       all_of e = take_all taken piece (omega (arith, e))
 
       by_deaf : (phase : Phase) → IsDeaf outline Calls phase old p piece taken sent ended new p' → IsDeaf outline Calls phase old p (take taken piece) (length (take taken piece)) sent ended new p'
-      by_deaf (Transmission v size (Works r)) h = record { part = h.part; none = h.none; taken_is = len ∙ h.taken_is; ended_is = h.ended_is; held_is = h.held_is }
+      by_deaf (Transmission v size (Works x r)) h = record { part = h.part; none = h.none; taken_is = len ∙ h.taken_is; ended_is = h.ended_is; held_is = h.held_is }
       by_deaf Ended h = record { taken_is = refl; sent_is = h.sent_is; ended_is = h.ended_is; phase_is = h.phase_is; held_is = h.held_is; pool_is = h.pool_is }
       by_deaf (Flags a) h = absurd h
       by_deaf (Options z) h = absurd h

@@ -15,11 +15,13 @@ use Rattle.nbd_wire.specs.Reading.{wanted}
 use Rattle.nbd_wire.specs.Grammar.{Message, command, FitsRequest, IsFrame, IsPartial, IsRequest, payload_len, request_text}
 use Rattle.nbd_wire.proofs.Frames.{one_frame, wanted_fixed, wants_more}
 use Rattle.nbd_session.specs.declared.phase.Course.TheVariants.{Listens, Works}
+use Rattle.nbd_session.specs.declared.phase.Manner.{Manner}
 use Rattle.nbd_session.specs.declared.phase.Phase.{Phase}
 use Rattle.nbd_session.specs.declared.phase.Phase.TheVariants.{Transmission}
 use Rattle.nbd_session.specs.declared.request.Verdict.{Verdict}
 use Rattle.nbd_session.specs.declared.request.Verdict.TheVariants as verdicts
-use Rattle.nbd_session.specs.Requests.{form_of, is_last, is_long, long_error, rest_of, verdict_in, verdict_on}
+use Rattle.nbd_session.specs.Requests.{form_of, is_last, is_long, long_error, plainly, rest_of, status_error, verdict_in, verdict_on}
+use Rattle.nbd_session.proofs.Judging.{status_other}
 use Rattle.nbd_session.specs.Session.{Answers, GoesOn, IsMade, MakesPart, Serves, State, Steps, TakesFrame, Waits, has_ended, is_at_work, reply_to, state}
 use Rattle.nbd_session.specs.Turns.{AreTurns, Happened, Sessions, TakesTurn, Turn, pool_after, sessions_after}
 use Rattle.nbd_session.specs.Turns as turns
@@ -58,6 +60,17 @@ no_data r long = elim (cases_eq r.kind 1) [
   | inr ne ↦ ap (λ (b : Bool). if b then r.len else 0) (ne_eqb r.kind 1 ne)
 ]
 
+-- nor does it ask where there is data
+pub no_status_long : (r : Request) → is_long r ≡ true → (r.kind == 7) ≡ false
+no_status_long r long = elim (cases_eq r.kind 7) [
+  | inl e ↦
+      let trim : (r.kind == 4) ≡ false = ne_eqb r.kind 4 (λ f. absurd (omega (arith, e, f))) in
+      let zeroes : (r.kind == 6) ≡ false = ne_eqb r.kind 6 (λ f. absurd (omega (arith, e, f))) in
+      let short : is_long r ≡ false = ap₂ (λ (a b : Bool). nat_lt 1048576 r.len && (a || b)) trim zeroes ∙ and_false (nat_lt 1048576 r.len) in
+      absurd (true≢false (sym long ∙ short))
+  | inr ne ↦ ne_eqb r.kind 7 ne
+]
+
 abbrev first_event : Incoming → List Incoming → Incoming
 first_event d [] = d
 first_event d (x ∷ xs) = x
@@ -70,15 +83,15 @@ none_behind : (a b : List ℕ) → a ++ b ≡ a → b ≡ []
 none_behind a [] is = refl
 none_behind a (y ∷ b) is = let l : length (a ++ y ∷ b) ≡ length a = ap length is in let m : length (a ++ y ∷ b) ≡ length a + suc (length b) = length-append a (y ∷ b) in absurd (omega (arith, l, m))
 
-module _ {S : Type 0} (outline : S → Outline) (Calls : S → Call → calls.Answer → S → Type 0) (n id size : ℕ) where
+module _ {S : Type 0} (outline : S → Outline) (Calls : S → Call → calls.Answer → S → Type 0) (n id size : ℕ) (manner : Manner) where
   abbrev Left : Request → Phase
-  Left r = Transmission id size (Works r)
+  Left r = Transmission id size (Works manner r)
 
   abbrev Free : Phase
-  Free = Transmission id size (Listens true)
+  Free = Transmission id size (Listens manner)
 
   -- a part was made: the request is answered, or the next one is left
-  after_part : (r rest : Request) (last : Bool) (answer : calls.Answer) (sent : List ℕ) (next : Phase) → IsMade id size r rest last answer sent next → (next ≡ Free) ⊎ (next ≡ Left rest)
+  after_part : (r rest : Request) (last : Bool) (answer : calls.Answer) (sent : List ℕ) (next : Phase) → IsMade id size manner r rest last answer sent next → (next ≡ Free) ⊎ (next ≡ Left rest)
   after_part r rest true calls.Done sent next made = inl made.1
   after_part r rest false calls.Done sent next made = inr made.1
   after_part r rest last (calls.Gave sectors) sent next made = inl made.1
@@ -97,13 +110,13 @@ module _ {S : Type 0} (outline : S → Outline) (Calls : S → Call → calls.An
   step_of : (at at' : Sessions) (p p' : S) (turn : Turn) (piece : List ℕ) (taken : ℕ) (sent : List ℕ) (ended : Bool) → turn ≡ turns.Hears n piece taken sent ended → TakesTurn outline Calls at p turn at' p' → Steps outline Calls (at n) p piece taken sent ended (at' n) p'
   step_of at at' p p' turn piece taken sent ended is takes = (subst (λ (t : Turn). TakesTurn outline Calls at p t at' p') is takes).0
 
-  pub parts_made : (at : Sessions) (p : S) (hs : List (Happened S)) (r : Request) → at n ≡ state (Left r) [] → TakesText at n [] hs → AreTurns outline Calls at p hs → IsIdle (sessions_after at hs) n → AreParts outline Calls n id size r p hs
+  pub parts_made : (at : Sessions) (p : S) (hs : List (Happened S)) (r : Request) → at n ≡ state (Left r) [] → TakesText at n [] hs → AreTurns outline Calls at p hs → IsIdle (sessions_after at hs) n → AreParts outline Calls n id size manner r p hs
   parts_made at p [] r here takes are idle = let work : is_at_work (at n).phase ≡ true = ap (λ (s : State). is_at_work s.phase) here in absurd (true≢false (sym work ∙ idle))
   parts_made at p (h ∷ hs) r here (piece, rest, sent, ended, goes, turn, moves, cut, more) (takes, are) idle =
       let no_piece : piece ≡ [] = left_none piece rest cut in
       let no_rest : rest ≡ [] = right_none piece rest cut in
       let turn_is : h.turn ≡ turns.Hears n [] 0 sent ended = turn ∙ ap (λ (t : List ℕ). turns.Hears n t (length t) sent ended) no_piece in
-      let step : GoesOn outline Calls id size r (state (Left r) []) p 0 sent ended (h.sessions n) h.pool =
+      let step : GoesOn outline Calls id size manner r (state (Left r) []) p 0 sent ended (h.sessions n) h.pool =
       subst (λ (s : State). Steps outline Calls s p [] 0 sent ended (h.sessions n) h.pool) here (step_of at h.sessions p h.pool h.turn [] 0 sent ended turn_is takes) in
       let next = subst (λ (t : List ℕ). TakesText h.sessions n t hs) no_rest more in
       let rest_is : Request = rest_of (outline p).geometry r in
@@ -126,15 +139,17 @@ module _ {S : Type 0} (outline : S → Outline) (Calls : S → Call → calls.An
 
   -- ---- the frame
 
-  module _ (r : Request) (long : is_long r ≡ true) (good : long_error size (form_of r) ≡ None) (fits : FitsRequest r) (bare : payload_len r ≡ 0) where
+  module _ (r : Request) (long : is_long r ≡ true) (good : long_error size (form_of r) ≡ None) (fits : FitsRequest r) (bare : payload_len r ≡ 0) (extended : manner.is_extended ≡ true) where
     abbrev frame : List ℕ
     frame = request_text REQUEST_MAGIC r []
 
     frame_is : IsFrame kinds.Requests (command r []) frame
     frame_is = record { request_fits = fits; whole = sym bare; short = omega (arith, bare); text_is = refl }
 
-    verdict_is : verdict_in true size r ≡ verdicts.Long
-    verdict_is = ap (λ (b : Bool). if b then option_map_or verdicts.Refuse (long_error size (form_of r)) verdicts.Long else verdict_on size r) long ∙ ap (λ (o : Option NbdError). option_map_or verdicts.Refuse o verdicts.Long) good
+    verdict_is : verdict_in manner size r ≡ verdicts.Long
+    verdict_is =
+        ap (λ (b : Bool). if b then option_map_or verdicts.Refuse (status_error size r) verdicts.Status else if manner.is_extended && is_long r then option_map_or verdicts.Refuse (long_error size (form_of r)) verdicts.Long else verdict_on size (plainly manner r)) (status_other manner r (no_status_long r long))
+        ∙ (ap₂ (λ (a b : Bool). if a && b then option_map_or verdicts.Refuse (long_error size (form_of r)) verdicts.Long else verdict_on size (plainly manner r)) extended long ∙ ap (λ (o : Option NbdError). option_map_or verdicts.Refuse o verdicts.Long) good)
 
     -- what the frame leaves
     abbrev Taken : S → List ℕ → Phase → S → Type 0
@@ -142,10 +157,10 @@ module _ {S : Type 0} (outline : S → Outline) (Calls : S → Call → calls.An
 
     begun : (p p' : S) (sent : List ℕ) (next : Phase) (m : Message) → m ≡ command r [] → Answers outline Calls Free m p sent next p' → Taken p sent next p'
     begun p p' sent next m is answers =
-        subst (λ (v : Verdict). Serves outline Calls v id size true r [] p sent next p') verdict_is (subst (λ (x : Message). Answers outline Calls Free x p sent next p') is answers)
+        subst (λ (v : Verdict). Serves outline Calls v id size manner r [] p sent next p') verdict_is (subst (λ (x : Message). Answers outline Calls Free x p sent next p') is answers)
 
     pub made_whole : (at : Sessions) (p : S) (hs : List (Happened S)) (held text dropped : List ℕ) → at n ≡ state Free held → held ++ (text ++ dropped) ≡ frame → IsPartial kinds.Requests held → TakesText at n text hs
-        → AreTurns outline Calls at p hs → (dropped ≡ []) ⊎ (has_ended (sessions_after at hs n).phase ≡ true) → IsIdle (sessions_after at hs) n → IsMadeWhole outline Calls n id size r p hs
+        → AreTurns outline Calls at p hs → (dropped ≡ []) ⊎ (has_ended (sessions_after at hs n).phase ≡ true) → IsIdle (sessions_after at hs) n → IsMadeWhole outline Calls n id size manner r p hs
     made_whole at p [] held text dropped here cut part takes are (inr over) idle = let goes : has_ended (at n).phase ≡ false = ap (λ (s : State). has_ended s.phase) here in absurd (true≢false (sym over ∙ goes))
     made_whole at p [] held text dropped here cut part takes are (inl none) idle =
         let all : held ≡ frame = sym (append-nil held) ∙ (ap (λ (t : List ℕ). held ++ t) (sym (ap (λ (t : List ℕ). t ++ dropped) takes ∙ none)) ∙ cut) in
@@ -166,7 +181,7 @@ module _ {S : Type 0} (outline : S → Outline) (Calls : S → Call → calls.An
                 turns_are = ap (λ (l : List (Happened S)). h ∷ l) x.turns_are;
                 silent = silence h x.heard still x.silent;
                 quiet = x.quiet ∙ waits.pool_is;
-                made = subst (λ (q : S). AreParts outline Calls n id size r q x.parts) waits.pool_is x.made;
+                made = subst (λ (q : S). AreParts outline Calls n id size manner r q x.parts) waits.pool_is x.made;
               }
           | inr takes_frame ↦
               let there : IsFrame kinds.Requests takes_frame.message (held ++ piece) = subst (λ (t : List ℕ). IsFrame kinds.Requests takes_frame.message (held ++ t)) (all_taken piece) takes_frame.frame in
@@ -182,7 +197,7 @@ module _ {S : Type 0} (outline : S → Outline) (Calls : S → Call → calls.An
                 turns_are = refl;
                 silent = still;
                 quiet = did.2;
-                made = subst (λ (q : S). AreParts outline Calls n id size r q hs) did.2 (parts_made h.sessions h.pool hs r next (subst (λ (t : List ℕ). TakesText h.sessions n t hs) (left_none rest dropped (sym none)) more) are idle);
+                made = subst (λ (q : S). AreParts outline Calls n id size manner r q hs) did.2 (parts_made h.sessions h.pool hs r next (subst (λ (t : List ℕ). TakesText h.sessions n t hs) (left_none rest dropped (sym none)) more) are idle);
               }
         ]
       where
@@ -197,10 +212,10 @@ module _ {S : Type 0} (outline : S → Outline) (Calls : S → Call → calls.An
         wants_more kinds.Requests [] some
 
     -- in a run
-    pub run_is_whole : (at after : Sessions) (p new : S) (before out : Told) → at n ≡ state Free [] → (run : Runs outline Calls at p (Brings n frame ∷ []) before out after new) → IsIdle after n → IsMadeWhole outline Calls n id size r p (turns_in run.served)
+    pub run_is_whole : (at after : Sessions) (p new : S) (before out : Told) → at n ≡ state Free [] → (run : Runs outline Calls at p (Brings n frame ∷ []) before out after new) → IsIdle after n → IsMadeWhole outline Calls n id size manner r p (turns_in run.served)
     run_is_whole at after p new before out here run idle = by_served run.served run.are run.events_are run.sessions_are
       where
-        by_served : (xs : List (Served S)) → AreServed outline Calls at p xs → events_in xs ≡ Brings n frame ∷ [] → sessions_after at (turns_in xs) ≡ after → IsMadeWhole outline Calls n id size r p (turns_in xs)
+        by_served : (xs : List (Served S)) → AreServed outline Calls at p xs → events_in xs ≡ Brings n frame ∷ [] → sessions_after at (turns_in xs) ≡ after → IsMadeWhole outline Calls n id size manner r p (turns_in xs)
         by_served [] are is ends = absurd cc
         by_served (x ∷ y ∷ ys) are is ends = let l : suc (suc (length (events_in ys))) ≡ 1 = ap length is in absurd (omega (arith, l))
         by_served (x ∷ []) are is ends =
@@ -212,5 +227,5 @@ module _ {S : Type 0} (outline : S → Outline) (Calls : S → Call → calls.An
             let takes = heard.0 in
             let end : sessions_after at x.turns ≡ after = ap (sessions_after at) (sym (append-nil x.turns)) ∙ ends in
             let over : (takes.dropped ≡ []) ⊎ (has_ended (sessions_after at x.turns n).phase ≡ true) = takes.all in
-            subst (λ (l : List (Happened S)). IsMadeWhole outline Calls n id size r p l) (sym (append-nil x.turns))
+            subst (λ (l : List (Happened S)). IsMadeWhole outline Calls n id size manner r p l) (sym (append-nil x.turns))
             (made_whole at p x.turns [] takes.text takes.dropped here (sym takes.cut) none_held takes.takes are.1 over (ap (λ (s : Sessions). is_at_work (s n).phase) end ∙ idle))

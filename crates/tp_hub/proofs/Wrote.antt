@@ -24,15 +24,17 @@ use Rattle.nbd_wire.specs.Grammar.{IsFrame, Message, command, payload_len}
 use Rattle.nbd_wire.specs.Replies.{simple_reply}
 use Rattle.nbd_wire.proofs.Frames.{one_frame}
 use Rattle.nbd_session.specs.declared.phase.Course.TheVariants.{Listens}
+use Rattle.nbd_session.specs.declared.phase.Manner.{Manner}
 use Rattle.nbd_session.specs.declared.phase.Phase.{Phase}
 use Rattle.nbd_session.specs.declared.phase.Phase.TheVariants.{Transmission}
 use Rattle.nbd_session.specs.declared.request.Verdict.{Verdict}
 use Rattle.nbd_session.specs.declared.request.Verdict.TheVariants as verdicts
-use Rattle.nbd_session.specs.Requests.{form_of, has_fua, is_long, long_error, verdict_in, verdict_on}
+use Rattle.nbd_session.specs.Requests.{form_of, has_fua, is_long, long_error, plainly, status_error, verdict_in, verdict_on}
+use Rattle.nbd_session.proofs.Judging.{error_other, plainly_other, status_other}
 use Rattle.nbd_session.specs.Session.{Answers, Serves, State, Steps, TakesFrame, Waits, reply_to, state}
 use Rattle.nbd_session.specs.Turns.{AreTurns, Happened, IsFoundIn, Sessions, TakesTurn, Turn, closed, pool_after, sessions_after}
 use Rattle.tp_hub.proofs.Whole.{all_taken, state_is}
-use Rattle.tp_hub.proofs.Covering.{and_false, events_join, flush_covers, flush_keeps, no_error, pool_at, sessions_at, turn_in, turns_grow, written_stays}
+use Rattle.tp_hub.proofs.Covering.{and_false, events_join, flush_covers, flush_keeps, no_error, no_read, no_status, pool_at, sessions_at, turn_in, turns_grow, written_stays}
 use Rattle.tp_hub.specs.Covered.{Covers, IsCovered, IsFlushed, IsKeptThere, IsNewer, IsThere, IsWritten}
 
 -- ---- the sector that a WRITE gives
@@ -102,16 +104,16 @@ module _ (HasUse : PlainPool → Type 0) where
             m.1 ∙ gives p.pool.geometry volume sector sectors fua k x m.0 is;
       }
 
-  by_verdict : (p t : Traced) (volume size : ℕ) (extended : Bool) (r : Request) (payload : List ℕ) (next : Phase) (o : Option NbdError) → r.cookie < 2 ^ 64
-      → Serves outline_of_traced (TracedCall HasUse) (option_map_or verdicts.Refuse o verdicts.Write) volume size extended r payload p (simple_reply 0 r.cookie []) next t → Wrote volume (r.offset / 512) (sectors_of payload) p t
-  by_verdict p t volume size extended r payload next (Some e) fits serves = absurd (no_error e r.cookie fits serves.0)
-  by_verdict p t volume size extended r payload next None fits serves =
+  by_verdict : (p t : Traced) (volume size : ℕ) (m : Manner) (r : Request) (payload : List ℕ) (next : Phase) (o : Option NbdError) → r.cookie < 2 ^ 64 → (r.kind == 0) ≡ false → (r.kind == 7) ≡ false
+      → Serves outline_of_traced (TracedCall HasUse) (option_map_or verdicts.Refuse o verdicts.Write) volume size m r payload p (simple_reply 0 r.cookie []) next t → Wrote volume (r.offset / 512) (sectors_of payload) p t
+  by_verdict p t volume size m r payload next (Some e) fits reads tells serves = absurd (no_error e r.cookie fits (serves.0 ∙ error_other m r e reads tells))
+  by_verdict p t volume size m r payload next None fits reads tells serves =
       let did = serves.0 in
       done_by p t volume (r.offset / 512) r.cookie (sectors_of payload) (has_fua r) did.answer fits did.calls did.sent_is
       (write_answer p.pool did.calls.entry.event.made did.calls.is_trace.0 did.calls.entry.event.call volume (r.offset / 512) (sectors_of payload) (has_fua r) did.calls.entry.event.answer did.calls.call_is did.calls.is_trace.2)
 
-  verdict_is : (extended : Bool) (size : ℕ) (r : Request) → r.kind ≡ COMMAND_WRITE → 0 < r.len → verdict_in extended size r ≡ option_map_or verdicts.Refuse (forms.form_error size (form_of r)) verdicts.Write
-  verdict_is extended size r is some =
+  verdict_is : (m : Manner) (size : ℕ) (r : Request) → r.kind ≡ COMMAND_WRITE → 0 < r.len → verdict_in m size r ≡ option_map_or verdicts.Refuse (forms.form_error size (form_of r)) verdicts.Write
+  verdict_is m size r is some =
       let kind : r.kind ≡ 1 = is in
       let trim : (r.kind == 4) ≡ false = ne_eqb r.kind 4 (λ f. absurd (omega (arith, kind, f))) in
       let zeroes : (r.kind == 6) ≡ false = ne_eqb r.kind 6 (λ f. absurd (omega (arith, kind, f))) in
@@ -120,20 +122,21 @@ module _ (HasUse : PlainPool → Type 0) where
       let reads : (r.kind == 0) ≡ false = ne_eqb r.kind 0 (λ f. absurd (omega (arith, kind, f))) in
       let len : (r.len == 0) ≡ false = ne_eqb r.len 0 (λ f. absurd (omega (arith, some, f))) in
       let writes : (r.kind == 1) ≡ true = eq-eqb r.kind 1 kind in
-      let short : (extended && is_long r) ≡ false = ap₂ (λ (a b : Bool). extended && (nat_lt 1048576 r.len && (a || b))) trim zeroes ∙ and_false extended (nat_lt 1048576 r.len) in
-      ap (λ (b : Bool). if b then option_map_or verdicts.Refuse (long_error size (form_of r)) verdicts.Long else verdict_on size r) short
-      ∙ (ap (λ (b : Bool). if b then verdicts.Disconnect else told_of size r (if r.kind == 3 then verdicts.Flush else if r.len == 0 then verdicts.Nothing else if r.kind == 0 then verdicts.Read else behind_reads r)) disc
+      let short : (m.is_extended && is_long r) ≡ false = ap₂ (λ (a b : Bool). m.is_extended && (nat_lt 1048576 r.len && (a || b))) trim zeroes ∙ and_false m.is_extended (nat_lt 1048576 r.len) in
+      ap (λ (b : Bool). if b then option_map_or verdicts.Refuse (status_error size r) verdicts.Status else if m.is_extended && is_long r then option_map_or verdicts.Refuse (long_error size (form_of r)) verdicts.Long else verdict_on size (plainly m r)) (status_other m r (no_status r 1 is (omega arith)))
+      ∙ (ap (λ (b : Bool). if b then option_map_or verdicts.Refuse (long_error size (form_of r)) verdicts.Long else verdict_on size (plainly m r)) short
+      ∙ (ap (verdict_on size) (plainly_other m r reads) ∙ (ap (λ (b : Bool). if b then verdicts.Disconnect else told_of size r (if r.kind == 3 then verdicts.Flush else if r.len == 0 then verdicts.Nothing else if r.kind == 0 then verdicts.Read else behind_reads r)) disc
       ∙ (ap (λ (b : Bool). told_of size r (if b then verdicts.Flush else if r.len == 0 then verdicts.Nothing else if r.kind == 0 then verdicts.Read else behind_reads r)) flush
       ∙ (ap (λ (b : Bool). told_of size r (if b then verdicts.Nothing else if r.kind == 0 then verdicts.Read else behind_reads r)) len
       ∙ (ap (λ (b : Bool). told_of size r (if b then verdicts.Read else behind_reads r)) reads
-      ∙ ap (λ (b : Bool). told_of size r (if b then verdicts.Write else behind_writes r)) writes))))
+      ∙ ap (λ (b : Bool). told_of size r (if b then verdicts.Write else behind_writes r)) writes))))))
 
   write_enters : (at : Sessions) (p : Traced) (h : Happened Traced) → (w : IsWritten at h) → 0 < w.request.len → TakesTurn outline_of_traced (TracedCall HasUse) at p h.turn h.sessions h.pool
       → Wrote w.volume (w.request.offset / 512) (sectors_of w.payload) p h.pool
   write_enters at p h w some takes =
       let n = w.session in
       let r = w.request in
-      let phase : Phase = Transmission w.volume w.size (Listens w.extended) in
+      let phase : Phase = Transmission w.volume w.size (Listens w.manner) in
       let held = (at n).held in
       let here : at n ≡ state phase held = state_is (at n) phase held w.serves refl in
       let turned : Steps outline_of_traced (TracedCall HasUse) (at n) p w.piece (length w.piece) (simple_reply 0 r.cookie []) false (h.sessions n) h.pool =
@@ -146,10 +149,10 @@ module _ (HasUse : PlainPool → Type 0) where
         | inr frame ↦
             let there : IsFrame kinds.Requests frame.message (held ++ w.piece) = subst (λ (t : List ℕ). IsFrame kinds.Requests frame.message (held ++ t)) (all_taken w.piece) frame.frame in
             let same = one_frame kinds.Requests frame.message (command r w.payload) (held ++ w.piece) (held ++ w.piece) [] [] there w.frame refl in
-            let answered : Serves outline_of_traced (TracedCall HasUse) (verdict_in w.extended w.size r) w.volume w.size w.extended r w.payload p (simple_reply 0 r.cookie []) (h.sessions n).phase h.pool =
+            let answered : Serves outline_of_traced (TracedCall HasUse) (verdict_in w.manner w.size r) w.volume w.size w.manner r w.payload p (simple_reply 0 r.cookie []) (h.sessions n).phase h.pool =
             subst (λ (m : Message). Answers outline_of_traced (TracedCall HasUse) phase m p (simple_reply 0 r.cookie []) (h.sessions n).phase h.pool) same.1 frame.answer in
-            by_verdict p h.pool w.volume w.size w.extended r w.payload (h.sessions n).phase (forms.form_error w.size (form_of r)) w.frame.request_fits.cookie
-            (subst (λ (v : Verdict). Serves outline_of_traced (TracedCall HasUse) v w.volume w.size w.extended r w.payload p (simple_reply 0 r.cookie []) (h.sessions n).phase h.pool) (verdict_is w.extended w.size r w.is_write some) answered)
+            by_verdict p h.pool w.volume w.size w.manner r w.payload (h.sessions n).phase (forms.form_error w.size (form_of r)) w.frame.request_fits.cookie (no_read r 1 w.is_write (omega arith)) (no_status r 1 w.is_write (omega arith))
+            (subst (λ (v : Verdict). Serves outline_of_traced (TracedCall HasUse) v w.volume w.size w.manner r w.payload p (simple_reply 0 r.cookie []) (h.sessions n).phase h.pool) (verdict_is w.manner w.size r w.is_write some) answered)
       ]
 
   turns_front : (at : Sessions) (t : Traced) (xs ys : List (Happened Traced)) → AreTurns outline_of_traced (TracedCall HasUse) at t (xs ++ ys) → AreTurns outline_of_traced (TracedCall HasUse) at t xs

@@ -9,6 +9,7 @@ use Rattle.nbd_wire.specs.declared.TheConstants.{COMMAND_FLUSH, COMMAND_WRITE}
 use Rattle.nbd_wire.specs.Grammar.{IsRequest}
 use Rattle.nbd_wire.specs.Replies.{simple_reply}
 use Rattle.nbd_session.specs.declared.phase.Course.TheVariants.{Listens}
+use Rattle.nbd_session.specs.declared.phase.Manner.{Manner}
 use Rattle.nbd_session.specs.declared.phase.Phase.TheVariants.{Transmission}
 use Rattle.nbd_session.specs.Turns.{Happened, Hears, Sessions, TakesTurn}
 
@@ -17,8 +18,8 @@ pub record IsFlushed {S : Type 0} (at : Sessions) (h : Happened S) : Type 0 wher
   pub session : ℕ
   pub volume : ℕ
   pub size : ℕ
-  pub extended : Bool
-  pub serves : (at session).phase ≡ Transmission volume size (Listens extended)
+  pub manner : Manner
+  pub serves : (at session).phase ≡ Transmission volume size (Listens manner)
   pub request : Request
   pub is_flush : request.kind ≡ COMMAND_FLUSH
   pub piece : List ℕ
@@ -50,8 +51,8 @@ pub record IsWritten {S : Type 0} (at : Sessions) (h : Happened S) : Type 0 wher
   pub session : ℕ
   pub volume : ℕ
   pub size : ℕ
-  pub extended : Bool
-  pub serves : (at session).phase ≡ Transmission volume size (Listens extended)
+  pub manner : Manner
+  pub serves : (at session).phase ≡ Transmission volume size (Listens manner)
   pub request : Request
   pub is_write : request.kind ≡ COMMAND_WRITE
   pub payload : List ℕ

@@ -5,6 +5,7 @@ use Rattle.tp_model.specs.Calls.{Call}
 use Rattle.tp_model.specs.Calls as calls
 use Rattle.nbd_wire.specs.declared.Request.{Request}
 use Rattle.nbd_session.specs.declared.phase.Course.TheVariants.{Listens, Works}
+use Rattle.nbd_session.specs.declared.phase.Manner.{Manner}
 use Rattle.nbd_session.specs.declared.phase.Phase.TheVariants.{Transmission}
 use Rattle.nbd_session.specs.Requests.{rest_of}
 use Rattle.nbd_session.specs.Session.{MakesPart, is_at_work}
@@ -43,18 +44,18 @@ BringIdle events taken at' =
 -- S: pools. outline: a pool's geometry, mode and holds. Calls: that a call of a pool is given an answer, and leaves another pool.
 module _ {S : Type 0} (outline : S → Outline) (Calls : S → Call → calls.Answer → S → Type 0) where
   -- Parts of what is left of a session's request, each in a turn that takes no bytes, up to the last one or the first that is refused, which answers the request.
-  abbrev pub AreParts : ℕ → ℕ → ℕ → Request → S → List (Happened S) → Type 0
-  AreParts n id size r p [] = ⊥
-  AreParts n id size r p (h ∷ hs) =
-      (sent : List ℕ) × (h.turn ≡ Hears n [] 0 sent false) × MakesPart outline Calls id size r p sent (h.sessions n).phase h.pool
-      × (((hs ≡ []) × ((h.sessions n).phase ≡ Transmission id size (Listens true)))
-      ⊎ (((h.sessions n).phase ≡ Transmission id size (Works (rest_of (outline p).geometry r))) × AreParts n id size (rest_of (outline p).geometry r) h.pool hs))
+  abbrev pub AreParts : ℕ → ℕ → ℕ → Manner → Request → S → List (Happened S) → Type 0
+  AreParts n id size manner r p [] = ⊥
+  AreParts n id size manner r p (h ∷ hs) =
+      (sent : List ℕ) × (h.turn ≡ Hears n [] 0 sent false) × MakesPart outline Calls id size manner r p sent (h.sessions n).phase h.pool
+      × (((hs ≡ []) × ((h.sessions n).phase ≡ Transmission id size (Listens manner)))
+      ⊎ (((h.sessions n).phase ≡ Transmission id size (Works manner (rest_of (outline p).geometry r))) × AreParts n id size manner (rest_of (outline p).geometry r) h.pool hs))
 
   -- The request is taken, which answers nothing and asks the pool nothing, and then all its parts are made.
-  pub record IsMadeWhole (n id size : ℕ) (r : Request) (p : S) (turns : List (Happened S)) : Type 0 where
+  pub record IsMadeWhole (n id size : ℕ) (manner : Manner) (r : Request) (p : S) (turns : List (Happened S)) : Type 0 where
     pub heard : List (Happened S)
     pub parts : List (Happened S)
     pub turns_are : turns ≡ heard ++ parts
     pub silent : answers_in heard ≡ []
     pub quiet : pool_after p heard ≡ p
-    pub made : AreParts n id size r p parts
+    pub made : AreParts n id size manner r p parts

@@ -10,6 +10,7 @@ ghost use Rattle.nbd_wire.specs.declared.Request.{Request};
 ghost use Rattle.nbd_wire.specs.declared.TheConstants.{REQUEST_MAGIC};
 ghost use Rattle.nbd_wire.specs.Grammar.{FitsRequest, request_text};
 ghost use Rattle.nbd_session.specs.declared.phase.Course.TheVariants.{Listens};
+ghost use Rattle.nbd_session.specs.declared.phase.Manner.{Manner};
 ghost use Rattle.nbd_session.specs.declared.phase.Phase.TheVariants.{Transmission};
 ghost use Rattle.nbd_session.specs.Requests.{form_of, is_long, long_error};
 ghost use Rattle.nbd_session.specs.Session.{state};
@@ -55,12 +56,12 @@ pub fn runs_go_on<V: Volumes>()
 /// A long request that is handed whole to a session which listens, as one piece: behind a run that takes it, and leaves no part of a request, all its parts were
 /// made, one call of the pool each, in order, up to the first that was refused, and the last of them answered it.
 pub fn long_requests_are_made<V: Volumes>()
-    ensures { (at after : Sessions) (pool new : V) (n id size : ℕ) (r : Request) (before out : Told)
-        → at n ≡ state (Transmission id size (Listens true)) []
+    ensures { (at after : Sessions) (pool new : V) (n id size : ℕ) (manner : Manner) (r : Request) (before out : Told)
+        → at n ≡ state (Transmission id size (Listens manner)) [] → manner.is_extended ≡ true
         → is_long r ≡ true → long_error size (form_of r) ≡ None → FitsRequest r
         → (run : Runs V.view.outline (PoolCall V.view) at pool (Brings n (request_text REQUEST_MAGIC r []) ∷ []) before out after new)
         → IsIdle after n
-        → IsMadeWhole V.view.outline (PoolCall V.view) n id size r pool (turns_in run.served) }
+        → IsMadeWhole V.view.outline (PoolCall V.view) n id size manner r pool (turns_in run.served) }
 {}
 
 /// The headline of the hub. A pool is opened from an image, a hub with no session is made of it, and serves clients, messages and status lines in any number of

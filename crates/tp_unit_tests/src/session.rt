@@ -4,7 +4,7 @@ ghost use Rattle.tp_model.specs.Pool.{hold_total};
 use crate::table::Table;
 use nbd_session::{MAX_ANSWER, Phase, Profile, Session, feed};
 use std::alloc::{AllocError, Global};
-use tp_model::{DevId, Geometry, Refusal, Volumes};
+use tp_model::{DevId, Geometry, Refusal, Walked};
 
 /// The client flags, and LIST.
 const LIST: &[u8] = b"\0\0\0\x03IHAVEOPT\0\0\0\x03\0\0\0\0";
@@ -32,7 +32,7 @@ IHAVEOPT\0\0\0\x06\0\0\0\x06\0\0\0\0\0\0\
 IHAVEOPT\0\0\0\x06\0\0\0\x07\0\0\0\x019\0\0";
 
 /// What is sent for these bytes behind the greeting, until the client goes.
-fn sent<V: Volumes>(
+fn sent<V: Walked>(
     alloc: Global,
     pool: &mut V,
     profile: Profile,
@@ -277,7 +277,7 @@ fn zeroes(alloc: Global, len: usize) -> Result<Vec<u8>, AllocError>
 }
 
 /// What a session puts into a buffer of so many bytes that hears the client flags and one option.
-fn put<V: Volumes>(
+fn put<V: Walked>(
     alloc: Global,
     pool: &mut V,
     text: &[u8],

@@ -1,5 +1,5 @@
 //! A pool of volumes with ids one behind the other, which are looked for and nothing else.
-use tp_model::{DevId, Geometry, Mode, Refusal, Volumes};
+use tp_model::{DevId, Geometry, Mode, Refusal, Slots, Vb, Volumes, Walked};
 
 /// So many volumes from an id on, of so many blocks each, or of a size that is refused. It is read-only, and no volume of it is read or held.
 #[derive(Drop)]
@@ -86,4 +86,10 @@ impl Volumes for Table {
     fn let_go(&mut self, _id: DevId) {}
 
     ghost laws = { nothing_holds (λ t. t.geometry) };
+}
+
+impl Walked for Table {
+    fn walk(&mut self, _id: DevId, _from: Vb, _slots: &mut Slots) -> Result<(), Refusal> {
+        Err(Refusal::NoSuchDevice)
+    }
 }

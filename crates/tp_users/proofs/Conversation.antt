@@ -31,7 +31,7 @@ use Rattle.nbd_session.specs.declared.phase.Phase.TheVariants.{Options, Transmis
 use Rattle.nbd_session.specs.declared.phase.Profile.TheVariants.{Strict}
 use Rattle.nbd_session.specs.declared.phase.Terms.{Terms}
 use Rattle.nbd_session.specs.Requests.{bytes_of_blocks}
-use Rattle.nbd_session.specs.Session.{State, Outcome, kind_of, Answers, AsksFor, Ends, Finds, Holds, IsHeld, IsInvalid, IsSized, IsValid, LooksFor, Means, Sizes, go, reply_to, terms_of, transmission_flags}
+use Rattle.nbd_session.specs.Session.{State, Outcome, kind_of, Answers, AsksFor, Ends, Finds, Holds, IsHeld, IsInvalid, IsSized, IsValid, LooksFor, Means, Sizes, go, manner_of, reply_to, terms_of, transmission_flags}
 use Rattle.nbd_session.specs.Talk.{Talks, waits, over, stops, works, goes}
 use Rattle.nbd_session.proofs.Turning.{talks_likewise}
 use Rattle.tp_users.specs.Users.{Bears, users_geometry}
@@ -63,7 +63,7 @@ at_frame kind m frame rest speaks is text_is (waits k e part) =
     absurd (part m frame rest (subst (λ (x : Kind). IsFrame x m frame) (kinds_are kind k (sym speaks ∙ e)) is) text_is)
 at_frame kind m frame rest speaks is text_is over = absurd cc
 at_frame kind m frame rest speaks is text_is stops = absurd cc
-at_frame kind m frame rest speaks is text_is (works v n r first others mid q part talk sent_is) = absurd cc
+at_frame kind m frame rest speaks is text_is (works v n x r first others mid q part talk sent_is) = absurd cc
 at_frame kind m frame rest {phase} {text} {sent} {p} {p'} {new} speaks is text_is (goes k n f r first others mid q e is_frame cut answer talk sent_is) =
     let there = subst (λ (x : Kind). IsFrame x n f) (kinds_are k kind (sym e ∙ speaks)) is_frame in
     let same = one_frame kind n m f frame r rest there is (sym cut ∙ text_is) in
@@ -82,7 +82,7 @@ after_end : {phase : Phase} {text sent : List ℕ} {p p' : Counted} {new : State
 after_end (waits kind speaks part) e = refl
 after_end over e = refl
 after_end stops e = refl
-after_end (works v n r first others mid q part talk sent_is) e = absurd cc
+after_end (works v n x r first others mid q part talk sent_is) e = absurd cc
 after_end (goes kind message frame rest first others mid q speaks is_frame text_is answer talk sent_is) e = let n : kind_of _ ≡ None = ap kind_of e in absurd cc
 
 -- ---- failures
@@ -177,12 +177,12 @@ disc_is = record { request_fits = fits 2 4 0 (omega arith) (omega arith) (omega 
 
 -- ---- what it is answered, from the last frame on
 
-abbrev serving : Phase
-serving = Transmission 0 1048576 (Listens false)
-
 -- what a strict client agrees on that wants no padding zeroes
 abbrev agreed : Terms
 agreed = terms_of Strict true
+
+abbrev serving : Phase
+serving = Transmission 0 1048576 (Listens (manner_of agreed 0))
 
 abbrev failed : ℕ → List ℕ
 failed cookie = simple_reply (nbd_code (nbd_error Fault)) cookie []

@@ -3,6 +3,3 @@ use Rattle.nbd_session.proofs.options.choose.Goals as goal
 
 pub returns-then-option-eq-OPTION_ABORT-clause-answer : goal.returns-then-option-eq-OPTION_ABORT-clause-answer
 returns-then-option-eq-OPTION_ABORT-clause-answer g c = search rules
-
-pub returns-else-option-eq-OPTION_ABORT-clause-answer : goal.returns-else-option-eq-OPTION_ABORT-clause-answer
-returns-else-option-eq-OPTION_ABORT-clause-answer g c = search rules
