@@ -183,6 +183,26 @@ where
     told
 }
 
+/// Reads until the other side closes: how many bytes came.
+fn count_rest(alloc: Global, client: &mut TcpStream) -> io::Result<usize> {
+    let mut rest = Vec::new(alloc);
+    client.read_to_end(&mut rest)
+}
+
+/// A client that takes the head of what it is answered before those who serve are told to stop now, and the rest behind that: whether whole answers came, and whether
+/// it is done that they are to stop now.
+fn take_late<H>(rt: &H, clients: SocketAddr, control: SocketAddr) -> io::Result<(u32, bool)>
+where
+    H: Net<Listener = TcpListener, Stream = TcpStream> + Alloc<A = Global>,
+{
+    let mut client = told_client(rt, clients)?;
+    take_a_head(rt.alloc(), &mut client)?;
+    let done = is_done(rt, control, b"stop now\n")?;
+    let rest = count_rest(rt.alloc(), &mut client)?;
+    let is_whole = rest > 0 && rest % 1_048_592 == 1_048_576;
+    Ok((u32::from(is_whole), done))
+}
+
 /// How many of these are so.
 fn count_so(are: &[bool]) -> u32 {
     let mut count = 0u32;
@@ -283,6 +303,7 @@ enum Guests {
     Ask,
     OneMore,
     TakeNothing,
+    TakeLate,
 }
 
 /// What they are told.
@@ -301,6 +322,7 @@ where
         Guests::Ask => ask_beside(rt, clients, control),
         Guests::OneMore => come_as_one_more(rt, clients, control),
         Guests::TakeNothing => take_nothing(rt, clients, control),
+        Guests::TakeLate => take_late(rt, clients, control),
     }
 }
 
@@ -409,6 +431,14 @@ fn who_stays_is_let_go(rt: HostRuntime) -> Result<(), Fail> {
 #[test]
 fn who_takes_nothing_is_let_go(rt: HostRuntime) -> Result<(), Fail> {
     let told = told_at_doors(&rt, Guests::TakeNothing)?;
+    assert_eq!(rt; told, ((1, true), (true, 0, 1)));
+    Ok(())
+}
+
+/// A client that takes its answers late has all of them that are of what was read, though it is to stop now.
+#[test]
+fn who_takes_late_has_its_answers(rt: HostRuntime) -> Result<(), Fail> {
+    let told = told_at_doors(&rt, Guests::TakeLate)?;
     assert_eq!(rt; told, ((1, true), (true, 0, 1)));
     Ok(())
 }
