@@ -1,5 +1,5 @@
 -- A step over a pool is, from each state that the pool may have, a step over the plain pool.
-use Rattle.std.proofs.Common.{◌≡◌, ℕ, ◌+◌, ◌*◌, ◌<◌, ◌≤◌, ◌⊎◌, Bool, true, false, List, [], ◌∷◌, length, take, Option, Some, None, refl, sym, ap, subst, ◌∙◌, arith, inl, inr}
+use Rattle.std.proofs.Common.{◌≡◌, ℕ, ◌+◌, ◌*◌, ◌<◌, ◌≤◌, ◌⊎◌, Bool, true, false, List, [], ◌∷◌, length, take, Option, Some, None, refl, sym, ap, subst, ◌∙◌, arith, inl, inr, true≢false}
 use Rattle.std.specs.Prelude.{IfSome, MatchOption, MatchBool, ◌==◌, if◌then◌else◌, nat_lt}
 use Rattle.std.specs.Ordering.{nat_cmp}
 use Rattle.std.specs.FinMap.{FinMap}
@@ -154,12 +154,22 @@ module _ {D : Type 0} (view : View D) (laws : ViewLaws view) where
     knows = knows;
   }
 
+  -- terms that stay, and those of an extended session that change
+  stays_so : (z : Terms) → GoesBeyond z z
+  stays_so z = record { no_zeroes = refl; profile = refl; strict = λ e. refl; structured = λ e. e }
+
+  asks_for_chunks : (z : Terms) → is_extended z.profile ≡ true → GoesBeyond z (in_chunks z)
+  asks_for_chunks z ext = record { no_zeroes = refl; profile = refl; strict = λ e. absurd (true≢false (sym ext ∙ e)); structured = λ e. refl }
+
+  asks_of : (z : Terms) (context : ℕ) → is_extended z.profile ≡ true → GoesBeyond z (in_context z context)
+  asks_of z context ext = record { no_zeroes = refl; profile = refl; strict = λ e. absurd (true≢false (sym ext ∙ e)); structured = λ e. e }
+
   -- a session that goes on to its options, or ends, where nothing is called
   to_terms : (old new : D) (z y : Terms) → GoesBeyond z y → new ≡ old → Moves old new (Options z) (Options y)
   to_terms old new z y f e = rests old new (Options z) (Options y) e refl f tt
 
   to_options : (old new : D) (z : Terms) → new ≡ old → Moves old new (Options z) (Options z)
-  to_options old new z e = to_terms old new z z (refl, refl) e
+  to_options old new z e = to_terms old new z z (stays_so z) e
 
   to_end : (old new : D) (z : Terms) → new ≡ old → Moves old new (Options z) Ended
   to_end old new z e = rests old new (Options z) Ended e (inl refl) tt tt
@@ -277,15 +287,15 @@ module _ {D : Type 0} (view : View D) (laws : ViewLaws view) where
   go_lands z = record { found = λ id size flags. refl; missing = λ old new e. to_options old new z e }
 
   info_lands : (z : Terms) → Lands z (info z)
-  info_lands z = record { found = λ id size flags. (z, refl, (refl, refl)); missing = λ old new e. to_options old new z e }
+  info_lands z = record { found = λ id size flags. (z, refl, stays_so z); missing = λ old new e. to_options old new z e }
 
   list_lands : (z : Terms) (b : Bool) → Lands z (list_context z b)
-  list_lands z b = record { found = λ id size flags. (z, refl, (refl, refl)); missing = λ old new e. to_options old new z e }
+  list_lands z b = record { found = λ id size flags. (z, refl, stays_so z); missing = λ old new e. to_options old new z e }
 
-  set_lands : (z : Terms) (b : Bool) → Lands z (set_context z b)
-  set_lands z b = record {
-    found = λ id size flags. (in_context z (if b then id else 16777216), refl, (refl, refl));
-    missing = λ old new e. to_terms old new z (in_context z 16777216) (refl, refl) e;
+  set_lands : (z : Terms) → is_extended z.profile ≡ true → (b : Bool) → Lands z (set_context z b)
+  set_lands z ext b = record {
+    found = λ id size flags. (in_context z (if b then id else 16777216), refl, asks_of z (if b then id else 16777216) ext);
+    missing = λ old new e. to_terms old new z (in_context z 16777216) (asks_of z 16777216 ext) e;
   }
 
   export_lands : (z : Terms) → Lands z (export_name z)
@@ -432,7 +442,7 @@ module _ {D : Type 0} (view : View D) (laws : ViewLaws view) where
       → Moves old new (Options z) next
   names_move old new true z sent next (inl h) =
       let m = finding_stays (IsLast view.outline (PoolCall view)) (λ from d d' e. last_stays (nat_lt from 16777216) from d d' e) 0 h.ids old new h.finding in
-      moves_to old new (Options z) next (Options z) h.next_is (record { geometry = m.geometry; holds = m.holds; follows = (refl, refl); more = m.more; knows = tt })
+      moves_to old new (Options z) next (Options z) h.next_is (record { geometry = m.geometry; holds = m.holds; follows = stays_so z; more = m.more; knows = tt })
   names_move old new true z sent next (inr h) = none h.finding where
     goes : Stays old new → Moves old new (Options z) next
     goes m = moves_to old new (Options z) next Ended h.next_is (record { geometry = m.geometry; holds = inl m.holds; follows = tt; more = m.more; knows = tt })
@@ -450,12 +460,12 @@ module _ {D : Type 0} (view : View D) (laws : ViewLaws view) where
   lists_move old new true z payload sent next h = ends_move old new [] (Options z) next sent h
   lists_move old new false z payload sent next h = names_move old new (length payload == 0) z sent next h
 
-  structured_moves : (old new : D) (b : Bool) (z : Terms) (sent : List ℕ) (next : Phase)
+  structured_moves : (old new : D) (b : Bool) (z : Terms) (sent : List ℕ) (next : Phase) → is_extended z.profile ≡ true
       → Tells view.outline (PoolCall view) (if b then outcome (option_reply OPTION_STRUCTURED_REPLY Acknowledged []) (Options (in_chunks z)) else option_error OPTION_STRUCTURED_REPLY Invalid z) old sent next new
       → Moves old new (Options z) next
-  structured_moves old new true z sent next h =
-      tells_move old new (Options z) (outcome (option_reply OPTION_STRUCTURED_REPLY Acknowledged []) (Options (in_chunks z))) sent next h (to_terms old new z (in_chunks z) (refl, refl) h.2)
-  structured_moves old new false z sent next h = tells_move old new (Options z) (option_error OPTION_STRUCTURED_REPLY Invalid z) sent next h (to_options old new z h.2)
+  structured_moves old new true z sent next ext h =
+      tells_move old new (Options z) (outcome (option_reply OPTION_STRUCTURED_REPLY Acknowledged []) (Options (in_chunks z))) sent next h (to_terms old new z (in_chunks z) (asks_for_chunks z ext) h.2)
+  structured_moves old new false z sent next ext h = tells_move old new (Options z) (option_error OPTION_STRUCTURED_REPLY Invalid z) sent next h (to_options old new z h.2)
 
   queries_move : (old new : D) (b c : Bool) (option : ℕ) (asks : List (List ℕ) → Bool) (o : Bool → VolumeOption) (z y : Terms) (payload sent : List ℕ) (next : Phase)
       → ((x : Bool) → Lands z (o x)) → GoesBeyond z y
@@ -468,20 +478,20 @@ module _ {D : Type 0} (view : View D) (laws : ViewLaws view) where
   queries_move old new false true option asks o z y payload sent next lands f (inr h) = looks_move old new z (o (asks h.queries)) (lands (asks h.queries)) h.name sent next h.looks
   queries_move old new false false option asks o z y payload sent next lands f h = tells_move old new (Options z) (option_error option Invalid y) sent next h (to_terms old new z y f h.2)
 
-  extended_moves : (old new : D) (is_chunks is_list is_set : Bool) (z : Terms) (option : ℕ) (payload sent : List ℕ) (next : Phase)
+  extended_moves : (old new : D) (is_chunks is_list is_set : Bool) (z : Terms) (option : ℕ) (payload sent : List ℕ) (next : Phase) → is_extended z.profile ≡ true
       → MatchBool is_chunks (Tells view.outline (PoolCall view) (structures z payload) old sent next new)
       (MatchBool is_list (Queries view.outline (PoolCall view) OPTION_LIST_META_CONTEXT lists (list_context z) z z payload old sent next new)
       (MatchBool is_set (Queries view.outline (PoolCall view) OPTION_SET_META_CONTEXT asks_for (set_context z) z (in_context z 16777216) payload old sent next new)
       (Tells view.outline (PoolCall view) (option_error option Unsupported z) old sent next new)))
       → Moves old new (Options z) next
-  extended_moves old new true is_list is_set z option payload sent next h = structured_moves old new (length payload == 0) z sent next h
-  extended_moves old new false true is_set z option payload sent next h =
-      queries_move old new (is_failed (view.outline old).mode) z.is_structured OPTION_LIST_META_CONTEXT lists (list_context z) z z payload sent next (list_lands z) (refl, refl) h
-  extended_moves old new false false true z option payload sent next h =
-      queries_move old new (is_failed (view.outline old).mode) z.is_structured OPTION_SET_META_CONTEXT asks_for (set_context z) z (in_context z 16777216) payload sent next (set_lands z) (refl, refl) h
-  extended_moves old new false false false z option payload sent next h = tells_move old new (Options z) (option_error option Unsupported z) sent next h (to_options old new z h.2)
+  extended_moves old new true is_list is_set z option payload sent next ext h = structured_moves old new (length payload == 0) z sent next ext h
+  extended_moves old new false true is_set z option payload sent next ext h =
+      queries_move old new (is_failed (view.outline old).mode) z.is_structured OPTION_LIST_META_CONTEXT lists (list_context z) z z payload sent next (list_lands z) (stays_so z) h
+  extended_moves old new false false true z option payload sent next ext h =
+      queries_move old new (is_failed (view.outline old).mode) z.is_structured OPTION_SET_META_CONTEXT asks_for (set_context z) z (in_context z 16777216) payload sent next (set_lands z ext) (asks_of z 16777216 ext) h
+  extended_moves old new false false false z option payload sent next ext h = tells_move old new (Options z) (option_error option Unsupported z) sent next h (to_options old new z h.2)
 
-  chosen_moves : (old new : D) (is_go is_info is_export is_list is_abort is_long : Bool) (z : Terms) (option : ℕ) (payload sent : List ℕ) (next : Phase)
+  chosen_moves : (old new : D) (is_go is_info is_export is_list is_abort is_long : Bool) (z : Terms) (option : ℕ) (payload sent : List ℕ) (next : Phase) → is_extended z.profile ≡ is_long
       → MatchBool is_go (Informs view.outline (PoolCall view) OPTION_GO (go z) z payload old sent next new)
       (MatchBool is_info (Informs view.outline (PoolCall view) OPTION_INFO (info z) z payload old sent next new)
       (MatchBool is_export (Exports view.outline (PoolCall view) (export_name z) z payload old sent next new)
@@ -489,14 +499,14 @@ module _ {D : Type 0} (view : View D) (laws : ViewLaws view) where
       (MatchBool is_abort (Ends view.outline (PoolCall view) (option_reply OPTION_ABORT Acknowledged []) (Options z) old sent next new)
       (MatchBool is_long (Extends view.outline (PoolCall view) z option payload old sent next new) (Tells view.outline (PoolCall view) (option_error option Unsupported z) old sent next new))))))
       → Moves old new (Options z) next
-  chosen_moves old new true is_info is_export is_list is_abort is_long z option payload sent next h = informs_move old new z (go z) (go_lands z) (is_failed (view.outline old).mode) OPTION_GO payload sent next h
-  chosen_moves old new false true is_export is_list is_abort is_long z option payload sent next h = informs_move old new z (info z) (info_lands z) (is_failed (view.outline old).mode) OPTION_INFO payload sent next h
-  chosen_moves old new false false true is_list is_abort is_long z option payload sent next h = exports_move old new z (export_name z) (export_lands z) (is_failed (view.outline old).mode) payload sent next h
-  chosen_moves old new false false false true is_abort is_long z option payload sent next h = lists_move old new (is_failed (view.outline old).mode) z payload sent next h
-  chosen_moves old new false false false false true is_long z option payload sent next h = ends_move old new (option_reply OPTION_ABORT Acknowledged []) (Options z) next sent h
-  chosen_moves old new false false false false false true z option payload sent next h =
-      extended_moves old new (option == OPTION_STRUCTURED_REPLY) (option == OPTION_LIST_META_CONTEXT) (option == OPTION_SET_META_CONTEXT) z option payload sent next h
-  chosen_moves old new false false false false false false z option payload sent next h = tells_move old new (Options z) (option_error option Unsupported z) sent next h (to_options old new z h.2)
+  chosen_moves old new true is_info is_export is_list is_abort is_long z option payload sent next ext h = informs_move old new z (go z) (go_lands z) (is_failed (view.outline old).mode) OPTION_GO payload sent next h
+  chosen_moves old new false true is_export is_list is_abort is_long z option payload sent next ext h = informs_move old new z (info z) (info_lands z) (is_failed (view.outline old).mode) OPTION_INFO payload sent next h
+  chosen_moves old new false false true is_list is_abort is_long z option payload sent next ext h = exports_move old new z (export_name z) (export_lands z) (is_failed (view.outline old).mode) payload sent next h
+  chosen_moves old new false false false true is_abort is_long z option payload sent next ext h = lists_move old new (is_failed (view.outline old).mode) z payload sent next h
+  chosen_moves old new false false false false true is_long z option payload sent next ext h = ends_move old new (option_reply OPTION_ABORT Acknowledged []) (Options z) next sent h
+  chosen_moves old new false false false false false true z option payload sent next ext h =
+      extended_moves old new (option == OPTION_STRUCTURED_REPLY) (option == OPTION_LIST_META_CONTEXT) (option == OPTION_SET_META_CONTEXT) z option payload sent next ext h
+  chosen_moves old new false false false false false false z option payload sent next ext h = tells_move old new (Options z) (option_error option Unsupported z) sent next h (to_options old new z h.2)
 
   answers_move : (old new : D) (phase next : Phase) (m : Message) (sent : List ℕ) → Answers view.outline (PoolCall view) phase m old sent next new → Moves old new phase next
   answers_move old new (Flags a) next (client_flags z) sent h =
@@ -505,7 +515,7 @@ module _ {D : Type 0} (view : View D) (laws : ViewLaws view) where
   answers_move old new (Flags a) next (command r q) sent h = absurd h
   answers_move old new (Flags a) next malformed sent h = ends_move old new [] (Flags a) next sent h
   answers_move old new (Options z) next (client_flags y) sent h = absurd h
-  answers_move old new (Options z) next (client_option o q) sent h = chosen_moves old new (o == OPTION_GO) (o == OPTION_INFO) (o == OPTION_EXPORT_NAME) (o == OPTION_LIST) (o == OPTION_ABORT) (is_extended z.profile) z o q sent next h
+  answers_move old new (Options z) next (client_option o q) sent h = chosen_moves old new (o == OPTION_GO) (o == OPTION_INFO) (o == OPTION_EXPORT_NAME) (o == OPTION_LIST) (o == OPTION_ABORT) (is_extended z.profile) z o q sent next refl h
   answers_move old new (Options z) next (command r q) sent h = absurd h
   answers_move old new (Options z) next malformed sent h = ends_move old new [] (Options z) next sent h
   answers_move old new (Transmission v n (Listens x)) next (client_flags y) sent h = absurd h
@@ -539,7 +549,7 @@ module _ {D : Type 0} (view : View D) (laws : ViewLaws view) where
 
   same_phase : (phase : Phase) → Follows phase phase
   same_phase (Flags a) = refl
-  same_phase (Options z) = (refl, refl)
+  same_phase (Options z) = stays_so z
   same_phase (Transmission v n c) = (refl, refl, refl)
   same_phase Ended = tt
 

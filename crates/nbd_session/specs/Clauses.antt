@@ -13,7 +13,7 @@ use Rattle.nbd_session.specs.declared.phase.Phase.{Phase}
 use Rattle.nbd_session.specs.declared.phase.Phase.TheVariants.{Flags, Options, Transmission, Ended}
 use Rattle.nbd_session.specs.declared.phase.Terms.{Terms}
 use Rattle.nbd_session.specs.Requests.{known_bytes}
-use Rattle.nbd_session.specs.Session.{State, kind_of, has_ended, is_at_work, left_in, manner_of, LetsGo, Steps}
+use Rattle.nbd_session.specs.Session.{State, kind_of, has_ended, is_at_work, is_extended, left_in, manner_of, terms_of, LetsGo, Steps}
 use Rattle.nbd_session.specs.Talk.{Converses}
 
 -- a frame that may come in the phase
@@ -56,14 +56,18 @@ abbrev pub manner_in : Course → Manner
 manner_in (Listens manner) = manner
 manner_in (Works manner rest) = manner
 
--- Options may change what is asked for beside the volume, and nothing else.
-abbrev pub GoesBeyond : Terms → Terms → Type 0
-GoesBeyond old new = (new.no_zeroes ≡ old.no_zeroes) × (new.profile ≡ old.profile)
+-- Options of an extended session may change what is asked for beside the volume, and nothing else; structured replies stay asked for. Those of a strict one
+-- change nothing.
+pub record GoesBeyond (old new : Terms) : Type 0 where
+  pub no_zeroes : new.no_zeroes ≡ old.no_zeroes
+  pub profile : new.profile ≡ old.profile
+  pub strict : is_extended old.profile ≡ false → new ≡ old
+  pub structured : old.is_structured ≡ true → new.is_structured ≡ true
 
 -- Where a session may go by one frame, or one part of a request: it keeps its profile and its flags, and its volume with its size and its manner.
 abbrev pub Follows : Phase → Phase → Type 0
 Follows (Flags profile) (Flags same) = profile ≡ same
-Follows (Flags profile) (Options terms) = profile ≡ terms.profile
+Follows (Flags profile) (Options terms) = terms ≡ terms_of profile terms.no_zeroes
 Follows (Options terms) (Options same) = GoesBeyond terms same
 Follows (Options terms) (Transmission volume size course) = course ≡ Listens (manner_of terms volume)
 Follows (Transmission volume size course) (Transmission same also next) = (volume ≡ same) × (size ≡ also) × (manner_in course ≡ manner_in next)

@@ -56,7 +56,9 @@ long_error size r = first_failed (
     ∷ (not (r.offset % 512 == 0 && r.bytes % 512 == 0), Invalid)
     ∷ (nat_lt size (r.offset + r.bytes), if forms.is_write_zeroes r then NoSpace else Invalid) ∷ [])
 
--- READs are read in chunks where that was asked for.
+-- ---- structured replies
+
+-- A READ is answered in chunks where that was asked for.
 abbrev pub reads_in_chunks : Manner → Request → Bool
 reads_in_chunks manner r = manner.is_structured && r.kind == COMMAND_READ
 

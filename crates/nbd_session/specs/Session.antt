@@ -1,6 +1,6 @@
 -- Trusted reading: what a session answers to one frame, and to one piece of what its client sends (NBD's proto.md, "Option types",
 -- "Request types", "Terminating the transmission phase"; the choices that it leaves are own).
-use Rattle.std.specs.Prelude.{◌≡◌, ℕ, ◌/◌, ◌<◌, ◌≤◌, Bool, true, false, List, [], ◌∷◌, ◌+◌, ◌++◌, length, take, nat_lt, Option, Some, None, MatchOption, MatchBool, ◌==◌, if◌then◌else◌, ◌⊎◌}
+use Rattle.std.specs.Prelude.{◌≡◌, ℕ, ◌/◌, ◌<◌, ◌≤◌, Bool, true, false, ◌&&◌, List, [], ◌∷◌, ◌+◌, ◌++◌, length, take, nat_lt, Option, Some, None, MatchOption, MatchBool, ◌==◌, if◌then◌else◌, ◌⊎◌}
 use Rattle.std.specs.List.{concat, flat_map}
 use Rattle.std.specs.Fmt.{decimal}
 use Rattle.tp_model.specs.declared.refusal.NbdError.{NbdError}
@@ -99,7 +99,7 @@ abbrev pub flags_in : Terms → ℕ → ℕ
 flags_in terms flags = (if is_extended terms.profile then 0x100 else 0) + ((if terms.is_structured then 0x80 else 0) + flags)
 
 abbrev pub manner_of : Terms → ℕ → Manner
-manner_of terms id = record { is_extended = is_extended terms.profile; is_structured = terms.is_structured; tells_blocks = terms.context == id }
+manner_of terms id = record { is_extended = is_extended terms.profile; is_structured = terms.is_structured; tells_blocks = terms.is_structured && terms.context == id }
 
 -- transmission begins so
 abbrev pub begun : Terms → ℕ → ℕ → Phase
@@ -117,7 +117,7 @@ reply_to cookie (Sized blocks) = simple_reply 0 cookie []
 reply_to cookie (Listed slots) = simple_reply 0 cookie []
 reply_to cookie (Refused reason) = simple_reply (nbd_code (nbd_error reason)) cookie []
 
--- The same in one chunk, which tells where the bytes begin, to a READ.
+-- the reply to a READ as one chunk, which tells where its bytes begin
 abbrev pub chunk_to : Request → Answer → List ℕ
 chunk_to r (Gave sectors) = data_chunk r.cookie r.offset (concat sectors)
 chunk_to r (Refused reason) = error_chunk (nbd_code (nbd_error reason)) r.cookie
@@ -211,17 +211,17 @@ info terms = record {
   missing = option_error OPTION_INFO Unknown terms;
 }
 
--- the answer to an option that looks for the one context: a reply that tells it where it is asked for, and ACK
-unfoldable pub context_reply : ℕ → Bool → List ℕ
-context_reply option is_asked =
-    (if is_asked then option_reply option Context (context_data ALLOCATION_CONTEXT allocation) else []) ++ option_reply option Acknowledged []
+-- the answer to an option that looks for the one context: a reply that tells it under this number where it is asked for, and ACK
+unfoldable pub context_reply : ℕ → ℕ → Bool → List ℕ
+context_reply option number is_asked =
+    (if is_asked then option_reply option Context (context_data number allocation) else []) ++ option_reply option Acknowledged []
 
--- LIST_META_CONTEXT tells the context where a query fits it, or none was made. It changes nothing.
+-- LIST_META_CONTEXT tells the context where a query fits it, or none was made, under no number (0). It changes nothing.
 abbrev pub list_context : Terms → Bool → VolumeOption
 list_context terms is_listed = record {
   default = default_of terms.profile;
   holds = false;
-  found = λ id size flags. outcome (context_reply OPTION_LIST_META_CONTEXT is_listed) (Options terms);
+  found = λ id size flags. outcome (context_reply OPTION_LIST_META_CONTEXT 0 is_listed) (Options terms);
   missing = option_error OPTION_LIST_META_CONTEXT Unknown terms;
 }
 
@@ -230,7 +230,7 @@ abbrev pub set_context : Terms → Bool → VolumeOption
 set_context terms is_asked = record {
   default = default_of terms.profile;
   holds = false;
-  found = λ id size flags. outcome (context_reply OPTION_SET_META_CONTEXT is_asked) (Options (in_context terms (if is_asked then id else 16777216)));
+  found = λ id size flags. outcome (context_reply OPTION_SET_META_CONTEXT ALLOCATION_CONTEXT is_asked) (Options (in_context terms (if is_asked then id else 16777216)));
   missing = option_error OPTION_SET_META_CONTEXT Unknown (in_context terms 16777216);
 }
 
@@ -281,7 +281,7 @@ module _ {S : Type 0} (outline : S → Outline) (Calls : S → Call → Answer �
     pub calls : Calls p call answer p'
     pub sent_is : sent ≡ reply answer
 
-  -- BLOCK_STATUS asks for one walk, from the block in which it begins. There is none where a volume has no such block.
+  -- BLOCK_STATUS asks for one walk, from the block in which it begins. One that begins behind the last block that a volume may have is refused.
   pub record Walks (id : ℕ) (r : Request) (p : S) (sent : List ℕ) (p' : S) : Type 0 where
     pub answer : Answer
     pub calls : Calls p (Walk id (first_block (unit_of (outline p).geometry) r)) answer p'

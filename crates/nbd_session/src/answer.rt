@@ -79,7 +79,7 @@ pub(crate) fn put_refusal_chunk(out: &mut [u8], refusal: Refusal, cookie: u64) -
 }
 
 /// Puts the head of the one chunk that answers a READ before its data, which stands there already.
-pub(crate) fn put_chunk_head(out: &mut [u8], request: &Request) -> usize
+pub(crate) fn put_read_chunk_head(out: &mut [u8], request: &Request) -> usize
     requires most { request.now.len ≤ 1048576 }
     requires room { 28 + request.now.len ≤ length out.old }
     ensures reply { take result out.new ≡ data_chunk request.now.cookie request.now.offset (take request.now.len (drop 28 out.old)) }
@@ -122,7 +122,7 @@ fn read_in_chunk<V: Volumes>(
 {
     let len = request.len as usize;
     match pool.read(volume, request.offset / 512, &mut out[28..28 + len]) {
-        Ok(()) => put_chunk_head(out, request),
+        Ok(()) => put_read_chunk_head(out, request),
         Err(refusal) => put_refusal_chunk(out, refusal, request.cookie),
     }
 }

@@ -1,8 +1,8 @@
 //! One client of the NBD protocol over the volumes of a pool: bytes in, bytes out.
 //!
 //! A [`Session`] takes its buffers when it is opened. It is fed what its client sends, cut anywhere, and answers frame by
-//! frame. So far it knows the options EXPORT_NAME, LIST, INFO, GO and ABORT, and READ, WRITE, TRIM, WRITE_ZEROES, FLUSH and
-//! DISC.
+//! frame. It knows the options EXPORT_NAME, LIST, INFO, GO and ABORT, and READ, WRITE, TRIM, WRITE_ZEROES, FLUSH and DISC;
+//! where it is extended also STRUCTURED_REPLY, LIST_META_CONTEXT and SET_META_CONTEXT, and BLOCK_STATUS.
 #![tactic(auto)]
 
 mod advance;

@@ -14,7 +14,7 @@ use crate::listing::list;
 use crate::name::meant;
 use crate::phase::{Course, Manner, NO_VOLUME, Phase, Terms, is_extended};
 use nbd_wire::{
-    OPTION_ABORT, OPTION_EXPORT_NAME, OPTION_GO, OPTION_INFO, OPTION_LIST,
+    ALLOCATION_CONTEXT, OPTION_ABORT, OPTION_EXPORT_NAME, OPTION_GO, OPTION_INFO, OPTION_LIST,
     OPTION_LIST_META_CONTEXT, OPTION_SET_META_CONTEXT, OPTION_STRUCTURED_REPLY, ReplyType,
     info_name, put_block_size_info, put_context_reply, put_export_info, put_export_reply,
     put_option_reply_head, read_query,
@@ -106,7 +106,7 @@ fn manner_of(terms: Terms, volume: DevId) -> Manner
     Manner {
         is_extended: is_extended(terms.profile),
         is_structured: terms.is_structured,
-        tells_blocks: terms.context == volume.number(),
+        tells_blocks: terms.is_structured && terms.context == volume.number(),
     }
 }
 
@@ -117,18 +117,18 @@ fn in_context(terms: Terms, context: u32) -> Terms
     Terms { context, ..terms }
 }
 
-/// The answer to an option that looks for the one context, at the front: a reply that tells it where it is asked for, and ACK.
+/// The answer to an option that looks for the one context, at the front: a reply that tells it under this number where it is asked for, and ACK.
 #[tactic(auto, unfolding(crate::specs::Session::context_reply))]
-fn put_context(out: &mut [u8], option: u32, is_asked: bool) -> usize
+fn put_context(out: &mut [u8], option: u32, number: u32, is_asked: bool) -> usize
     requires { 59 ≤ length out.old }
-    ensures reply { take result out.new ≡ context_reply option is_asked }
+    ensures reply { take result out.new ≡ context_reply option number is_asked }
     ensures fits { result ≤ length out.new }
     ensures len { length out.new ≡ length out.old }
 {
     if !is_asked {
         return put_option_reply(out, option, ReplyType::Acknowledged);
     }
-    let end = put_context_reply(out, 0, option);
+    let end = put_context_reply(out, 0, option, number);
     put_option_reply_head(out, end, option, ReplyType::Acknowledged, 0)
 }
 
@@ -148,7 +148,7 @@ fn tell_list<V: Volumes>(
     match find(pool, volume) {
         Ok(Some(_)) => (
             Phase::Options { terms },
-            put_context(out, OPTION_LIST_META_CONTEXT, is_listed),
+            put_context(out, OPTION_LIST_META_CONTEXT, 0, is_listed),
         ),
         Ok(None) => answer_error(terms, OPTION_LIST_META_CONTEXT, ReplyType::Unknown, out),
         Err(_) => (Phase::Ended, 0),
@@ -172,7 +172,7 @@ fn tell_set<V: Volumes>(
         Ok(Some(_)) => {
             let context = if is_asked { volume.number() } else { NO_VOLUME };
             let terms = in_context(terms, context);
-            let sent = put_context(out, OPTION_SET_META_CONTEXT, is_asked);
+            let sent = put_context(out, OPTION_SET_META_CONTEXT, ALLOCATION_CONTEXT, is_asked);
             (Phase::Options { terms }, sent)
         }
         Ok(None) => {

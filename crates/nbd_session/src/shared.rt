@@ -8,7 +8,7 @@ ghost use Rattle.nbd_session.specs.Requests.{BeginsWithRead, IsWhole, is_read_me
 ghost use Rattle.nbd_session.specs.Session.{AnswersText, Performs, Serves, Steps, chunk_to, is_at_work, read_reply, reply_to, state};
 ghost use Rattle.nbd_session.specs.Clauses.{IsReady};
 
-use crate::answer::{MAX_ANSWER, put_chunk_head, put_read_head};
+use crate::answer::{MAX_ANSWER, put_read_chunk_head, put_read_head};
 use crate::phase::{Course, Manner, Phase};
 use crate::request::{Verdict, judge_in};
 use crate::session::Answered;
@@ -54,7 +54,7 @@ fn read_in_chunk<V: Volumes, S: SharedReads<V>>(
     if !pool.read_beside(volume, request.offset / 512, &mut out[28..28 + len]) {
         return None;
     }
-    Some(put_chunk_head(out, request))
+    Some(put_read_chunk_head(out, request))
 }
 
 /// A READ of some sectors. None where the pool has no shared read of them.

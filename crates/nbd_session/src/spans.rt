@@ -8,7 +8,7 @@ use arrayvec::ArrayVec;
 use tp_listings::{Extent, MOST_RUNS};
 
 /// As many extents as one answer has at most: the runs of a page, a hole before each, and one behind the last.
-pub(crate) const MOST_SPANS: usize = 15;
+pub(crate) const MOST_SPANS: usize = 2 * MOST_RUNS + 1;
 
 /// The flags NBD_STATE_HOLE and NBD_STATE_ZERO.
 const HOLE: u32 = 3;
@@ -24,7 +24,7 @@ pub(crate) struct Span {
 pub(crate) type Spans = ArrayVec<Span, MOST_SPANS>;
 
 /// The place that is nearest to this one.
-fn between(least: u64, most: u64, at: u64) -> u64
+pub(crate) fn between(least: u64, most: u64, at: u64) -> u64
     requires { least ≤ most }
     ensures value { result ≡ between least most at }
     ensures least { least ≤ result }

@@ -12,7 +12,7 @@ ghost use Rattle.nbd_session.specs.Spans.{as_pairs};
 ghost use Rattle.nbd_session.specs.Status.{IsStatus, between, blocks_to, cut_to_one, extents_in, first_block, unit_of, wants_one};
 
 use crate::answer::{put_error_of, put_refusal_chunk};
-use crate::spans::{Span, Spans, cut, spans_of};
+use crate::spans::{Span, between, cut, spans_of};
 use nbd_wire::{Request, put_extent, put_status_head};
 use tp_listings::{Extent, page_of};
 use tp_model::{DevId, Geometry, NbdError, Slot, Slots, Vb, Walked};
@@ -88,7 +88,7 @@ fn put_page(out: &mut [u8], unit: u64, request: &Request, runs: &[Extent], block
     ensures len { length out.new ≡ length out.old }
 {
     let most = request.offset + request.len as u64;
-    let end = request.offset.max(most.min(unit * blocks as u64));
+    let end = between(request.offset, most, unit * blocks as u64);
     let mut spans = spans_of(unit, request.offset, end, runs);
     cut(&mut spans, wants_one(request));
     put_spans(out, request.cookie, &spans)

@@ -2,7 +2,7 @@
 use Rattle.std.proofs.Common.{◌≡◌, ℕ, ◌+◌, ◌-◌, ◌≤◌, Bool, true, false, List, [], ◌++◌, length, take, drop, replicate, refl, sym, ap, subst, ◌∙◌, append_assoc, arith}
 use Rattle.std.proofs.lemmas.List.{take_at, drop_at, take_all, drop_all, drop-drop, append-nil, length-append, length-take, length-drop}
 use borrow.Rule.Slice.PartMut.{put_mid, post_of}
-use Rattle.nbd_wire.specs.declared.TheConstants.{ALLOCATION_CONTEXT, INFO_EXPORT, INFO_BLOCK_SIZE}
+use Rattle.nbd_wire.specs.declared.TheConstants.{INFO_EXPORT, INFO_BLOCK_SIZE}
 use Rattle.nbd_wire.specs.declared.writing.ReplyType.TheVariants.{Context}
 use Rattle.nbd_wire.specs.Contexts.{allocation, context_data}
 use Rattle.nbd_wire.specs.Replies.{Puts, option_reply, option_reply_head, export_info, export_reply, padding, block_size_info, server_data}
@@ -70,14 +70,14 @@ unfolding export_reply padding
 puts_padded old new at size flags end b e p = let Q : Bool → Type 0 = λ c. Puts old at (export_reply size flags c) new end in subst Q (sym e) p
 
 -- the reply that tells the context
-pub puts_context : (old a b new : List ℕ) (at i j end option : ℕ) → Puts old at (option_reply_head option Context 19) a i → Puts a i (bytes 4 ALLOCATION_CONTEXT) b j
-    → Puts b j allocation new end → Puts old at (option_reply option Context (context_data ALLOCATION_CONTEXT allocation)) new end
+pub puts_context : (old a b new : List ℕ) (at i j end option id : ℕ) → Puts old at (option_reply_head option Context 19) a i → Puts a i (bytes 4 id) b j
+    → Puts b j allocation new end → Puts old at (option_reply option Context (context_data id allocation)) new end
 unfolding context_data
-puts_context old a b new at i j end option p q r =
-    let told : List ℕ = bytes 4 ALLOCATION_CONTEXT ++ allocation in
-    let len : 19 ≡ length told = omega (arith, length-append (bytes 4 ALLOCATION_CONTEXT) allocation, width4.len ALLOCATION_CONTEXT) in
+puts_context old a b new at i j end option id p q r =
+    let told : List ℕ = bytes 4 id ++ allocation in
+    let len : 19 ≡ length told = omega (arith, length-append (bytes 4 id) allocation, width4.len id) in
     puts_then old a new (option_reply_head option Context (length told)) told at i end
-    (subst (λ (n : ℕ). Puts old at (option_reply_head option Context n) a i) len p) (puts_then a b new (bytes 4 ALLOCATION_CONTEXT) allocation i j end q r)
+    (subst (λ (n : ℕ). Puts old at (option_reply_head option Context n) a i) len p) (puts_then a b new (bytes 4 id) allocation i j end q r)
 
 -- ---- how long the parts of an answer are
 

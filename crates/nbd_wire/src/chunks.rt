@@ -1,4 +1,4 @@
-//! Writers of structured replies: each is one chunk or several, of which the last one says so (`proto.md`, "Structured reply chunk message").
+//! Writers of structured replies, each of which is one chunk here, with the flag DONE (`proto.md`, "Structured reply chunk message").
 
 ghost use Rattle.std.specs.Prelude.{◌≡◌, ◌≤◌, ◌<◌, ◌+◌, ◌^◌, length};
 ghost use Rattle.nbd_wire.specs.Replies.{Puts};

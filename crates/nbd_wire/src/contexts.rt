@@ -85,15 +85,15 @@ pub fn read_query(payload: &[u8]) -> Option<Query<'_>>
     })
 }
 
-/// A reply to LIST_META_CONTEXT or SET_META_CONTEXT, which tells the context `base:allocation`, 39 bytes (`proto.md`, "NBD_REP_META_CONTEXT").
-pub fn put_context_reply(out: &mut [u8], at: usize, option: u32) -> usize
+/// A reply to LIST_META_CONTEXT or SET_META_CONTEXT, which tells the context `base:allocation` under a number, 39 bytes (`proto.md`, "NBD_REP_META_CONTEXT").
+pub fn put_context_reply(out: &mut [u8], at: usize, option: u32, id: u32) -> usize
     requires { at + 39 ≤ length out.old }
-    ensures bytes { Puts out.old at (option_reply option Context (context_data ALLOCATION_CONTEXT allocation)) out.new result }
+    ensures bytes { Puts out.old at (option_reply option Context (context_data id allocation)) out.new result }
     ensures end { result ≡ at + 39 }
     ensures len { length out.new ≡ length out.old }
 {
     let data = put_option_reply_head(out, at, option, ReplyType::Context, 19);
-    let name = put_u32(out, data, ALLOCATION_CONTEXT);
+    let name = put_u32(out, data, id);
     put_bytes(out, name, b"base:allocation")
 }
 

@@ -583,7 +583,7 @@ const STATUSES: &[Part<'static>] = &[
     Part::Text(GREETING),
     Part::Told(10, 0x8000_0003, b""),
     Part::Told(8, 1, b""),
-    Part::Told(9, 4, CONTEXT),
+    Part::Told(9, 4, b"\0\0\0\0base:allocation"),
     Part::Told(9, 1, b""),
     Part::Told(9, 1, b""),
     Part::Told(10, 0x8000_0006, b""),

@@ -43,7 +43,7 @@ fn queries_are_exactly_in_their_form(rt: HostRuntime) {
 #[test]
 fn a_context_and_its_extents_are_told(rt: HostRuntime) {
     let mut reply = [0xffu8; 40];
-    let told = put_context_reply(&mut reply, 0, OPTION_SET_META_CONTEXT);
+    let told = put_context_reply(&mut reply, 0, OPTION_SET_META_CONTEXT, 1);
     let mut status = [0xffu8; 33];
     let head = put_status_head(&mut status, 0, 9, 1);
     let end = put_extent(&mut status, head, 4096, 3);

@@ -96,8 +96,8 @@ other volumes have; put in its place a copy that is clean. To save what can be r
 
 const FEED_HELP: &str = "\
 The client speaks NBD (fixed newstyle) on standard input, and is answered on standard output. The volumes' names are their ids. Offsets
-and lengths are in bytes, whole sectors of 512; a request has 1048576 bytes at most, but with --extended TRIM and WRITE_ZEROES, which may
-have up to 4294967295. A FLUSH that is answered is on the disk. When the client ends, the pool is closed, and what it wrote is on the disk.
+and lengths are in bytes, whole sectors of 512; a request has 1048576 bytes at most, but with --extended TRIM, WRITE_ZEROES and
+BLOCK_STATUS, which may have up to 4294967295. A FLUSH that is answered is on the disk. When the client ends, the pool is closed, and what it wrote is on the disk.
 TRIM frees blocks of the pool, and gives nothing back to the host.
 
 The volume 0 of a pool of 10 GiB is asked for by
@@ -129,7 +129,7 @@ SCRIPT is a file of lines, each an event; its answers are printed, a line each. 
 What is refused prints 'refused N', the number of the refusal, and the script goes on. At a line that is none of these it stops with status 2, and the
 pool is not closed: what was not flushed is as after a stop. Else the pool is closed at the end.
 
-With --extended the clients may send TRIM and WRITE_ZEROES of any length, as those of 'run'.
+With --extended the clients may send TRIM and WRITE_ZEROES of any length, and ask for structured replies and block status, as those of 'run'.
 
   thinpool play mem: script.txt";
 
@@ -371,7 +371,8 @@ fn extended<'a>(alloc: Global) -> Arg<'a>
     ensures rule { rule_of result ≡ extended_rule }
     ensures local { result.global ≡ false }
 {
-    let help = "Offer what 'run' offers: TRIM and WRITE_ZEROES of any length";
+    let help =
+        "Offer what 'run' offers: long TRIM and WRITE_ZEROES, structured replies and block status";
     flag(alloc, "EXTENDED", "extended", help)
 }
 

@@ -15,7 +15,7 @@ newstyle), 64 of them at a time, each as it comes; who comes then waits for a pl
 then closes the pool. A socket file is for its owner alone (mode 0600). One that a server left that runs no more is replaced. At a TCP address
 there is no authentication, and a client whose system does not answer any more is let go within some minutes.
 
-TRIM and WRITE_ZEROES may be as long as a client likes; all other requests have 1048576 bytes at most. A client may have several connections. With --default
+TRIM, WRITE_ZEROES and BLOCK_STATUS may be as long as a client likes; READ and WRITE have 1048576 bytes at most. A client may have several connections. With --default
 a client who names no volume has that one, as of nbd://host.
 
 Standard error is told, a line each with the time in UTC: who comes and goes, with its volume, requests and bytes; which control lines changed

@@ -10,5 +10,5 @@ returns-clause-answer g c =
     let long = room_is 28 r.len c.args.out.now (omega (arith, c.requires.form.most, c.requires.room)) in
     let data_long : length c.read_beside.new.out ≡ r.len = omega (arith, c.read_beside.auto.out, long) in
     read_gave g.V.Volumes.view (chunk_to r) (data_chunk r.cookie r.offset) (λ sectors. refl) (g.S.SharedReads.of c.args.pool.now) (g.S.SharedReads.of c.args.pool.now) c.args.volume (r.offset / 512) r.len _ c.read_beside.new.out _ _
-    c.requires.form.len long data_long (c.read_beside.ensures c.if-not-read_beside.false) c.put_chunk_head.ensures.reply
+    c.requires.form.len long data_long (c.read_beside.ensures c.if-not-read_beside.false) c.put_read_chunk_head.ensures.reply
     (middle 28 (28 + r.len - 28) r.len c.args.out.now c.read_beside.new.out (omega (arith, c.requires.room)) data_long)

@@ -1,6 +1,6 @@
 use Rattle.std.proofs.Common.{arith}
 use Rattle.nbd_session.proofs.Serving.{behind_head}
-use Rattle.nbd_session.proofs.answer.put_chunk_head.Goals as goal
+use Rattle.nbd_session.proofs.answer.put_read_chunk_head.Goals as goal
 
 pub returns-clause-reply : goal.returns-clause-reply
 returns-clause-reply c =
