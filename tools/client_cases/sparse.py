@@ -2,9 +2,10 @@
 import json
 import os
 import re
+import time
 from functools import partial
 
-from client_cases.hosts import BLOCKS, PYTHON, VOLUME, Host, done, want_same, wants, wants_libnbd
+from client_cases.hosts import BLOCKS, PYTHON, VOLUME, Host, done, mapped, qemu_io, want_same, wants, wants_libnbd
 from running import MIB, run, want
 
 USER = os.path.join(os.path.dirname(os.path.abspath(__file__)), "status_user.py")
@@ -47,7 +48,7 @@ def against_a_plain_map(host):
 
 
 def strict_has_none(host):
-    """`serve` answers as it did: no structured replies, and no contexts."""
+    """`serve` has no structured replies and no contexts."""
     wants("nbdinfo")
     plain = Host(host.ground, "serve")
     with plain.up(plain.pool()) as server:
@@ -71,21 +72,27 @@ def tells_a_map(host):
     with host.up(image) as server:
         done("nbdcopy", "--flush", file, server.uri("0"))
         want((server.control("create_snap 2 0") == "ok", "no snapshot"))
-        other = written(host, "other.raw", (0,))
-        done("qemu-io", "-f", "raw", "-c", "write -P 1 0 64k", server.uri("0"))
-        there = [at for at, length, is_data in extents_of(server.uri("2")) if is_data for at in range(at, at + length, MIB)]
-        want((there == [it * MIB for it in parts], f"data at {there}"))
-        first = extents_of(server.uri("0"))[0]
-        want((first == (0, 65536, True), f"the first extent is {first}"))
-        os.unlink(other)
+        qemu_io(server.uri("0"), "write -P 1 0 64k")
+        kept = [(3 * MIB, 2 * MIB), (VOLUME - 2 * MIB, MIB)]
+        want((data_of(server.uri("2")) == kept, f"the snapshot has data at {data_of(server.uri('2'))}"))
+        want((data_of(server.uri("0")) == [(0, 65536), *kept], f"the volume has data at {data_of(server.uri('0'))}"))
         shown = json.loads(done("qemu-img", "map", "--output=json", "-f", "raw", server.uri("2")))
-        kept = [(it["start"], it["length"]) for it in shown if it["data"]]
-        want((kept == [(3 * MIB, 2 * MIB), ((VOLUME // MIB - 2) * MIB, MIB)], f"qemu-img map: {kept}"))
+        told = [(it["start"], it["length"]) for it in shown if it["data"]]
+        want((told == kept, f"qemu-img map: {told}"))
+
+
+def data_of(uri):
+    return [(at, length) for at, length, is_data in extents_of(uri) if is_data]
 
 
 def bytes_out(server):
-    """How many bytes clients were sent, as the server tells of those who have gone."""
-    return sum(int(it) for it in re.findall(r"(\d+) bytes out", server.told()))
+    """How many bytes clients were sent, as the server tells once all of them have gone."""
+    for _ in range(100):
+        told = server.told()
+        if told.count(" came to ") == told.count(" went: "):
+            return sum(int(it) for it in re.findall(r"(\d+) bytes out", told))
+        time.sleep(0.1)
+    raise AssertionError("a client has not gone")
 
 
 def reads_what_is_mapped(host):
@@ -96,12 +103,10 @@ def reads_what_is_mapped(host):
     for words in (["nbdcopy", None, back], ["qemu-img", "convert", "-f", "raw", "-O", "raw", None, back]):
         with host.up(host.pool()) as server:
             done("nbdcopy", "--flush", "--destination-is-zero", file, server.uri("0"))
-            server.waits_for("0 of 64:")
             before = bytes_out(server)
             done(*[it or server.uri("0") for it in words])
-            server.waits_for("0 of 64:")
             read = bytes_out(server) - before
-        want((read <= 3 * MIB * 101 // 100, f"{words[0]} was sent {read} bytes"))
+        want((3 * MIB <= read <= 3 * MIB * 101 // 100, f"{words[0]} was sent {read} bytes"))
         want_same(file, back)
         os.unlink(back)
         told.append(f"{words[0]} {read / 3 / MIB:.4f}")
@@ -113,13 +118,15 @@ def copies_between_volumes(host):
     file = written(host, "holes.raw", (0, 2, 5))
     with host.up(host.pool()) as server:
         done("nbdcopy", "--flush", file, server.uri("0"))
-        done("qemu-img", "convert", "-n", "-f", "raw", "-O", "raw", server.uri("0"), server.uri("1"))
-        done("qemu-img", "compare", "-f", "raw", "-F", "raw", server.uri("0"), server.uri("1"))
-        done("nbdcopy", "--flush", server.uri("0"), server.uri("1"))
-        same = [extents_of(server.uri(it)) for it in ("0", "1")]
-        want((same[0] == same[1], f"{same}"))
-        used = int(server.control("status").split()[2].split("/")[0])
-        want((used == 2 * 3 * 16, f"{used} blocks are mapped"))
+        for at, words in enumerate((["qemu-img", "convert", "-n", "--target-is-zero", "-f", "raw", "-O", "raw"], ["nbdcopy", "--flush"])):
+            target = str(at + 1)
+            if at:
+                want((server.control(f"create_thin {target}") == "ok", "no volume"))
+            done(*words, server.uri("0"), server.uri(target))
+            done("qemu-img", "compare", "-f", "raw", "-F", "raw", server.uri("0"), server.uri(target))
+            want((extents_of(server.uri("0")) == extents_of(server.uri(target)), f"{words[0]}: {extents_of(server.uri(target))}"))
+            used = mapped(server.control("status"))
+            want((used == (at + 2) * 3 * 16, f"{words[0]}: {used} blocks are mapped"))
 
 
 CASES = [

@@ -26,6 +26,13 @@ class Plain:
             self.mapped.discard(block)
             self.bytes[block * BLOCK:(block + 1) * BLOCK] = bytes(BLOCK)
 
+    def zero(self, at, length, no_hole):
+        self.bytes[at:at + length] = bytes(length)
+        if no_hole:
+            self.mapped.update(self.touched(at, length))
+        else:
+            self.trim(at, length)
+
     def extents(self, at, length):
         """Where there is data from one byte up to another."""
         found, end = [], at + length
@@ -59,8 +66,8 @@ class Asker:
     def once(self, at, length, flags=0):
         found = []
 
-        def note(_context, offset, entries, _error):
-            assert offset == at
+        def note(context, offset, entries, _error):
+            assert (context, offset) == ("base:allocation", at)
             found.extend(zip(entries[::2], entries[1::2]))
             return 0
 
@@ -91,19 +98,22 @@ def main(uri, blocks):
     for _ in range(600):
         at, length = random.randrange(size // 512) * 512, random.choice((512, 4096, 65536, 200_704))
         length = min(length, size - at)
-        way = random.randrange(4)
+        way = random.randrange(6)
         if way < 2:
             data = os.urandom(length)
             h.pwrite(data, at)
             plain.write(at, data)
-        else:
+        elif way < 4:
             h.trim(length, at)
             plain.trim(at, length)
+        else:
+            h.zero(length, at, nbd.CMD_FLAG_NO_HOLE if way == 4 else 0)
+            plain.zero(at, length, way == 4)
         at = random.randrange(size // 512) * 512
         length = random.randrange(1, (size - at) // 512 + 1) * 512
         assert asker.whole(at, length) == joined(plain.extents(at, length))
         one = asker.once(at, length, nbd.CMD_FLAG_REQ_ONE)
-        assert len(one) == 1 and one[0][1] == plain.extents(at, 512)[0][1]
+        assert len(one) == 1 and one[0][1] == plain.extents(at, length)[0][1] and one[0][0] <= plain.extents(at, length)[0][0]
     assert asker.whole(0, size) == joined(plain.extents(0, size))
     for at in range(0, size, 1 << 20):
         for flags in (0, nbd.CMD_FLAG_DF):
