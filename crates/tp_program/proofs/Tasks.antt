@@ -10,8 +10,8 @@ use Rattle.tp_tasks.specs.declared.task.Asked.{Asked}
 use Rattle.tp_tasks.specs.declared.task.Task.{Task}
 use Rattle.tp_tasks.specs.declared.task.Task.TheVariants.{Format, Create, Message, Status, Check, Report, DeltaAt, Feed, Serve, Play, Run, Ask}
 use Rattle.tp_failures.specs.declared.failure.Failure.{Failure}
-use Rattle.tp_program.specs.declared.scripts.Unplayed.{Unplayed}
-use Rattle.tp_program.specs.Scripts.{IsBadLine}
+use Rattle.tp_commands.specs.declared.scripts.Unplayed.{Unplayed}
+use Rattle.tp_commands.specs.Scripts.{IsBadLine}
 use Rattle.tp_program.specs.Statuses.{EndsBy, status_after}
 use Rattle.tp_program.specs.Tasks.{Does, DoesOn, Performs, plain_of}
 use Rattle.tp_program.proofs.Ends.{ends_so}

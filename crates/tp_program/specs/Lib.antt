@@ -1,16 +1,4 @@
-pub mod Asking
-pub mod Creating
-pub mod First
-pub mod Images
-pub mod Lives
 pub mod Living
-pub mod Opening
-pub mod Playing
-pub mod Printing
-pub mod Reporting
-pub mod Scripts
-pub mod Serving
 pub mod Statuses
 pub mod Staying
 pub mod Tasks
-pub mod Users

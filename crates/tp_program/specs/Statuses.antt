@@ -4,8 +4,8 @@ use Rattle.tp_model.specs.declared.refusal.Refusal.{Refusal}
 use Rattle.tp_tasks.specs.CommandLine.{AreWrong, AskHelp, NameScript, NameTask, Text}
 use Rattle.tp_words.specs.declared.reading.NoWords.{NoWords}
 use Rattle.tp_words.specs.declared.reading.NoWords.TheVariants.{NotUtf8, Memory}
-use Rattle.tp_program.specs.declared.scripts.Unplayed.{Unplayed}
-use Rattle.tp_program.specs.declared.scripts.Unplayed.TheVariants as why
+use Rattle.tp_commands.specs.declared.scripts.Unplayed.{Unplayed}
+use Rattle.tp_commands.specs.declared.scripts.Unplayed.TheVariants as why
 use Rattle.tp_program.specs.declared.programs.Status.{Status}
 use Rattle.tp_program.specs.declared.programs.Status.TheVariants.{Done, Refused, Misused}
 

@@ -8,9 +8,9 @@ use Rattle.tp_images.specs.Deeds.{Deed, OnImage, Refuses}
 use Rattle.tp_images.specs.declared.way.Way.TheVariants.{ToWrite}
 use Rattle.tp_places.specs.declared.places.NoDoor.{NoDoor}
 use Rattle.tp_places.specs.declared.places.NoDoor.TheVariants as doors
-use Rattle.tp_program.specs.Lives.{IsLifeOn, closing_of}
-use Rattle.tp_program.specs.Opening.{IsRefusedOn}
-use Rattle.tp_program.specs.Serving.{told_behind}
+use Rattle.tp_commands.specs.Lives.{IsLifeOn, closing_of}
+use Rattle.tp_commands.specs.Opening.{IsRefusedOn}
+use Rattle.tp_commands.specs.Serving.{told_behind}
 
 -- the volume of clients who name none: that of the number that the words give, if there can be one
 abbrev pub default_for : Option ℕ → Option ℕ

@@ -16,15 +16,15 @@ use Rattle.tp_tasks.specs.declared.task.Task.TheVariants.{Format, Create, Messag
 use Rattle.tp_failures.specs.declared.failure.Failure.{Failure}
 use Rattle.tp_program.specs.declared.programs.Status as ends
 use Rattle.tp_program.specs.declared.programs.Status.TheVariants as ending
-use Rattle.tp_program.specs.declared.scripts.Unplayed.{Unplayed}
-use Rattle.tp_program.specs.declared.scripts.Unplayed.TheVariants.{Refused}
+use Rattle.tp_commands.specs.declared.scripts.Unplayed.{Unplayed}
+use Rattle.tp_commands.specs.declared.scripts.Unplayed.TheVariants.{Refused}
 use Rattle.tp_failures.specs.Failures.{number_of}
-use Rattle.tp_program.specs.Asking.{FormatsAsked}
-use Rattle.tp_program.specs.Creating.{Creates}
-use Rattle.tp_program.specs.Reporting.{AsksReport}
-use Rattle.tp_program.specs.Images.{IsChecked, IsCleared, IsFormatted, IsMessageGiven, IsStatusTold}
-use Rattle.tp_program.specs.Scripts.{PlaysFirst, PlaysImage}
-use Rattle.tp_program.specs.Serving.{FeedsFirst, FeedsImage, ServesImage}
+use Rattle.tp_commands.specs.Asking.{FormatsAsked}
+use Rattle.tp_commands.specs.Creating.{Creates}
+use Rattle.tp_commands.specs.Reporting.{AsksReport}
+use Rattle.tp_commands.specs.Images.{IsChecked, IsCleared, IsFormatted, IsMessageGiven, IsStatusTold}
+use Rattle.tp_commands.specs.Scripts.{PlaysFirst, PlaysImage}
+use Rattle.tp_commands.specs.Serving.{FeedsFirst, FeedsImage, ServesImage}
 use Rattle.tp_program.specs.Statuses.{status_after}
 use Rattle.tp_program.specs.Staying.{StaysImage}
 

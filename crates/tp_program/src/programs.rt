@@ -6,22 +6,12 @@ ghost use Rattle.tp_lines.specs.Pipes.{IsPiped};
 ghost use Rattle.tp_tasks.specs.CommandLine.{IsScript};
 ghost use Rattle.tp_tasks.specs.declared.task.Task.TheVariants.{Play};
 ghost use Rattle.tp_failures.specs.Failures.{number_of};
-ghost use Rattle.tp_program.specs.Images.{IsChecked, IsCleared, IsFormatted};
+ghost use Rattle.tp_commands.specs.Images.{IsChecked, IsCleared};
 ghost use Rattle.tp_program.specs.Statuses.{EndsBy, status_after, status_code, status_of, status_without};
-ghost use Rattle.tp_program.specs.Asking.{FormatsAsked};
 ghost use Rattle.tp_program.specs.Tasks.{AsksStatus, Does, DoesOn, DoesPlain, Feeds, Performs, Plays, PlaysFile, offered, plain_of};
 
-use crate::asking::may_destroy;
 use crate::clients::serve_image;
-use crate::creating::create;
-use crate::feeding::{feed_fresh, feed_image};
-use crate::images::{
-    check_image, clear_image, format_image, geometry_of, message_to_image, status_of_image,
-    volume_asked,
-};
-use crate::reports::tell_listing;
 use crate::running::run_image;
-use crate::scripts::{Unplayed, play_fresh, play_image};
 use crate::streams::Terminals;
 use nbd_session::Profile;
 use std::alloc::Global;
@@ -34,6 +24,11 @@ use std::rt::Files;
 use std::sync::Wait;
 use std::thread::Threads;
 use std::time::Clock;
+use tp_commands::asking::format;
+use tp_commands::{
+    Unplayed, check_image, clear_image, create, feed_fresh, feed_image, message_to_image,
+    play_fresh, play_image, status_of_image, tell_listing, volume_asked,
+};
 use tp_failures::{Cause, Explanation, Failure};
 use tp_hub::Stream;
 use tp_images::Images;
@@ -41,7 +36,7 @@ use tp_lines::{Begins, Ends, Piped};
 use tp_model::Refusal;
 use tp_places::{ask_place, delta_at};
 use tp_progress::Progress;
-use tp_words::{Image, NoWords, Sizes, Task, Unread, command};
+use tp_words::{Image, NoWords, Task, Unread, command};
 
 /// How a program ends.
 #[derive(Clone, Copy, Debug, PartialEq, Eq)]
@@ -214,59 +209,6 @@ fn tell_status<I: Images, S: Stream>(
     match volume_asked(id) {
         Ok(id) => status_of_image(images, alloc, image, id, stream),
         Err(reason) => Err(Failure::from(reason)),
-    }
-}
-
-/// Makes an image that of an empty pool. Where the sizes are within their limits, it is asked first whether what the image holds is to be destroyed.
-fn format_asked<I: Images, S: Stream, E: Write, P: Progress + Drop>(
-    images: &mut I,
-    alloc: Global,
-    image: &str,
-    sizes: &Sizes,
-    overwrites: bool,
-    progress: P,
-    stream: &mut S,
-    errors: &mut E,
-) -> Result<(), Failure>
-    ensures { FormatsAsked image.now sizes.now overwrites (I.deeds images.old) (I.deeds images.new) (S.calls stream.old) (S.calls stream.new) (number_of result) }
-{
-    match geometry_of(sizes) {
-        Ok(_) => {
-            if may_destroy(images, alloc, image, stream, errors) {
-                format_image(images, alloc, image, sizes, overwrites, progress, stream)
-            } else {
-                Err(Failure {
-                    refusal: Refusal::Exists,
-                    cause: Cause::Declined,
-                })
-            }
-        }
-        Err(reason) => Err(Failure::from(reason)),
-    }
-}
-
-/// Makes an image that of an empty pool. Where a terminal is there to answer, it is asked first.
-pub(crate) fn format<I: Images, S: Stream, E: Write, P: Progress + Drop>(
-    images: &mut I,
-    alloc: Global,
-    image: &str,
-    sizes: &Sizes,
-    overwrites: bool,
-    asks: bool,
-    progress: P,
-    stream: &mut S,
-    errors: &mut E,
-) -> Result<(), Failure>
-    ensures { MatchBool asks
-        (FormatsAsked image.now sizes.now overwrites (I.deeds images.old) (I.deeds images.new) (S.calls stream.old) (S.calls stream.new) (number_of result))
-        (IsFormatted image.now sizes.now overwrites (I.deeds images.old) (I.deeds images.new) (S.calls stream.old) (S.calls stream.new) (number_of result)) }
-{
-    if asks {
-        format_asked(
-            images, alloc, image, sizes, overwrites, progress, stream, errors,
-        )
-    } else {
-        format_image(images, alloc, image, sizes, overwrites, progress, stream)
     }
 }
 

@@ -9,9 +9,7 @@ ghost use Rattle.tp_failures.specs.Failures.{number_of};
 ghost use Rattle.tp_program.specs.Living.{StaysPool};
 ghost use Rattle.tp_program.specs.Staying.{IsNoDoor, StaysImage, StaysOn, default_for, told_of_place, told_of_threads};
 
-use crate::closing::{behind, end_hub};
 use crate::journal::Journal;
-use crate::opening::open_pool;
 use nbd_session::Profile;
 use std::alloc::Global;
 use std::fs::File;
@@ -23,6 +21,8 @@ use std::thread;
 use std::thread::Threads;
 use std::time::Clock;
 use tp_cache::ReadCache;
+use tp_commands::closing::{behind, end_hub};
+use tp_commands::opening::open_pool;
 use tp_crowd::{Door, Stayed, serve_until_stopped};
 use tp_disk::{SharedDisk, TellsTrouble};
 use tp_failures::{Cause, Failure};

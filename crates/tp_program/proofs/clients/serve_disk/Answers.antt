@@ -1,8 +1,8 @@
 use denote.Param.Send.{sendable}
 use Rattle.std.proofs.Common.{Some, Err, ap, inl, inr, refl, ◌∙◌}
-use Rattle.tp_program.specs.Lives.{closing_of}
-use Rattle.tp_program.proofs.First.{unheld}
-use Rattle.tp_program.proofs.Living.{lived_on}
+use Rattle.tp_commands.specs.Lives.{closing_of}
+use Rattle.tp_commands.proofs.First.{unheld}
+use Rattle.tp_commands.proofs.Living.{lived_on}
 use Rattle.tp_program.proofs.clients.serve_disk.Goals as goal
 
 pub serve_pool-requires : goal.serve_pool-requires

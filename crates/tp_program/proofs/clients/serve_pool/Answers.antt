@@ -1,9 +1,9 @@
 use Rattle.std.proofs.Common.{Result, Some, ap, ◌∙◌}
 use Rattle.tp_model.specs.declared.refusal.Refusal.{Refusal}
 use Rattle.tp_failures.specs.Failures.{number_of}
-use Rattle.tp_program.specs.Lives.{closing_of}
-use Rattle.tp_program.specs.Serving.{told_behind}
-use Rattle.tp_program.proofs.Living.{lived}
+use Rattle.tp_commands.specs.Lives.{closing_of}
+use Rattle.tp_commands.specs.Serving.{told_behind}
+use Rattle.tp_commands.proofs.Living.{lived}
 use Rattle.tp_program.proofs.clients.serve_pool.Goals as goal
 
 pub returns : goal.returns

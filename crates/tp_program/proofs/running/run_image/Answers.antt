@@ -1,6 +1,6 @@
 use denote.Param.Send.{sendable}
 use Rattle.std.proofs.Common.{Err, ap, inl, inr}
-use Rattle.tp_program.proofs.Deeds.{done_on}
+use Rattle.tp_commands.proofs.Deeds.{done_on}
 use Rattle.tp_program.proofs.running.run_image.Goals as goal
 
 pub run_disk-disk-requires : goal.run_disk-disk-requires

@@ -1,0 +1,17 @@
+use Rattle.std.proofs.Common.{◌≤◌, ap, subst, sym}
+use Rattle.tp_model.specs.Disk.{DiskState}
+use Rattle.tp_model.specs.Geometry.{sectors_of_image}
+use Rattle.tp_failures.specs.Failures.{number_of}
+use Rattle.tp_commands.specs.Images.{FormatsOn}
+use Rattle.tp_commands.proofs.images.format_on.Goals as goal
+
+pub format_disk-followed-requires : goal.format_disk-followed-requires
+format_disk-followed-requires g c = subst (λ (d : DiskState). sectors_of_image c.args.geometry ≤ d.size) (sym (ap g.D.Disk.state c.new.ensures)) c.requires
+
+pub returns : goal.returns
+returns g c =
+    let calls = g.S.Stream.calls in
+    let state = g.D.Disk.state in
+    let did = c.format_disk-followed in
+    subst (λ (d : DiskState). FormatsOn c.args.geometry (calls c.args.stream.now) (calls did.new.stream) (number_of did.result.1) d (state c.into_disk.result)) (ap state c.new.ensures)
+    (subst (λ (d : DiskState). FormatsOn c.args.geometry (calls c.args.stream.now) (calls did.new.stream) (number_of did.result.1) (state c.new.result.disk) d) (sym (ap state c.into_disk.ensures)) did.ensures)

@@ -1,8 +1,0 @@
-use Rattle.tp_hub.specs.Serve.{HubRuns}
-use Rattle.tp_program.proofs.Asks.{asked_within}
-use Rattle.tp_program.proofs.scripts.play_hub.Goals as goal
-
-pub returns : goal.returns
-returns g c =
-    let did = c.play_script-ended.ensures in
-    (did.asks, asked_within (HubRuns g.V.Volumes.view) (λ t. t.hub) did.asks _ c.play_script-ended.new.desk did.asked, (did.did, did.made, did.are))

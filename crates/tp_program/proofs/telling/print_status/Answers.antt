@@ -1,5 +1,0 @@
-use Rattle.std.proofs.Common.{rules}
-use Rattle.tp_program.proofs.telling.print_status.Goals as goal
-
-pub returns : goal.returns
-returns g c = search rules
