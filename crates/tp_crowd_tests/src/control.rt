@@ -14,7 +14,7 @@ use std::time::{Clock, Duration};
 use tp_crowd::{Served, serve_listener_with_control};
 use tp_hub::Hub;
 use tp_model::Refusal;
-use tp_shelf::blank_shelf;
+use tp_shelf::paged_shelf;
 
 /// A client that was answered that its line is done. It waits 10 seconds at most for what it reads.
 fn answered<H>(rt: &H, control: SocketAddr, line: &[u8]) -> io::Result<TcpStream>
@@ -58,7 +58,7 @@ pub(crate) fn served_with_control<H>(
 where
     H: Threads + Wait + Clock + Sync + Alloc<A = Global>,
 {
-    let hub = Hub::new(blank_shelf(rt.alloc())?);
+    let hub = Hub::new(paged_shelf(rt.alloc())?);
     let alarm = Seen::nothing();
     let Served {
         hub: _,

@@ -84,12 +84,12 @@ where
     (refusal, output.as_slice() == wanted)
 }
 
-/// The last half of the second volume differs from the first one.
-const LINES: &[u8] = b"0 524288 hole\n524288 524288\n";
+/// The last half of the second volume differs from the first one: a run of which each of two pages has a part.
+const LINES: &[u8] = b"0 9830400 hole\n9830400 9830400\n";
 
 /// The same as JSON.
 const OBJECTS: &[u8] =
-    b"[{\"data\":false,\"length\":524288,\"offset\":0},{\"data\":true,\"length\":524288,\"offset\":524288}]\n";
+    b"[{\"data\":false,\"length\":9830400,\"offset\":0},{\"data\":true,\"length\":9830400,\"offset\":9830400}]\n";
 
 /// What is told of the second volume, in lines and as JSON, and of one that is not there. Then the client comes and goes.
 fn ask_and_go<H>(rt: &H, place: &str, clients: SocketAddr) -> io::Result<(Told, Told, Told)>
@@ -145,7 +145,7 @@ where
     told_beside(rt, listener, &control, &place, clients)
 }
 
-/// The runs of a page and the holes between them are printed, and nothing of a volume that the server does not know.
+/// Pages are joined, their runs and the holes between them printed, and nothing of a volume that the server does not know.
 #[test]
 fn a_delta_of_a_pool_that_is_served(rt: HostRuntime) -> Result<(), Fail> {
     let told = told_of_deltas(&rt)?;

@@ -6,4 +6,6 @@ mod shelf;
 mod stages;
 
 pub use failing::{FailingShelf, MidFailing, failing_in_part, failing_shelf};
-pub use shelf::{MidShelf, Shelf, blank_shelf, shelf_of_readers, staged_shelf, wide_shelf};
+pub use shelf::{
+    MidShelf, Shelf, blank_shelf, paged_shelf, shelf_of_readers, staged_shelf, wide_shelf,
+};

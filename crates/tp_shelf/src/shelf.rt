@@ -21,10 +21,12 @@ use tp_msg::{LineBuffer, Managed, PoolStatus, VolumeStatus, print_status, print_
 /// The bytes of a block of 128 sectors.
 const BLOCK: usize = 65_536;
 
-/// The blocks of a volume, and of one that takes long requests.
+/// The blocks of a volume, of one that takes long requests, and of one whose listing has two pages.
 const BLOCKS: u32 = 16;
 
 const WIDE_BLOCKS: u32 = 64;
+
+const PAGED_BLOCKS: u32 = 300;
 
 /// How many shared reads and syncs have come, for how many each waits, and whether one waited in vain.
 #[derive(Drop)]
@@ -463,6 +465,13 @@ pub fn wide_shelf(alloc: Global) -> Result<Shelf, Refusal>
     ensures { IfOk result (λ s. holds_of s.holders.items ≡ empty) }
 {
     shelf_of(alloc, WIDE_BLOCKS, 0)
+}
+
+/// The same, of more blocks than one walk lists: a listing of a volume has two pages.
+pub fn paged_shelf(alloc: Global) -> Result<Shelf, Refusal>
+    ensures { IfOk result (λ s. holds_of s.holders.items ≡ empty) }
+{
+    shelf_of(alloc, PAGED_BLOCKS, 0)
 }
 
 /// The same, whose shared reads each wait until so many have come.
