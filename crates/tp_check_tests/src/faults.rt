@@ -31,7 +31,7 @@ const OF_AN_EMPTY_POOL: [Change; 11] = [
 ];
 
 /// The root of the devices of a pool with two volumes stands in block 11.
-const OF_TWO_VOLUMES: [Change; 6] = [
+const OF_TWO_VOLUMES: [Change; 7] = [
     // The kind, and how many entries there are.
     (11, 0, 2, Ok(()), Err(Refusal::BadNode)),
     (11, 16, 1, Ok(()), Err(Refusal::BadNode)),
@@ -40,6 +40,8 @@ const OF_TWO_VOLUMES: [Change; 6] = [
     (11, 72, 7, Ok(()), Err(Refusal::OutOfPlace)),
     (11, 80, 1, Ok(()), Err(Refusal::BadMapped)),
     (11, 88, 1, Ok(()), Err(Refusal::BadRecordSize)),
+    // The pool's own size, which a record tells by 0 alone.
+    (11, 88, 16, Ok(()), Err(Refusal::BadRecordSize)),
 ];
 
 /// The superblock of a pool with a volume and its snapshot stands in slot 0, and the root of its devices in block 8.

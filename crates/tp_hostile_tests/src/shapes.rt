@@ -215,12 +215,20 @@ const NODES: &[Case] = &[
         ],
         [0, 0, 33, 0, 0, 0, 0, 0, 0, 0],
     ),
+    // The leaf of both others has block 3, which volume 1 has too once it has four blocks, and volume 2 has not.
+    (
+        &[
+            Edit::Number(DEVICES, 120, 4),
+            Edit::Number(SHARED_LEAF, 80, 3),
+        ],
+        [0, 0, 32, 0, 0, 0, 0, 0, 0, 0],
+    ),
 ];
 
 #[test]
 fn names_of_nodes_are_told(rt: HostRuntime) -> Result<(), Fail> {
     let told = as_wanted(rt.alloc(), NODES)?;
-    assert_eq!(rt; told, Ok(8));
+    assert_eq!(rt; told, Ok(9));
     Ok(())
 }
 

@@ -2,7 +2,9 @@
 ghost use Rattle.std.specs.Prelude.{◌≡◌, ◌<◌, IfOk, length};
 
 use crate::script::{KEPT, Script};
-use crate::talk::{ALL_GIVEN, ANSWERED, GONE, GREETED, HEARD, READS_IN_A_PIECE, one_talk, reads};
+use crate::talk::{
+    ALL_GIVEN, ANSWERED, GO_0, GONE, GREETED, HEARD, READS_IN_A_PIECE, one_talk, reads,
+};
 use crate::watched::Watched;
 use nbd_session::Profile;
 use std::alloc::Global;
@@ -177,6 +179,18 @@ fn the_least_number_is_served(rt: HostRuntime) -> Result<(), Fail> {
     let mut buffer = zeroes(rt.alloc(), 4096)?;
     let told = serve_beside(rt.alloc(), &mut client, &mut buffer)?;
     let wanted = (2, Some(1), Carried::SessionOver, ANSWERED, Some(1));
+    assert_eq!(rt; told, (wanted, 0));
+    Ok(())
+}
+
+/// Behind a client that goes in the middle of its session its own number is free again, and no other one.
+#[test]
+fn the_number_of_a_client_that_goes_is_free(rt: HostRuntime) -> Result<(), Fail> {
+    let mut client = Script::new(GO_0);
+    let mut buffer = zeroes(rt.alloc(), 4096)?;
+    let told = serve_beside(rt.alloc(), &mut client, &mut buffer)?;
+    let gone = (GREETED + GONE) as u64;
+    let wanted = (2, Some(1), Carried::EndOfInput, gone, Some(1));
     assert_eq!(rt; told, (wanted, 0));
     Ok(())
 }

@@ -1,6 +1,6 @@
-//! Flushes that a hub makes unasked, in parts.
+//! Flushes that a hub makes unasked, in parts, and one that it is asked for.
 
-use crate::talk::{GIVEN, GO_0, HALF, READ, WRITE, sent};
+use crate::talk::{GIVEN, GO_0, HALF, READ, WRITE, refused, sent};
 use nbd_session::Profile;
 use std::alloc::Global;
 use std::test::Fail;
@@ -120,5 +120,22 @@ fn told_of_fault(part: u8) -> Result<(bool, bool), Refusal> {
 fn a_fault_in_each_part(rt: HostRuntime) -> Result<(), Fail> {
     let told = [told_of_fault(0)?, told_of_fault(1)?, told_of_fault(2)?];
     assert!(rt; told == [(true, true), (true, true), (true, true)]);
+    Ok(())
+}
+
+/// Whether a flush that an event asks for is refused, over a pool whose flush fails.
+fn told_of_asked(alloc: Global) -> Result<bool, Refusal> {
+    let mut hub = Hub::new(failing_in_part(0)?);
+    let mut out = Answers::new(alloc);
+    hub.run(alloc, &[Event::Flush], &mut out);
+    let _ = hub.into_pool();
+    Ok(out.marks() == [refused(Refusal::Damaged)].as_slice())
+}
+
+/// An event that asks for a flush is told that it is refused.
+#[test]
+fn a_flush_that_fails_is_refused(rt: HostRuntime) -> Result<(), Fail> {
+    let is_refused = told_of_asked(rt.alloc())?;
+    assert!(rt; is_refused);
     Ok(())
 }

@@ -22,6 +22,10 @@ pub(crate) const READ_ALL: &[u8] =
 pub(crate) const DISC: &[u8] =
     b"\x25\x60\x95\x13\0\0\0\x02\0\0\0\0\0\0\0\x04\0\0\0\0\0\0\0\0\0\0\0\0";
 
+/// A read of sector 1.
+const READ_NEXT: &[u8] =
+    b"\x25\x60\x95\x13\0\0\0\0\0\0\0\0\0\0\0\x02\0\0\0\0\0\0\x02\0\0\0\x02\0";
+
 /// Half a payload.
 pub(crate) const HALF: &[u8] = &[0x61; 256];
 
@@ -90,9 +94,9 @@ pub(crate) fn numbered_reads(alloc: Global, count: usize) -> Result<Vec<u8>, All
     Ok(talk)
 }
 
-/// Two reads of a sector, and a write of it.
+/// A read of sector 0 and one of sector 1, and a write of sector 0.
 pub(crate) fn reads_and_a_write(alloc: Global) -> Result<Vec<u8>, AllocError> {
-    joined(alloc, &[READ, READ, WRITE, OTHER_HALF, OTHER_HALF])
+    joined(alloc, &[READ, READ_NEXT, WRITE, OTHER_HALF, OTHER_HALF])
 }
 
 /// How many reads of 1 MiB 256 KiB ask for.

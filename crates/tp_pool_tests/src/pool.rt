@@ -372,6 +372,36 @@ fn write_calls(pool: &mut MemPool, sector: u64, bytes: &[u8]) -> Result<u64, Ref
     Ok(disk_calls(pool).saturating_sub(before))
 }
 
+/// Writes whole sectors of volume 0 with FUA, where it has them.
+fn write_through(pool: &mut MemPool, sector: u64, bytes: &[u8]) -> Result<(), Refusal> {
+    let count = bytes.len() as u64 / 512;
+    let end = pool.geometry().volume_sectors();
+    if bytes.len() % SECTOR != 0 || count > 2048 || sector > end || count > end - sector {
+        return Err(Refusal::BadGeometry);
+    }
+    pool.write(DevId::new(0), sector, bytes, true)
+}
+
+/// How many disk calls that makes.
+fn write_through_calls(pool: &mut MemPool, sector: u64, bytes: &[u8]) -> Result<u64, Refusal> {
+    let before = disk_calls(pool);
+    write_through(pool, sector, bytes)?;
+    Ok(disk_calls(pool).saturating_sub(before))
+}
+
+/// Whether a write of no bytes makes as many disk calls with FUA as without it.
+fn has_calls_of_nothing(pool: &mut MemPool) -> Result<bool, Refusal> {
+    let plain = write_calls(pool, 0, b"")?;
+    Ok(write_through_calls(pool, 0, b"")? == plain)
+}
+
+#[test]
+fn a_write_of_nothing_with_fua_is_no_flush(rt: HostRuntime) -> Result<(), Fail> {
+    let is_so = told_of_example(rt.alloc(), has_calls_of_nothing);
+    assert_eq!(rt; is_so, Ok(Ok(true)));
+    Ok(())
+}
+
 /// How many disk calls a read makes.
 fn read_calls(pool: &mut MemPool, sector: u64, out: &mut [u8]) -> Result<u64, Refusal> {
     let before = disk_calls(pool);

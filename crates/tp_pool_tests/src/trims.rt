@@ -125,6 +125,58 @@ fn trim_survives_reclaiming(rt: HostRuntime) -> Result<(), Fail> {
     Ok(())
 }
 
+/// Trims sectors of the volume with FUA, where it has them.
+fn trim_through(pool: &mut MemPool, sector: u64, count: u64) -> Result<(), Refusal> {
+    let end = pool.geometry().volume_sectors();
+    if count > 2048 || sector > end || count > end - sector {
+        return Err(Refusal::BadGeometry);
+    }
+    pool.trim(DevId::new(0), sector, count, true)
+}
+
+/// Makes sectors of the volume zero with FUA, where it has them, and leaves holes where it may.
+fn zero_through(pool: &mut MemPool, sector: u64, count: u64) -> Result<(), Refusal> {
+    let end = pool.geometry().volume_sectors();
+    if count > 2048 || sector > end || count > end - sector {
+        return Err(Refusal::BadGeometry);
+    }
+    pool.write_zeroes(DevId::new(0), sector, count, false, true)
+}
+
+/// The bytes of some sectors of blocks 0 and 1.
+fn bytes_of_both(pool: &mut MemPool) -> Result<[Option<u8>; 4], Refusal> {
+    bytes_at(pool, [0, 127, 128, 255])
+}
+
+/// The same in what a stop leaves of a pool.
+fn left_of_both(alloc: Global, pool: &MemPool) -> Result<[Option<u8>; 4], Fail> {
+    Ok(told_of_restarted(alloc, pool.disk(), &Stop::Oldest, bytes_of_both)??)
+}
+
+/// What a stop leaves behind a trim of block 0 with FUA, and behind zeros over block 1 with FUA, of a pool that keeps both.
+fn left_with_fua(
+    alloc: Global,
+    pool: &mut MemPool,
+) -> Result<([Option<u8>; 4], [Option<u8>; 4]), Fail> {
+    keep_both(alloc, pool)?;
+    trim_through(pool, 0, 128)?;
+    let trimmed = left_of_both(alloc, pool)?;
+    zero_through(pool, 128, 128)?;
+    Ok((trimmed, left_of_both(alloc, pool)?))
+}
+
+/// A stop that leaves the oldest sectors takes nothing back of what was answered with FUA.
+#[test]
+fn trims_and_zeros_with_fua_are_kept(rt: HostRuntime) -> Result<(), Fail> {
+    let alloc = rt.alloc();
+    let sizes = Geometry::new(128, 16, 2048, 2)?;
+    let left = told_of_empty(alloc, sizes, |pool| left_with_fua(alloc, pool))??;
+    let trimmed = [Some(0), Some(0), Some(2), Some(2)];
+    let zeroed = [Some(0), Some(0), Some(0), Some(0)];
+    assert_eq!(rt; left, (trimmed, zeroed));
+    Ok(())
+}
+
 /// The byte of all sectors behind sector 0 in blocks 0 and 1 of the volume, where they have one byte all over.
 fn byte_behind(alloc: Global, pool: &mut MemPool) -> Result<Option<u8>, Refusal> {
     let Ok(mut rest) = Vec::from_elem(alloc, 255u8, 255 * SECTOR) else {

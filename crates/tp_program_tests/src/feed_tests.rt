@@ -198,7 +198,8 @@ const ACROSS_ANSWERS: &[Part<'static>] = &[
 
 #[test]
 fn write_across_blocks(rt: HostRuntime) -> Result<(), Fail> {
-    feed_parts(&rt, ACROSS, ACROSS_ANSWERS)
+    feed_parts(&rt, ACROSS, ACROSS_ANSWERS)?;
+    feed_byte_by_byte(&rt, ACROSS, ACROSS_ANSWERS)
 }
 
 /// Writes and reads that are out of the volume, or of no bytes.
@@ -265,12 +266,20 @@ const UNKNOWN: &[Part<'static>] = &[
     Part::Text(ABORT),
 ];
 
-/// What is sent to the client.
+/// EXPORT_NAME of a name that no volume can have.
+const ODD_NAME: &[Part<'static>] = &[
+    Part::Text(FLAGS),
+    Part::Text(b"IHAVEOPT\x00\x00\x00\x01\x00\x00\x00\x01x"),
+    Part::Text(ABORT),
+];
+
+/// What is sent to either client.
 const UNKNOWN_ANSWERS: &[Part<'static>] = &[Part::Text(GREETING)];
 
 #[test]
 fn export_name_of_an_unknown_volume_ends_the_session(rt: HostRuntime) -> Result<(), Fail> {
-    feed_parts(&rt, UNKNOWN, UNKNOWN_ANSWERS)
+    feed_parts(&rt, UNKNOWN, UNKNOWN_ANSWERS)?;
+    feed_parts(&rt, ODD_NAME, UNKNOWN_ANSWERS)
 }
 
 /// What tells of volume 0: its size and flags, and the sizes of its blocks.

@@ -247,6 +247,12 @@ const CREATED: &[Call] = &[
         0,
         "0 10/1032 0/16 - rw no_discard_passdown error_if_no_space - 512\n",
     ),
+    (
+        "create",
+        &["--size", "65537", "--volume-size", "1M", "--volumes", "600"],
+        0,
+        "128 16 1140 2\n0 9/1140 0/2 - rw no_discard_passdown error_if_no_space - 512\n",
+    ),
 ];
 
 #[test]

@@ -578,6 +578,33 @@ fn a_bad_line_closes_nothing(rt: HostRuntime) -> Result<(), Fail> {
     make_last_calls(&rt, "stopped.img", STOPPED)
 }
 
+/// The same lines where the client writes with FUA.
+const WRITING_THROUGH: &[u8] = b"message create_thin 1
+open 0
+bytes 0 0000000349484156454f5054000000010000000130
+bytes 0 25609513000100010000000000000001000000000000000000000200";
+
+/// That script with a bad line.
+const WRITES_THROUGH: &[Part<'static>] = &[
+    Part::Text(WRITING_THROUGH),
+    Part::Fill(b'6', 1024),
+    Part::Text(b"\nflush\n"),
+];
+
+/// A write with FUA is kept before it is answered, so it is there where nothing closes the pool.
+#[test]
+fn a_write_with_fua_is_kept(rt: HostRuntime) -> Result<(), Fail> {
+    make_calls(&rt, "through.img", MADE)?;
+    play_on(
+        &rt,
+        "through.img",
+        "through.script",
+        WRITES_THROUGH,
+        &WRITTEN_BADLY,
+    )?;
+    make_last_calls(&rt, "through.img", KEPT)
+}
+
 /// The system refuses the task.
 const REFUSED: End<'static> = End {
     status: Status::Refused,

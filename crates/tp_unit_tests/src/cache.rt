@@ -159,7 +159,7 @@ fn cached(alloc: Global, first: u64, last: u64) -> Result<Cache, Fault> {
 
 // What random calls answer, and what is on the disk then.
 fn answers_and_image<D: Disk>(disk: &mut D, calls: usize) -> Result<(u64, u64), Fault> {
-    let all = answers(disk, 5, calls)?;
+    let all = answers(disk, 34, calls)?;
     Ok((all, image(disk)?))
 }
 
@@ -173,7 +173,7 @@ fn wanted(alloc: Global, calls: usize) -> Result<(u64, u64), Fault> {
 
 // What random calls answer, and then a flush.
 fn answers_and_flush<D: Disk>(disk: &mut D, calls: usize) -> Result<u64, Fault> {
-    let all = answers(disk, 5, calls)?;
+    let all = answers(disk, 34, calls)?;
     flush_again(disk)?;
     Ok(all)
 }

@@ -31,6 +31,9 @@ const NAMELESS: &[u8] = b"\0\0\0\x03\
 IHAVEOPT\0\0\0\x06\0\0\0\x06\0\0\0\0\0\0\
 IHAVEOPT\0\0\0\x06\0\0\0\x07\0\0\0\x019\0\0";
 
+/// The client flags, and INFO of a name that is no number.
+const LETTER: &[u8] = b"\0\0\0\x03IHAVEOPT\0\0\0\x06\0\0\0\x07\0\0\0\x01x\0\0";
+
 /// What is sent for these bytes behind the greeting, until the client goes.
 fn sent<V: Walked>(
     alloc: Global,
@@ -222,6 +225,13 @@ fn a_default_that_is_not_there_is_unknown(rt: HostRuntime) {
 fn without_a_default_the_empty_name_is_unknown(rt: HostRuntime) {
     let sent = offered(rt.alloc(), Profile::extended(None), NAMELESS);
     assert!(rt; are_sent(sent, UNKNOWN, EXTENDED) == Ok(true));
+}
+
+#[test]
+fn the_default_has_the_empty_name_alone(rt: HostRuntime) {
+    let profile = Profile::extended(Some(DevId::new(9)));
+    let sent = offered(rt.alloc(), profile, LETTER);
+    assert!(rt; is_sent(sent, UNKNOWN) == Ok(true));
 }
 
 /// Whether a text begins as `UNKNOWN`, and has the flags of a strict session in the answer behind it.

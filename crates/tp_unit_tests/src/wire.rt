@@ -141,6 +141,7 @@ fn connections_end_at_the_fixed_part(rt: HostRuntime) {
         is_malformed(Kind::Flags, b"\0\0\0\0"),
         is_malformed(Kind::Flags, b"\0\0\0\x02"),
         is_malformed(Kind::Flags, b"\0\0\0\x04"),
+        is_malformed(Kind::Flags, b"\0\0\0\x05"),
         is_malformed(Kind::Flags, b"\x80\0\0\x01"),
     ];
     let long: &[u8] = b"IHAVEOPT\0\0\0\x07\0\0\x20\x01";
@@ -155,7 +156,7 @@ fn connections_end_at_the_fixed_part(rt: HostRuntime) {
         wanted(Kind::Options, other),
         wanted(Kind::Options, most),
     ];
-    assert!(rt; (flags, options, lengths) == ([true; 4], [true; 2], [16, 16, 16 + 8192]));
+    assert!(rt; (flags, options, lengths) == ([true; 5], [true; 2], [16, 16, 16 + 8192]));
 }
 
 #[test]
