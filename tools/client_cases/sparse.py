@@ -85,6 +85,30 @@ def data_of(uri):
     return [(at, length) for at, length, is_data in extents_of(uri) if is_data]
 
 
+def with_bitmap(place, name, context):
+    """The words by which qemu-img takes a context for a dirty bitmap."""
+    host = f"server.type=unix,server.path={place.path}" if place.path else f"server.type=inet,server.host=127.0.0.1,server.port={place.port}"
+    return f"driver=nbd,{host},export={name},x-dirty-bitmap={context}"
+
+
+def tells_changes(host):
+    """Of a volume that was written and trimmed behind its snapshot; and of no snapshot that there is not."""
+    file = written(host, "since.raw", (1, 6))
+    with host.up(host.pool()) as server:
+        done("nbdcopy", "--flush", "--destination-is-zero", file, server.uri("0"))
+        want((server.control("create_snap 2 0") == "ok", "no snapshot"))
+        qemu_io(server.uri("0"), "write -P 1 64k 64k", "write -z -u 6M 128k")
+        wanted = [(65536, 65536), (6 * MIB, 131072)]
+        lines = [it.split() for it in done("nbdinfo", "--map=thinpool:since:2", server.uri("0")).splitlines()]
+        told = [(int(it[0]), int(it[1])) for it in lines if it[2] == "1"]
+        want((told == wanted, f"nbdinfo: {told}"))
+        shown = json.loads(done("qemu-img", "map", "--output=json", "--image-opts", with_bitmap(server.place, "0", "thinpool:since:2")))
+        other = [(it["start"], it["length"]) for it in shown if not it["data"]]
+        want((other == wanted, f"qemu-img map: {other}"))
+        ran = run(["nbdinfo", "--map=thinpool:since:9", server.uri("0")])
+        want((ran.status != 0, ran.told()))
+
+
 def bytes_out(server):
     """How many bytes clients were sent, as the server tells once all of them have gone."""
     for _ in range(100):
@@ -133,6 +157,7 @@ CASES = [
     ("libnbd asks where there is data, beside a plain map", against_a_plain_map),
     ("a strict server has no structured replies", strict_has_none),
     ("nbdinfo and qemu-img print the map of a volume and of a snapshot", tells_a_map),
+    ("nbdinfo and qemu-img print what may differ from a snapshot", tells_changes),
     ("nbdcopy and qemu-img read what is mapped alone", reads_what_is_mapped),
     ("one volume is copied to another with its holes", copies_between_volumes),
 ]

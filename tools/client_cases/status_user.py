@@ -45,6 +45,22 @@ class Plain:
         return found
 
 
+    def chunks(self, at, length, is_one):
+        """How a READ of at most 1 MiB is answered: where each chunk begins, the bytes that it stands for, and 1 for data or 2 for a hole."""
+        found = self.extents(at, length)
+        data = [i for i, (_, flags) in enumerate(found) if flags == 0]
+        if len(data) > 7:
+            found[data[7]:] = [(sum(it for it, _ in found[data[7]:]), 0)]
+        sent = sum(32 if flags else 28 + it for it, flags in found)
+        if length < BLOCK or sent > length or is_one and len(found) > 1:
+            found = [(length, 0)]
+        chunks = []
+        for size, flags in found:
+            chunks.append((at, bytes(self.bytes[at:at + size]), 2 if flags else 1))
+            at += size
+        return chunks
+
+
 def joined(extents):
     found = []
     for length, flags in extents:
@@ -115,9 +131,12 @@ def main(uri, blocks):
         one = asker.once(at, length, nbd.CMD_FLAG_REQ_ONE)
         assert len(one) == 1 and one[0][1] == plain.extents(at, length)[0][1] and one[0][0] <= plain.extents(at, length)[0][0]
     assert asker.whole(0, size) == joined(plain.extents(0, size))
-    for at in range(0, size, 1 << 20):
+    reads = [(at, 1 << 20) for at in range(0, size, 1 << 20)]
+    for length in (512, 65024, 65536, 66048, 131_072, 200_704, 1_048_064):
+        reads += [(random.randrange((size - length) // 512 + 1) * 512, length) for _ in range(40)]
+    for at, length in reads:
         for flags in (0, nbd.CMD_FLAG_DF):
-            assert chunks_of(h, at, 1 << 20, flags) == [(at, bytes(plain.bytes[at:at + (1 << 20)]), 1)]
+            assert chunks_of(h, at, length, flags) == plain.chunks(at, length, flags != 0), (at, length, flags)
     h.set_strict_mode(0)
     for asks in (lambda: asker.once(size, 512), lambda: asker.once(0, 0), lambda: asker.once(1, 512), lambda: asker.once(0, 512, nbd.CMD_FLAG_FUA | 2), lambda: h.pread(512, size)):
         try:

@@ -12,7 +12,7 @@ import time
 from functools import partial
 
 from edge_cases.syncs import SYNCS, WRITES
-from running import BLOCK, DISC, FLUSH, LIMIT, READ, WRITE
+from running import BLOCK, DISC, FLUSH, FUA, LIMIT, READ, WRITE
 from running import Failed, Skipped, Stuck, end_of, go, held, request, start, strace, want
 
 # The system's calls by which answers are sent.
@@ -48,7 +48,9 @@ def shared_syncs(ground):
     for many in (1, 3):
         how = "a sync fails" if many == 1 else f"the syncs of {many} clients fail at once"
         yield f"serve: where {how}, the FLUSH is answered 5, and none is answered 0 behind it, though syncs succeed", partial(fails_for_all, ground, settled, many)
-    yield "serve: a READ of another client waits for no sync of a FLUSH behind a WRITE in place", partial(reads_meanwhile, ground, settled)
+    yield "serve: a READ of another client waits for no sync of a FLUSH behind a WRITE in place", partial(reads_meanwhile, ground, settled, False)
+    yield "run: a READ of another client waits for no sync of a WRITE with FUA in place", partial(reads_meanwhile, ground, settled, True)
+    yield f"run: {MANY} clients that WRITE with FUA at once make at most {MANY // 2} syncs", partial(few_for_many, ground, settled)
     for name, kinds in (("WRITE", [WRITE]), ("WRITE and FLUSH", [WRITE, FLUSH])):
         yield f"serve: a {name} has its turn while {READERS} clients READ without end", partial(has_its_turn, ground, settled, kinds)
 
@@ -80,21 +82,24 @@ def spans(trace):
 
 
 class Traced:
-    """A server of a copy of an image under strace, and behind its end the calls that it made."""
+    """A server of a copy of an image to a count of clients, or without one `thinpool run`, under strace, and behind its end the calls that it made."""
 
     def __init__(self, ground, image, count, injected=()):
         self.image, self.trace = ground.copy("shared.img", image), ground.path("shared.trace")
         more = ["-yy", "--seccomp-bpf", *(part for it in injected for part in ("-e", f"inject={ALL_SYNCS}:{it}"))]
-        self.server = ground.serve(self.image, count, before=strace(self.trace, TRACED, more))
+        self.server = ground.serve(self.image, count, is_controlled=count is None, before=strace(self.trace, TRACED, more))
         self.ground = ground
 
     def end(self, clients):
         """Lets these clients go, who are all, and wants a clean end."""
         for it in clients:
             it.leave()
-        ran = self.server.ended()
-        want((ran.status == 0, ran.told()))
-        self.ground.want_clean(self.image)
+        if self.server.count is None:
+            self.server.finish()
+        else:
+            ran = self.server.ended()
+            want((ran.status == 0, ran.told()))
+            self.ground.want_clean(self.image)
         self.calls = spans(self.trace)
 
     def syncs(self):
@@ -113,9 +118,9 @@ class Traced:
 
 
 @contextlib.contextmanager
-def served(ground, image, count, injected=()):
-    """A traced server and its clients."""
-    traced = Traced(ground, image, count, injected)
+def served(ground, image, count, injected=(), runs=False):
+    """A traced server, or `thinpool run`, and its clients."""
+    traced = Traced(ground, image, None if runs else count, injected)
     try:
         yield traced, [traced.server.client() for _ in range(count)]
     finally:
@@ -138,6 +143,11 @@ def is_answered(client):
 def writes_in_place(client, which, length=4096):
     """The error that a write to a block is answered that is mapped, kept and not shared."""
     return client.ask(WRITE, (FIRST + which % COUNT) * BLOCK, data=bytes([which + 1]) * length)[0]
+
+
+def kept_write(which):
+    """A write with FUA to such a block."""
+    return request(WRITE, (FIRST + which % COUNT) * BLOCK, data=bytes([which + 1]) * 4096, flags=FUA)
 
 
 def flush_at_once(clients):
@@ -180,6 +190,17 @@ def one_for_many(ground, image, writers):
         traced.end(clients)
     count = len(traced.syncs_while_served())
     want((not any(written + answers), f"they are answered {written} and {answers}"), (1 <= count <= 2, f"{count} syncs"))
+
+
+def few_for_many(ground, image):
+    """While the first one's write is synced the others wait to write. Who has written then lets those go first who have not."""
+    with served(ground, image, MANY, [f"delay_enter={int(1e6 * DELAY)}"], runs=True) as (traced, clients):
+        for at, it in enumerate(clients):
+            it.send(kept_write(at))
+        answers = [answer(it) for it in clients]
+        traced.end(clients)
+    count = len(traced.syncs_while_served())
+    want((not any(answers), f"they are answered {answers}"), (1 <= count <= MANY // 2, f"{count} syncs"))
 
 
 def during_a_sync(ground, image, moment):
@@ -248,26 +269,29 @@ def fails_for_all(ground, image, many):
     ground.want_clean(copied)
 
 
-def reads_meanwhile(ground, image):
+def reads_meanwhile(ground, image, has_fua):
     """The best of some tries, since this machine may have other work."""
-    with served(ground, image, 2, [f"delay_enter={int(1e6 * DELAY)}"]) as (traced, clients):
-        tried = [reads_during_a_flush(*clients) for _ in range(TRIES)]
+    with served(ground, image, 2, [f"delay_enter={int(1e6 * DELAY)}"], runs=has_fua) as (traced, clients):
+        tried = [reads_during_a_sync(*clients, has_fua) for _ in range(TRIES)]
         traced.end(clients)
     slowest, count = min(tried)
-    want((slowest < SOON, f"of {count} READs one took {1000 * slowest:.0f} ms while a FLUSH waited for {1000 * DELAY:.0f}"))
+    want((slowest < SOON, f"of {count} READs one took {1000 * slowest:.0f} ms while a client waited for {1000 * DELAY:.0f}"))
 
 
-def reads_during_a_flush(writer, reader):
-    """The longest time in which a READ was answered that began before a FLUSH was answered, and how many there were."""
-    writes_in_place(writer, 0)
-    writer.send(request(FLUSH))
+def reads_during_a_sync(writer, reader, has_fua):
+    """The longest time in which a READ was answered that began before a FLUSH, or a WRITE with FUA, was answered, and how many there were."""
+    if has_fua:
+        writer.send(kept_write(0))
+    else:
+        writes_in_place(writer, 0)
+        writer.send(request(FLUSH))
     time.sleep(DELAY / 10)
     taken = []
     while not is_answered(writer):
         began = time.monotonic()
         reader.do(READ, (FIRST + 1) * BLOCK, 4096)
         taken.append(time.monotonic() - began)
-    want((answer(writer) == 0, "the FLUSH is refused"), (taken, "the FLUSH did not wait"))
+    want((answer(writer) == 0, "what is kept is refused"), (taken, "its client did not wait"))
     return max(taken), len(taken)
 
 

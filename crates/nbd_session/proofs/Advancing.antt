@@ -1,18 +1,21 @@
 -- A step over a pool is, from each state that the pool may have, a step over the plain pool.
-use Rattle.std.proofs.Common.{◌≡◌, ℕ, ◌+◌, ◌*◌, ◌<◌, ◌≤◌, ◌⊎◌, Bool, true, false, List, [], ◌∷◌, length, take, Option, Some, None, refl, sym, ap, subst, ◌∙◌, arith, inl, inr, true≢false}
-use Rattle.std.specs.Prelude.{IfSome, MatchOption, MatchBool, ◌==◌, if◌then◌else◌, nat_lt}
+use Rattle.std.proofs.Common.{◌≡◌, ℕ, ◌+◌, ◌*◌, ◌/◌, ◌<◌, ◌≤◌, ◌⊎◌, Bool, true, false, List, [], ◌∷◌, length, take, Option, Some, None, refl, sym, ap, subst, ◌∙◌, arith, inl, inr, true≢false}
+use Rattle.std.specs.Prelude.{IfSome, MatchOption, MatchBool, ◌==◌, if◌then◌else◌, nat_le, nat_lt}
+use Rattle.std.specs.List.{concat}
 use Rattle.std.specs.Ordering.{nat_cmp}
 use Rattle.std.specs.FinMap.{FinMap}
 use Rattle.std.specs.Option.{option_map_or}
 use Rattle.tp_model.specs.declared.refusal.NbdError.{NbdError}
 use Rattle.tp_model.specs.Requests.{form_error, is_flush, is_read, is_trim, is_write}
 use Rattle.tp_model.specs.Geometry.{Geometry, sectors_of_volume}
+use Rattle.tp_model.specs.Sectors.{sectors_of}
 use Rattle.tp_model.specs.Pool.{PlainPool, Outline, hold_count, hold_total}
-use Rattle.tp_model.specs.Calls.{Call, Answer, Done, Gave, Line, Found, Refused, Sized, Listed, Hold, LetGo, NextId, VolumeBlocks, is_failed, holds_after}
+use Rattle.tp_model.specs.Calls.{Call, Answer, Done, Gave, Line, Found, Refused, Sized, Listed, Hold, LetGo, NextId, Read, VolumeBlocks, Walk, Write, is_failed, holds_after}
 use Rattle.nbd_wire.specs.declared.Kind.{Kind}
 use Rattle.nbd_wire.specs.declared.Request.{Request}
 use Rattle.nbd_wire.specs.declared.TheConstants.{COMMAND_DISC, OPTION_ABORT, OPTION_EXPORT_NAME, OPTION_GO, OPTION_INFO, OPTION_LIST, OPTION_LIST_META_CONTEXT, OPTION_SET_META_CONTEXT, OPTION_STRUCTURED_REPLY}
 use Rattle.nbd_wire.specs.declared.writing.ReplyType.TheVariants.{Acknowledged, Invalid, Unsupported}
+use Rattle.nbd_wire.specs.Chunks.{data_chunk}
 use Rattle.nbd_wire.specs.Replies.{option_reply}
 use Rattle.nbd_wire.specs.Grammar.{Message, client_flags, client_option, command, malformed}
 use Rattle.nbd_session.specs.declared.phase.Course.{Course}
@@ -24,12 +27,13 @@ use Rattle.nbd_session.specs.declared.phase.Phase.{Phase}
 use Rattle.nbd_session.specs.declared.phase.Phase.TheVariants.{Flags, Options, Transmission, Ended}
 use Rattle.nbd_session.specs.declared.request.Verdict.{Verdict}
 use Rattle.nbd_session.specs.declared.request.Verdict.TheVariants as verdicts
-use Rattle.nbd_session.specs.Requests.{bytes_of_blocks, form_of, known_bytes, verdict_in, verdict_on}
+use Rattle.nbd_session.specs.Requests.{bytes_of_blocks, form_of, has_fua, has_since, is_kept_apart, known_bytes, to_keep, verdict_in, verdict_on}
 use Rattle.nbd_session.specs.declared.session.Answered.{Answered}
-use Rattle.nbd_wire.specs.Contexts.{asks_for, lists}
+use Rattle.nbd_wire.specs.Contexts.{asks_for, lists, since_of}
 use Rattle.nbd_session.specs.Buffers.{IsSound}
-use Rattle.nbd_session.specs.Status.{first_block, unit_of}
-use Rattle.nbd_session.specs.Session.{State, state, has_ended, Outcome, outcome, option_error, VolumeOption, export_name, go, info, in_chunks, in_context, is_there, is_at_work, is_extended, kind_of, left_in, list_context, manner_of, set_context, structures, terms_of, transmission_flags, LetsGo, Ends, Tells, Serves, IsMade, MakesPart, IsDeaf, IsSized, Sizes, IsHeld, Holds, Enters, Finds, AsksFor, LooksFor, IsInvalid, IsValid, Informs, Exports, Finding, IsEnough, IsLast, IsRefused, Lists, NamesAll, NamesNone, Answers, Waits, TakesFrame, Steps, Extends, IsNoQuery, IsQueried, Queries, Walks, Chooses}
+use Rattle.nbd_session.specs.Holes.{has_blank}
+use Rattle.nbd_session.specs.Status.{IsAllocation, first_block, unit_of}
+use Rattle.nbd_session.specs.Session.{State, state, has_ended, Outcome, outcome, option_error, VolumeOption, export_name, go, info, in_chunks, in_context, is_there, is_at_work, is_extended, kind_of, left_in, list_context, manner_of, set_context, structures, terms_of, transmission_flags, without_context, chunk_to, reply_to, LetsGo, Begins, Ends, Tells, Serves, IsMade, MakesPart, IsDeaf, IsSized, Sizes, IsHeld, Holds, Enters, Finds, AsksFor, LooksFor, IsInvalid, IsValid, Informs, Exports, Finding, IsEnough, IsLast, IsRefused, Lists, NamesAll, NamesNone, Answers, Waits, TakesFrame, Steps, Compares, Extends, IsDescribed, IsNoQuery, IsQueried, Queries, Seeks, SeeksFor, Walks, Chooses, IsGiven, Performs, ReadsLong, SeeksHoles}
 use Rattle.tp_model.specs.Clauses.{Continues, HasTrace, PoolCall, Traced, TracedCall, View, ViewLaws, outline_of_traced}
 use Rattle.tp_model.proofs.Running.{call_traced, goes_on, stays}
 use Rattle.nbd_session.specs.Clauses.{IsReady, Follows, GoesBeyond, HoldsFollow, KeepsSizes, PlainCall, Advances, Leaves, IsCalm, holds_between, manner_in}
@@ -161,8 +165,8 @@ module _ {D : Type 0} (view : View D) (laws : ViewLaws view) where
   asks_for_chunks : (z : Terms) → is_extended z.profile ≡ true → GoesBeyond z (in_chunks z)
   asks_for_chunks z ext = record { no_zeroes = refl; profile = refl; strict = λ e. absurd (true≢false (sym ext ∙ e)); structured = λ e. refl }
 
-  asks_of : (z : Terms) (context : ℕ) → is_extended z.profile ≡ true → GoesBeyond z (in_context z context)
-  asks_of z context ext = record { no_zeroes = refl; profile = refl; strict = λ e. absurd (true≢false (sym ext ∙ e)); structured = λ e. e }
+  asks_of : (z : Terms) (context : ℕ) (tells : Bool) (since : ℕ) → is_extended z.profile ≡ true → GoesBeyond z (in_context z context tells since)
+  asks_of z context tells since ext = record { no_zeroes = refl; profile = refl; strict = λ e. absurd (true≢false (sym ext ∙ e)); structured = λ e. e }
 
   -- a session that goes on to its options, or ends, where nothing is called
   to_terms : (old new : D) (z y : Terms) → GoesBeyond z y → new ≡ old → Moves old new (Options z) (Options y)
@@ -203,47 +207,6 @@ module _ {D : Type 0} (view : View D) (laws : ViewLaws view) where
   not_asked : (old new : D) (v n : ℕ) (x : Manner) → new ≡ old → Moves old new (Transmission v n (Listens x)) (Transmission v n (Listens x))
   not_asked old new v n x e = rests old new (Transmission v n (Listens x)) (Transmission v n (Listens x)) e refl (refl, refl, refl) tt
 
-  described_moves : (old new : D) (b : Bool) (v n : ℕ) (x : Manner) (r : Request) (sent told : List ℕ) (next : Phase) → next ≡ Transmission v n (Listens x)
-      → MatchBool b (Walks view.outline (PoolCall view) v r old sent new) ((sent ≡ told) × (new ≡ old)) → Moves old new (Transmission v n (Listens x)) next
-  described_moves old new true v n x r sent told next at h = stays_in old new v n (Listens x) (Listens x) _ h.answer next at refl h.calls refl
-  described_moves old new false v n x r sent told next at h = moves_to old new (Transmission v n (Listens x)) next (Transmission v n (Listens x)) at (not_asked old new v n x h.1)
-
-  serves_move : (old new : D) (d : Verdict) (v n : ℕ) (x : Manner) (r : Request) (payload sent : List ℕ) (next : Phase)
-      → Serves view.outline (PoolCall view) d v n x r payload old sent next new → Moves old new (Transmission v n (Listens x)) next
-  serves_move old new verdicts.Disconnect v n x r payload sent next h = ends_move old new [] (Transmission v n (Listens x)) next sent h
-  serves_move old new (verdicts.Refuse e) v n x r payload sent next h = tells_move old new (Transmission v n (Listens x)) _ sent next h (not_asked old new v n x h.2)
-  serves_move old new verdicts.Nothing v n x r payload sent next h = tells_move old new (Transmission v n (Listens x)) _ sent next h (not_asked old new v n x h.2)
-  serves_move old new verdicts.Read v n x r payload sent next h = stays_in old new v n (Listens x) (Listens x) _ h.0.answer next h.1 refl h.0.calls refl
-  serves_move old new verdicts.Write v n x r payload sent next h = stays_in old new v n (Listens x) (Listens x) _ h.0.answer next h.1 refl h.0.calls refl
-  serves_move old new verdicts.Trim v n x r payload sent next h = stays_in old new v n (Listens x) (Listens x) _ h.0.answer next h.1 refl h.0.calls refl
-  serves_move old new verdicts.WriteZeroes v n x r payload sent next h = stays_in old new v n (Listens x) (Listens x) _ h.0.answer next h.1 refl h.0.calls refl
-  serves_move old new verdicts.Flush v n x r payload sent next h = stays_in old new v n (Listens x) (Listens x) _ h.0.answer next h.1 refl h.0.calls refl
-  serves_move old new verdicts.Status v n x r payload sent next h = described_moves old new (nat_lt (first_block (unit_of (view.outline old).geometry) r) 16777216) v n x r sent _ next h.1 h.0
-  serves_move old new verdicts.Long v n x r payload sent next h =
-      moves_to old new (Transmission v n (Listens x)) next (Transmission v n (Works x r)) h.1 (rests old new (Transmission v n (Listens x)) (Transmission v n (Works x r)) h.2 refl (refl, refl, refl) tt)
-
-  -- and a part of one leaves it at work, or where it was
-  made_next : (v n : ℕ) (m : Manner) (r rest : Request) (last : Bool) (answer : Answer) (sent : List ℕ) (next : Phase) → IsMade v n m r rest last answer sent next
-      → (d : Course) × (next ≡ Transmission v n d) × (manner_in d ≡ m)
-  made_next v n m r rest true Done sent next h = (Listens m, h.1, refl)
-  made_next v n m r rest false Done sent next h = (Works m rest, h.1, refl)
-  made_next v n m r rest last (Gave sectors) sent next h = (Listens m, h.1, refl)
-  made_next v n m r rest last (Line bytes) sent next h = (Listens m, h.1, refl)
-  made_next v n m r rest last (Found id) sent next h = (Listens m, h.1, refl)
-  made_next v n m r rest last (Sized blocks) sent next h = (Listens m, h.1, refl)
-  made_next v n m r rest last (Listed slots) sent next h = (Listens m, h.1, refl)
-  made_next v n m r rest last (Refused reason) sent next h = (Listens m, h.1, refl)
-
-  part_holds : (b : Bool) (trim zeroes : Call) (answer : Answer) (holds : FinMap nat_cmp ℕ) → holds_after holds trim answer ≡ holds → holds_after holds zeroes answer ≡ holds
-      → holds_after holds (if b then trim else zeroes) answer ≡ holds
-  part_holds true trim zeroes answer holds t z = t
-  part_holds false trim zeroes answer holds t z = z
-
-  part_moves : (old new : D) (v n : ℕ) (m : Manner) (r : Request) (sent : List ℕ) (next : Phase) → MakesPart view.outline (PoolCall view) v n m r old sent next new → Moves old new (Transmission v n (Works m r)) next
-  part_moves old new v n m r sent next h =
-      let to = made_next v n m r _ _ h.answer sent next h.is_made in
-      stays_in old new v n (Works m r) to.0 _ h.answer next to.1 (sym to.2) h.calls (part_holds (is_trim (form_of r)) _ _ h.answer (view.outline old).holds refl refl)
-
   -- the geometry, who holds what, and the sizes stay
   record Stays (old new : D) : Type 0 where
     geometry : (view.outline new).geometry ≡ (view.outline old).geometry
@@ -263,15 +226,143 @@ module _ {D : Type 0} (view : View D) (laws : ViewLaws view) where
   as_held : (old new : D) → (view.outline new).holds ≡ (view.outline old).holds → (i : ℕ) → 0 < hold_count (view.outline old).holds i → 0 < hold_count (view.outline new).holds i
   as_held old new e i some = let P : FinMap nat_cmp ℕ → Type 0 = λ m. 0 < hold_count m i in subst P (sym e) some
 
-  -- what is done behind a look-up, which leaves all that
-  behind : (old mid new : D) (z : Terms) (next : Phase) → Stays old mid → Moves mid new (Options z) next → Moves old new (Options z) next
-  behind old mid new z next before m = record {
+  walk_stays : (old new : D) (id from : ℕ) (answer : Answer) → PoolCall view old (Walk id from) answer new → Stays old new
+  walk_stays old new id from answer h = record { geometry = h.geometry; holds = h.holds; more = h.more }
+
+  -- what is told of a volume changes nothing of that
+  compared_stays : (b : Bool) (x : Manner) (unit from : ℕ) (r : Request) (slots : List (ℕ × ℕ)) (old new : D) (sent : List ℕ)
+      → MatchBool b (Compares view.outline (PoolCall view) x unit from r slots old sent new) (IsAllocation true unit r slots sent × (new ≡ old)) → Stays old new
+  compared_stays true x unit from r slots old new sent h = walk_stays old new x.since from h.answer h.calls
+  compared_stays false x unit from r slots old new sent h = still old new h.1
+
+  described_stays : (x : Manner) (unit from : ℕ) (r : Request) (answer : Answer) (old new : D) (sent : List ℕ) → IsDescribed view.outline (PoolCall view) x unit from r answer old sent new → Stays old new
+  described_stays x unit from r (Listed slots) old new sent h = compared_stays (has_since x) x unit from r slots old new sent h
+  described_stays x unit from r (Refused reason) old new sent h = still old new h.1
+  described_stays x unit from r Done old new sent h = absurd h
+  described_stays x unit from r (Gave sectors) old new sent h = absurd h
+  described_stays x unit from r (Line bytes) old new sent h = absurd h
+  described_stays x unit from r (Found least) old new sent h = absurd h
+  described_stays x unit from r (Sized blocks) old new sent h = absurd h
+
+  both_stay : (old mid new : D) → Stays old mid → Stays mid new → Stays old new
+  both_stay old mid new one two = record { geometry = two.geometry ∙ one.geometry; holds = two.holds ∙ one.holds; more = over old mid new one.more two.more (as_held old mid one.holds) }
+
+  listens_on : (old new : D) (v n : ℕ) (x : Manner) → Stays old new → Moves old new (Transmission v n (Listens x)) (Transmission v n (Listens x))
+  listens_on old new v n x h = record { geometry = h.geometry; holds = h.holds; follows = (refl, refl, refl); more = h.more; knows = tt }
+
+  -- what is done behind a call that leaves all that
+  behind_call : (old mid new : D) (phase next : Phase) → Stays old mid → Moves mid new phase next → Moves old new phase next
+  behind_call old mid new phase next before m = record {
     geometry = m.geometry ∙ before.geometry;
-    holds = let P : FinMap nat_cmp ℕ → Type 0 = λ x. HoldsFollow (Options z) next x (view.outline new).holds in subst P before.holds m.holds;
+    holds = let P : FinMap nat_cmp ℕ → Type 0 = λ x. HoldsFollow phase next x (view.outline new).holds in subst P before.holds m.holds;
     follows = m.follows;
     more = over old mid new before.more m.more (as_held old mid before.holds);
     knows = m.knows;
   }
+
+  described_moves : (old new : D) (b : Bool) (v n : ℕ) (x : Manner) (r : Request) (sent told : List ℕ) (next : Phase) → next ≡ Transmission v n (Listens x)
+      → MatchBool b (Walks view.outline (PoolCall view) x v r old sent new) ((sent ≡ told) × (new ≡ old)) → Moves old new (Transmission v n (Listens x)) next
+  described_moves old new true v n x r sent told next at h =
+      let unit : ℕ = unit_of (view.outline old).geometry in
+      let from : ℕ = first_block unit r in
+      moves_to old new (Transmission v n (Listens x)) next (Transmission v n (Listens x)) at
+      (listens_on old new v n x (both_stay old h.walked new (walk_stays old h.walked v from h.answer h.calls) (described_stays x unit from r h.answer h.walked new sent h.is_described)))
+  described_moves old new false v n x r sent told next at h = moves_to old new (Transmission v n (Listens x)) next (Transmission v n (Listens x)) at (not_asked old new v n x h.1)
+
+  holes_move : (old new : D) (b : Bool) (v n unit : ℕ) (x : Manner) (r : Request) (given sent told : List ℕ) (next : Phase) → next ≡ Transmission v n (Listens x)
+      → MatchBool b (SeeksHoles view.outline (PoolCall view) v unit r given old sent new) ((sent ≡ told) × (new ≡ old)) → Moves old new (Transmission v n (Listens x)) next
+  holes_move old new true v n unit x r given sent told next at h = stays_in old new v n (Listens x) (Listens x) _ h.answer next at refl h.calls refl
+  holes_move old new false v n unit x r given sent told next at h = moves_to old new (Transmission v n (Listens x)) next (Transmission v n (Listens x)) at (not_asked old new v n x h.1)
+
+  told_moves_on : (old new : D) (b c : Bool) (v n unit : ℕ) (x : Manner) (r : Request) (given sent told : List ℕ) (next : Phase) → next ≡ Transmission v n (Listens x)
+      → MatchBool b (MatchBool c (SeeksHoles view.outline (PoolCall view) v unit r given old sent new) ((sent ≡ told) × (new ≡ old))) ((sent ≡ told) × (new ≡ old))
+      → Moves old new (Transmission v n (Listens x)) next
+  told_moves_on old new true c v n unit x r given sent told next at h = holes_move old new c v n unit x r given sent told next at h
+  told_moves_on old new false c v n unit x r given sent told next at h = moves_to old new (Transmission v n (Listens x)) next (Transmission v n (Listens x)) at (not_asked old new v n x h.1)
+
+  given_moves : (old new : D) (v n unit : ℕ) (x : Manner) (r : Request) (answer : Answer) (sent : List ℕ) (next : Phase) → next ≡ Transmission v n (Listens x)
+      → IsGiven view.outline (PoolCall view) v unit r answer old sent new → Moves old new (Transmission v n (Listens x)) next
+  given_moves old new v n unit x r (Gave sectors) sent next at h =
+      told_moves_on old new (has_blank r (concat sectors)) (nat_lt (first_block unit r) 16777216) v n unit x r (concat sectors) sent (data_chunk true r.cookie r.offset (concat sectors)) next at h
+  given_moves old new v n unit x r Done sent next at h = moves_to old new (Transmission v n (Listens x)) next (Transmission v n (Listens x)) at (not_asked old new v n x h.1)
+  given_moves old new v n unit x r (Line bytes) sent next at h = moves_to old new (Transmission v n (Listens x)) next (Transmission v n (Listens x)) at (not_asked old new v n x h.1)
+  given_moves old new v n unit x r (Found least) sent next at h = moves_to old new (Transmission v n (Listens x)) next (Transmission v n (Listens x)) at (not_asked old new v n x h.1)
+  given_moves old new v n unit x r (Sized blocks) sent next at h = moves_to old new (Transmission v n (Listens x)) next (Transmission v n (Listens x)) at (not_asked old new v n x h.1)
+  given_moves old new v n unit x r (Listed slots) sent next at h = moves_to old new (Transmission v n (Listens x)) next (Transmission v n (Listens x)) at (not_asked old new v n x h.1)
+  given_moves old new v n unit x r (Refused reason) sent next at h = moves_to old new (Transmission v n (Listens x)) next (Transmission v n (Listens x)) at (not_asked old new v n x h.1)
+
+  was_read : (old new : D) (id sector count : ℕ) (answer : Answer) → PoolCall view old (Read id sector count) answer new → Stays old new
+  was_read old new id sector count answer h = record { geometry = h.geometry; holds = h.holds; more = h.more }
+
+  long_moves : (old new : D) (v n : ℕ) (x : Manner) (r : Request) (sent : List ℕ) (next : Phase) → next ≡ Transmission v n (Listens x)
+      → ReadsLong view.outline (PoolCall view) v r old sent new → Moves old new (Transmission v n (Listens x)) next
+  long_moves old new v n x r sent next at h =
+      behind_call old h.asked new (Transmission v n (Listens x)) next (was_read old h.asked v (r.offset / 512) (r.len / 512) h.answer h.calls)
+      (given_moves h.asked new v n (unit_of (view.outline old).geometry) x r h.answer sent next at h.is_given)
+
+  reads_move : (old new : D) (b c : Bool) (v n : ℕ) (x : Manner) (r : Request) (sent : List ℕ) (next : Phase) → next ≡ Transmission v n (Listens x)
+      → MatchBool b (MatchBool c (ReadsLong view.outline (PoolCall view) v r old sent new) (Performs view.outline (PoolCall view) (Read v (r.offset / 512) (r.len / 512)) (chunk_to r) old sent new))
+      (Performs view.outline (PoolCall view) (Read v (r.offset / 512) (r.len / 512)) (reply_to r.cookie) old sent new) → Moves old new (Transmission v n (Listens x)) next
+  reads_move old new true true v n x r sent next at h = long_moves old new v n x r sent next at h
+  reads_move old new true false v n x r sent next at h = stays_in old new v n (Listens x) (Listens x) _ h.answer next at refl h.calls refl
+  reads_move old new false c v n x r sent next at h = stays_in old new v n (Listens x) (Listens x) _ h.answer next at refl h.calls refl
+
+  -- a part of one leaves it at work, or where it was
+  made_next : (v n : ℕ) (m : Manner) (r rest : Request) (last : Bool) (answer : Answer) (sent : List ℕ) (next : Phase) → IsMade v n m r rest last answer sent next
+      → (d : Course) × (next ≡ Transmission v n d) × (manner_in d ≡ m)
+  made_next v n m r rest true Done sent next h = (Listens m, h.1, refl)
+  made_next v n m r rest false Done sent next h = (Works m rest, h.1, refl)
+  made_next v n m r rest last (Gave sectors) sent next h = (Listens m, h.1, refl)
+  made_next v n m r rest last (Line bytes) sent next h = (Listens m, h.1, refl)
+  made_next v n m r rest last (Found id) sent next h = (Listens m, h.1, refl)
+  made_next v n m r rest last (Sized blocks) sent next h = (Listens m, h.1, refl)
+  made_next v n m r rest last (Listed slots) sent next h = (Listens m, h.1, refl)
+  made_next v n m r rest last (Refused reason) sent next h = (Listens m, h.1, refl)
+
+  begun_moves : (old new : D) (call : Call) (v n : ℕ) (x : Manner) (r : Request) (sent : List ℕ) (next : Phase) → Begins view.outline (PoolCall view) call v n x r old sent next new
+      → ((answer : Answer) (holds : FinMap nat_cmp ℕ) → holds_after holds call answer ≡ holds) → Moves old new (Transmission v n (Listens x)) next
+  begun_moves old new call v n x r sent next h same =
+      let to = made_next v n x r (to_keep r) false h.answer sent next h.is_begun in
+      stays_in old new v n (Listens x) to.0 call h.answer next to.1 (sym to.2) h.calls (same h.answer (view.outline old).holds)
+
+  written_moves : (old new : D) (b : Bool) (apart call : Call) (v n : ℕ) (x : Manner) (r : Request) (sent : List ℕ) (next : Phase)
+      → MatchBool b (Begins view.outline (PoolCall view) apart v n x r old sent next new) (Performs view.outline (PoolCall view) call (reply_to r.cookie) old sent new × (next ≡ Transmission v n (Listens x)))
+      → ((answer : Answer) (holds : FinMap nat_cmp ℕ) → holds_after holds apart answer ≡ holds) → ((answer : Answer) (holds : FinMap nat_cmp ℕ) → holds_after holds call answer ≡ holds)
+      → Moves old new (Transmission v n (Listens x)) next
+  written_moves old new true apart call v n x r sent next h first second = begun_moves old new apart v n x r sent next h first
+  written_moves old new false apart call v n x r sent next h first second =
+      stays_in old new v n (Listens x) (Listens x) call h.0.answer next h.1 refl h.0.calls (second h.0.answer (view.outline old).holds)
+
+  serves_move : (old new : D) (d : Verdict) (v n : ℕ) (x : Manner) (r : Request) (payload sent : List ℕ) (next : Phase)
+      → Serves view.outline (PoolCall view) d v n x r payload old sent next new → Moves old new (Transmission v n (Listens x)) next
+  serves_move old new verdicts.Disconnect v n x r payload sent next h = ends_move old new [] (Transmission v n (Listens x)) next sent h
+  serves_move old new (verdicts.Refuse e) v n x r payload sent next h = tells_move old new (Transmission v n (Listens x)) _ sent next h (not_asked old new v n x h.2)
+  serves_move old new verdicts.Nothing v n x r payload sent next h = tells_move old new (Transmission v n (Listens x)) _ sent next h (not_asked old new v n x h.2)
+  serves_move old new verdicts.Read v n x r payload sent next h = reads_move old new x.is_structured (nat_le 65536 r.len) v n x r sent next h.1 h.0
+  serves_move old new verdicts.Write v n x r payload sent next h =
+      written_moves old new (is_kept_apart x r) (Write v (r.offset / 512) (sectors_of payload) false) (Write v (r.offset / 512) (sectors_of payload) (has_fua r)) v n x r sent next h
+      (λ answer holds. refl) (λ answer holds. refl)
+  serves_move old new verdicts.Trim v n x r payload sent next h = stays_in old new v n (Listens x) (Listens x) _ h.0.answer next h.1 refl h.0.calls refl
+  serves_move old new verdicts.WriteZeroes v n x r payload sent next h = stays_in old new v n (Listens x) (Listens x) _ h.0.answer next h.1 refl h.0.calls refl
+  serves_move old new verdicts.Flush v n x r payload sent next h = stays_in old new v n (Listens x) (Listens x) _ h.0.answer next h.1 refl h.0.calls refl
+  serves_move old new verdicts.Status v n x r payload sent next h = described_moves old new (nat_lt (first_block (unit_of (view.outline old).geometry) r) 16777216) v n x r sent _ next h.1 h.0
+  serves_move old new verdicts.Long v n x r payload sent next h =
+      moves_to old new (Transmission v n (Listens x)) next (Transmission v n (Works x r)) h.1 (rests old new (Transmission v n (Listens x)) (Transmission v n (Works x r)) h.2 refl (refl, refl, refl) tt)
+
+  part_holds : (a b : Bool) (keep trim zeroes : Call) (answer : Answer) (holds : FinMap nat_cmp ℕ) → holds_after holds keep answer ≡ holds → holds_after holds trim answer ≡ holds → holds_after holds zeroes answer ≡ holds
+      → holds_after holds (if a then keep else (if b then trim else zeroes)) answer ≡ holds
+  part_holds true b keep trim zeroes answer holds k t z = k
+  part_holds false true keep trim zeroes answer holds k t z = t
+  part_holds false false keep trim zeroes answer holds k t z = z
+
+  part_moves : (old new : D) (v n : ℕ) (m : Manner) (r : Request) (sent : List ℕ) (next : Phase) → MakesPart view.outline (PoolCall view) v n m r old sent next new → Moves old new (Transmission v n (Works m r)) next
+  part_moves old new v n m r sent next h =
+      let to = made_next v n m r _ _ h.answer sent next h.is_made in
+      stays_in old new v n (Works m r) to.0 _ h.answer next to.1 (sym to.2) h.calls (part_holds (is_flush (form_of r)) (is_trim (form_of r)) _ _ _ h.answer (view.outline old).holds refl refl refl)
+
+  -- what is done behind a look-up, which leaves all that
+  behind : (old mid new : D) (z : Terms) (next : Phase) → Stays old mid → Moves mid new (Options z) next → Moves old new (Options z) next
+  behind old mid new z next before m = behind_call old mid new (Options z) next before m
 
   -- Where an option leads that tells of a volume: into transmission, where it holds the volume, or on to options.
   abbrev LeadsTo : Terms → Bool → ℕ → ℕ → Phase → Type 0
@@ -289,13 +380,13 @@ module _ {D : Type 0} (view : View D) (laws : ViewLaws view) where
   info_lands : (z : Terms) → Lands z (info z)
   info_lands z = record { found = λ id size flags. (z, refl, stays_so z); missing = λ old new e. to_options old new z e }
 
-  list_lands : (z : Terms) (b : Bool) → Lands z (list_context z b)
-  list_lands z b = record { found = λ id size flags. (z, refl, stays_so z); missing = λ old new e. to_options old new z e }
+  list_lands : (z : Terms) (b : Bool) (since : ℕ) → Lands z (list_context z b since)
+  list_lands z b since = record { found = λ id size flags. (z, refl, stays_so z); missing = λ old new e. to_options old new z e }
 
-  set_lands : (z : Terms) → is_extended z.profile ≡ true → (b : Bool) → Lands z (set_context z b)
-  set_lands z ext b = record {
-    found = λ id size flags. (in_context z (if b then id else 16777216), refl, asks_of z (if b then id else 16777216) ext);
-    missing = λ old new e. to_terms old new z (in_context z 16777216) (asks_of z 16777216 ext) e;
+  set_lands : (z : Terms) → is_extended z.profile ≡ true → (b : Bool) (since : ℕ) → Lands z (set_context z b since)
+  set_lands z ext b since = record {
+    found = λ id size flags. (in_context z id b since, refl, asks_of z id b since ext);
+    missing = λ old new e. to_terms old new z (without_context z) (asks_of z 16777216 false 16777216 ext) e;
   }
 
   export_lands : (z : Terms) → Lands z (export_name z)
@@ -423,6 +514,25 @@ module _ {D : Type 0} (view : View D) (laws : ViewLaws view) where
     exports_move true name sent next h = ends_move old new [] (Options z) next sent h
     exports_move false name sent next h = looks_move name sent next h
 
+  -- an older volume is looked for first
+  sought_moves : (old new : D) (z : Terms) (o : ℕ → VolumeOption) → ((since : ℕ) → Lands z (o since)) → (name : List ℕ) (id : ℕ) (answer : Answer) (sent : List ℕ) (next : Phase)
+      → Seeks view.outline (PoolCall view) o name id answer old sent next new → Moves old new (Options z) next
+  sought_moves old new z o lands name id (Found least) sent next h =
+      let since : ℕ = if is_there id least then id else 16777216 in
+      looks_move old new z (o since) (lands since) name sent next h
+  sought_moves old new z o lands name id (Refused reason) sent next h = tells_move old new (Options z) (outcome [] Ended) sent next h (to_end old new z h.2)
+  sought_moves old new z o lands name id Done sent next h = absurd h
+  sought_moves old new z o lands name id (Gave sectors) sent next h = absurd h
+  sought_moves old new z o lands name id (Line bytes) sent next h = absurd h
+  sought_moves old new z o lands name id (Sized blocks) sent next h = absurd h
+  sought_moves old new z o lands name id (Listed slots) sent next h = absurd h
+
+  seeks_move : (old new : D) (z : Terms) (o : ℕ → VolumeOption) → ((since : ℕ) → Lands z (o since)) → (text name sent : List ℕ) (next : Phase)
+      → SeeksFor view.outline (PoolCall view) o text name old sent next new → Moves old new (Options z) next
+  seeks_move old new z o lands text name sent next (inl h) = looks_move old new z (o 16777216) (lands 16777216) name sent next h.looks
+  seeks_move old new z o lands text name sent next (inr h) =
+      behind old h.looked new z next (asked old h.looked h.id h.answer h.calls) (sought_moves h.looked new z o lands name h.id h.answer sent next h.seeks)
+
   -- ---- LIST
 
   finding_stays : (End : ℕ → D → D → Type 0) → ((from : ℕ) (old new : D) → End from old new → Stays old new) → (from : ℕ) (ids : List ℕ) (old new : D)
@@ -467,28 +577,30 @@ module _ {D : Type 0} (view : View D) (laws : ViewLaws view) where
       tells_move old new (Options z) (outcome (option_reply OPTION_STRUCTURED_REPLY Acknowledged []) (Options (in_chunks z))) sent next h (to_terms old new z (in_chunks z) (asks_for_chunks z ext) h.2)
   structured_moves old new false z sent next ext h = tells_move old new (Options z) (option_error OPTION_STRUCTURED_REPLY Invalid z) sent next h (to_options old new z h.2)
 
-  queries_move : (old new : D) (b c : Bool) (option : ℕ) (asks : List (List ℕ) → Bool) (o : Bool → VolumeOption) (z y : Terms) (payload sent : List ℕ) (next : Phase)
-      → ((x : Bool) → Lands z (o x)) → GoesBeyond z y
+  queries_move : (old new : D) (b c : Bool) (option : ℕ) (asks : List (List ℕ) → Bool) (o : Bool → ℕ → VolumeOption) (z y : Terms) (payload sent : List ℕ) (next : Phase)
+      → ((x : Bool) (since : ℕ) → Lands z (o x since)) → GoesBeyond z y
       → MatchBool b (Ends view.outline (PoolCall view) [] (Options z) old sent next new)
       (MatchBool c (IsNoQuery view.outline (PoolCall view) option y payload old sent next new ⊎ IsQueried view.outline (PoolCall view) asks o payload old sent next new)
       (Tells view.outline (PoolCall view) (option_error option Invalid y) old sent next new))
       → Moves old new (Options z) next
   queries_move old new true c option asks o z y payload sent next lands f h = ends_move old new [] (Options z) next sent h
   queries_move old new false true option asks o z y payload sent next lands f (inl h) = tells_move old new (Options z) (option_error option Invalid y) sent next h.tells (to_terms old new z y f h.tells.2)
-  queries_move old new false true option asks o z y payload sent next lands f (inr h) = looks_move old new z (o (asks h.queries)) (lands (asks h.queries)) h.name sent next h.looks
+  queries_move old new false true option asks o z y payload sent next lands f (inr h) =
+      seeks_move old new z (o (asks h.queries)) (lands (asks h.queries)) (since_of h.queries) h.name sent next h.seeks
   queries_move old new false false option asks o z y payload sent next lands f h = tells_move old new (Options z) (option_error option Invalid y) sent next h (to_terms old new z y f h.2)
 
   extended_moves : (old new : D) (is_chunks is_list is_set : Bool) (z : Terms) (option : ℕ) (payload sent : List ℕ) (next : Phase) → is_extended z.profile ≡ true
       → MatchBool is_chunks (Tells view.outline (PoolCall view) (structures z payload) old sent next new)
       (MatchBool is_list (Queries view.outline (PoolCall view) OPTION_LIST_META_CONTEXT lists (list_context z) z z payload old sent next new)
-      (MatchBool is_set (Queries view.outline (PoolCall view) OPTION_SET_META_CONTEXT asks_for (set_context z) z (in_context z 16777216) payload old sent next new)
+      (MatchBool is_set (Queries view.outline (PoolCall view) OPTION_SET_META_CONTEXT asks_for (set_context z) z (without_context z) payload old sent next new)
       (Tells view.outline (PoolCall view) (option_error option Unsupported z) old sent next new)))
       → Moves old new (Options z) next
   extended_moves old new true is_list is_set z option payload sent next ext h = structured_moves old new (length payload == 0) z sent next ext h
   extended_moves old new false true is_set z option payload sent next ext h =
       queries_move old new (is_failed (view.outline old).mode) z.is_structured OPTION_LIST_META_CONTEXT lists (list_context z) z z payload sent next (list_lands z) (stays_so z) h
   extended_moves old new false false true z option payload sent next ext h =
-      queries_move old new (is_failed (view.outline old).mode) z.is_structured OPTION_SET_META_CONTEXT asks_for (set_context z) z (in_context z 16777216) payload sent next (set_lands z ext) (asks_of z 16777216 ext) h
+      queries_move old new (is_failed (view.outline old).mode) z.is_structured OPTION_SET_META_CONTEXT asks_for (set_context z) z (without_context z) payload sent next (set_lands z ext)
+      (asks_of z 16777216 false 16777216 ext) h
   extended_moves old new false false false z option payload sent next ext h = tells_move old new (Options z) (option_error option Unsupported z) sent next h (to_options old new z h.2)
 
   chosen_moves : (old new : D) (is_go is_info is_export is_list is_abort is_long : Bool) (z : Terms) (option : ℕ) (payload sent : List ℕ) (next : Phase) → is_extended z.profile ≡ is_long
@@ -613,13 +725,29 @@ module _ {D : Type 0} (view : View D) (laws : ViewLaws view) where
   elsewhere : (next to : Phase) → next ≡ to → is_at_work to ≡ false → is_at_work next ≡ true → ⊥
   elsewhere next to e idle w = let same : is_at_work next ≡ is_at_work to = ap is_at_work e in absurd cc
 
+  made_quiet : (v n : ℕ) (m : Manner) (r rest : Request) (last : Bool) (answer : Answer) (sent : List ℕ) (next : Phase) → IsMade v n m r rest last answer sent next → is_at_work next ≡ true → sent ≡ []
+  made_quiet v n m r rest true Done sent next h w = absurd (elsewhere next (Transmission v n (Listens m)) h.1 refl w)
+  made_quiet v n m r rest false Done sent next h w = h.0
+  made_quiet v n m r rest last (Gave sectors) sent next h w = absurd (elsewhere next (Transmission v n (Listens m)) h.1 refl w)
+  made_quiet v n m r rest last (Line bytes) sent next h w = absurd (elsewhere next (Transmission v n (Listens m)) h.1 refl w)
+  made_quiet v n m r rest last (Found id) sent next h w = absurd (elsewhere next (Transmission v n (Listens m)) h.1 refl w)
+  made_quiet v n m r rest last (Sized blocks) sent next h w = absurd (elsewhere next (Transmission v n (Listens m)) h.1 refl w)
+  made_quiet v n m r rest last (Listed slots) sent next h w = absurd (elsewhere next (Transmission v n (Listens m)) h.1 refl w)
+  made_quiet v n m r rest last (Refused reason) sent next h w = absurd (elsewhere next (Transmission v n (Listens m)) h.1 refl w)
+
+  written_quiet : (old new : D) (b : Bool) (apart call : Call) (v n : ℕ) (x : Manner) (r : Request) (sent : List ℕ) (next : Phase)
+      → MatchBool b (Begins view.outline (PoolCall view) apart v n x r old sent next new) (Performs view.outline (PoolCall view) call (reply_to r.cookie) old sent new × (next ≡ Transmission v n (Listens x)))
+      → is_at_work next ≡ true → sent ≡ []
+  written_quiet old new true apart call v n x r sent next h w = made_quiet v n x r (to_keep r) false h.answer sent next h.is_begun w
+  written_quiet old new false apart call v n x r sent next h w = absurd (elsewhere next (Transmission v n (Listens x)) h.1 refl w)
+
   serves_quiet : (old new : D) (d : Verdict) (v n : ℕ) (x : Manner) (r : Request) (payload sent : List ℕ) (next : Phase)
       → Serves view.outline (PoolCall view) d v n x r payload old sent next new → is_at_work next ≡ true → sent ≡ []
   serves_quiet old new verdicts.Disconnect v n x r payload sent next h w = absurd (elsewhere next Ended h.1 refl w)
   serves_quiet old new (verdicts.Refuse e) v n x r payload sent next h w = absurd (elsewhere next (Transmission v n (Listens x)) h.1 refl w)
   serves_quiet old new verdicts.Nothing v n x r payload sent next h w = absurd (elsewhere next (Transmission v n (Listens x)) h.1 refl w)
   serves_quiet old new verdicts.Read v n x r payload sent next h w = absurd (elsewhere next (Transmission v n (Listens x)) h.1 refl w)
-  serves_quiet old new verdicts.Write v n x r payload sent next h w = absurd (elsewhere next (Transmission v n (Listens x)) h.1 refl w)
+  serves_quiet old new verdicts.Write v n x r payload sent next h w = written_quiet old new (is_kept_apart x r) _ _ v n x r sent next h w
   serves_quiet old new verdicts.Trim v n x r payload sent next h w = absurd (elsewhere next (Transmission v n (Listens x)) h.1 refl w)
   serves_quiet old new verdicts.WriteZeroes v n x r payload sent next h w = absurd (elsewhere next (Transmission v n (Listens x)) h.1 refl w)
   serves_quiet old new verdicts.Flush v n x r payload sent next h w = absurd (elsewhere next (Transmission v n (Listens x)) h.1 refl w)
@@ -650,16 +778,6 @@ module _ {D : Type 0} (view : View D) (laws : ViewLaws view) where
   answers_quiet old new Ended next (client_option o q) sent h w = absurd h
   answers_quiet old new Ended next (command r q) sent h w = absurd h
   answers_quiet old new Ended next malformed sent h w = h.0
-
-  made_quiet : (v n : ℕ) (m : Manner) (r rest : Request) (last : Bool) (answer : Answer) (sent : List ℕ) (next : Phase) → IsMade v n m r rest last answer sent next → is_at_work next ≡ true → sent ≡ []
-  made_quiet v n m r rest true Done sent next h w = absurd (elsewhere next (Transmission v n (Listens m)) h.1 refl w)
-  made_quiet v n m r rest false Done sent next h w = h.0
-  made_quiet v n m r rest last (Gave sectors) sent next h w = absurd (elsewhere next (Transmission v n (Listens m)) h.1 refl w)
-  made_quiet v n m r rest last (Line bytes) sent next h w = absurd (elsewhere next (Transmission v n (Listens m)) h.1 refl w)
-  made_quiet v n m r rest last (Found id) sent next h w = absurd (elsewhere next (Transmission v n (Listens m)) h.1 refl w)
-  made_quiet v n m r rest last (Sized blocks) sent next h w = absurd (elsewhere next (Transmission v n (Listens m)) h.1 refl w)
-  made_quiet v n m r rest last (Listed slots) sent next h w = absurd (elsewhere next (Transmission v n (Listens m)) h.1 refl w)
-  made_quiet v n m r rest last (Refused reason) sent next h w = absurd (elsewhere next (Transmission v n (Listens m)) h.1 refl w)
 
   deaf_quiet : (phase : Phase) (old new : D) (from to : State) (piece sent : List ℕ) (taken : ℕ) (ended : Bool)
       → IsDeaf view.outline (PoolCall view) phase from old piece taken sent ended to new → is_at_work to.phase ≡ true → sent ≡ []

@@ -1,16 +1,22 @@
--- What a page's runs tell of the bytes of a volume.
-use Rattle.std.proofs.Common.{◌≡◌, inl, inr, ℕ, ◌+◌, ◌-◌, ◌*◌, ◌/◌, ◌<◌, ◌≤◌, Bool, true, false, Option, Some, None, List, [], ◌∷◌, ◌++◌, length, refl, sym, ap, subst, ◌∙◌, div-mul-le_self, mul-le-mul_right, arith}
+-- What a page's runs tell of the bytes of a volume, in each context.
+use Rattle.std.proofs.Common.{◌≡◌, ◌≢◌, inl, inr, ℕ, ◌+◌, ◌-◌, ◌*◌, ◌/◌, ◌<◌, ◌≤◌, Bool, true, false, Option, Some, None, List, [], ◌∷◌, ◌++◌, length, refl, sym, ap, subst, ◌∙◌, div-mul-le_self, mul-le-mul_right, arith}
 use Rattle.std.specs.Prelude.{IsSome, IsTrue, nat_lt, if◌then◌else◌}
 use Rattle.std.proofs.Math.Nat.{div-div-eq-div-mul, lt-div-mul-add}
-use Rattle.std.proofs.lemmas.Bool.{cases_lt, false≢true, lt-ltb, ltb-true}
+use Rattle.std.proofs.lemmas.Bool.{cases_eq, cases_lt, false≢true, lt-ltb, ltb-true}
 use Rattle.std.proofs.lemmas.List.{append-nil}
 use Rattle.std.proofs.lemmas.Nat.{div_below, le-div}
+use Rattle.std.proofs.lemmas.Option.{none-some, same_Some}
 use Rattle.tp_model.specs.Pool.{IsSound, PlainPool, slot_at}
+use Rattle.tp_model.proofs.Walking.{equal_sectors}
 use Rattle.tp_listings.specs.declared.extent.Extent.{Extent}
 use Rattle.tp_listings.specs.Listings.{AreApart, AreRunsOf, Covers}
 use Rattle.nbd_wire.specs.declared.Request.{Request}
+use Rattle.nbd_wire.specs.declared.contexts.MetaContext.{MetaContext}
+use Rattle.nbd_wire.specs.declared.contexts.MetaContext.TheVariants.{Allocation, Since}
 use Rattle.nbd_wire.specs.Contexts.{status_chunk}
-use Rattle.nbd_session.specs.Status.{AreTold, IsBlank, IsMapped, IsUnmapped, TellsOf, between, blocks_to, bytes_of, cut_to_one, extents_in, first_block, hole_to, unit_of, wants_one}
+use Rattle.nbd_session.specs.Holes.{Anything, data_to, read_extents}
+use Rattle.nbd_session.proofs.Holing.{spans_sum}
+use Rattle.nbd_session.specs.Status.{AreTold, IsBlank, IsEqual, IsMapped, IsOther, IsSame, IsUnmapped, TellsOf, between, blocks_to, bytes_of, cut_to_one, extents_in, first_block, gap_to, listed_flags, other_flags, unit_of, wants_one}
 
 -- ---- the nearest place
 
@@ -50,17 +56,17 @@ covers_from from (e ∷ es) b apart (inr h) =
 
 -- ---- extents
 
-module _ (Data Hole : ℕ → Type 0) where
+module _ (m : MetaContext) (Data Hole : ℕ → Type 0) where
   -- they tell from one byte up to another
   abbrev Fits : ℕ → ℕ → List (ℕ × ℕ) → Type 0
-  Fits at end xs = AreTold Data Hole at xs × (at + bytes_of xs ≡ end)
+  Fits at end xs = AreTold m Data Hole at xs × (at + bytes_of xs ≡ end)
 
   hole_by : (at to end : ℕ) (xs : List (ℕ × ℕ)) (b : Bool) → nat_lt at to ≡ b → at ≤ to → ((k : ℕ) → at ≤ k → k < to → Hole k) → Fits to end xs
-      → Fits at end ((if b then (to - at, 3) ∷ [] else []) ++ xs)
+      → Fits at end ((if b then (to - at, other_flags m) ∷ [] else []) ++ xs)
   hole_by at to end xs true e le holes fits =
       let lt : at < to = ltb-true at to e in
       let is : to ≡ at + (to - at) = omega (arith, le) in
-      let rest : AreTold Data Hole (at + (to - at)) xs = subst (λ (n : ℕ). AreTold Data Hole n xs) is fits.0 in
+      let rest : AreTold m Data Hole (at + (to - at)) xs = subst (λ (n : ℕ). AreTold m Data Hole n xs) is fits.0 in
       let sum : to + bytes_of xs ≡ end = fits.1 in
       ((omega (arith, lt), inr (refl, λ k l r. holes k l (omega (arith, r, le))), rest), omega (arith, sum, le))
   hole_by at to end xs false e le holes fits =
@@ -71,13 +77,13 @@ module _ (Data Hole : ℕ → Type 0) where
             subst (λ (n : ℕ). Fits n end xs) is fits
       ]
 
-  hole_then : (at to end : ℕ) (xs : List (ℕ × ℕ)) → at ≤ to → ((k : ℕ) → at ≤ k → k < to → Hole k) → Fits to end xs → Fits at end (hole_to at to ++ xs)
+  hole_then : (at to end : ℕ) (xs : List (ℕ × ℕ)) → at ≤ to → ((k : ℕ) → at ≤ k → k < to → Hole k) → Fits to end xs → Fits at end (gap_to m at to ++ xs)
   hole_then at to end xs le holes fits = hole_by at to end xs (nat_lt at to) refl le holes fits
 
-  run_then : (at to end : ℕ) (xs : List (ℕ × ℕ)) → at < to → ((k : ℕ) → at ≤ k → k < to → Data k) → Fits to end xs → Fits at end ((to - at, 0) ∷ xs)
+  run_then : (at to end : ℕ) (xs : List (ℕ × ℕ)) → at < to → ((k : ℕ) → at ≤ k → k < to → Data k) → Fits to end xs → Fits at end ((to - at, listed_flags m) ∷ xs)
   run_then at to end xs lt data_in fits =
       let is : to ≡ at + (to - at) = omega (arith, lt) in
-      let rest : AreTold Data Hole (at + (to - at)) xs = subst (λ (n : ℕ). AreTold Data Hole n xs) is fits.0 in
+      let rest : AreTold m Data Hole (at + (to - at)) xs = subst (λ (n : ℕ). AreTold m Data Hole n xs) is fits.0 in
       let sum : to + bytes_of xs ≡ end = fits.1 in
       ((omega (arith, lt), inl (refl, λ k l r. data_in k l (omega (arith, r, lt))), rest), omega (arith, sum, lt))
 
@@ -87,13 +93,13 @@ module _ (Data Hole : ℕ → Type 0) where
 
   all_fit : (unit from at end : ℕ) (runs : List Extent) → 0 < unit → AreApart from runs → at ≤ end → Lie unit at end runs
       → ((k : ℕ) → Covers runs (k / unit) → Data k) → ((k : ℕ) → at ≤ k → k < end → (Covers runs (k / unit) → ⊥) → Hole k)
-      → Fits at end (extents_in unit at end runs)
+      → Fits at end (extents_in m unit at end runs)
   all_fit unit from at end [] some apart le lie data_in holes =
-      subst (λ (xs : List (ℕ × ℕ)). Fits at end xs) (append-nil (hole_to at end))
+      subst (λ (xs : List (ℕ × ℕ)). Fits at end xs) (append-nil (gap_to m at end))
       (hole_then at end end [] le (λ k l r. holes k l r (λ h. h)) (tt, omega arith))
   all_fit unit from at end (e ∷ es) some apart le lie data_in holes =
-      hole_then at first end ((last - first, 0) ∷ extents_in unit last end es) at_first gap
-      (run_then first last end (extents_in unit last end es) grows inner
+      hole_then at first end ((last - first, listed_flags m) ∷ extents_in m unit last end es) at_first gap
+      (run_then first last end (extents_in m unit last end es) grows inner
       (all_fit unit (e.first + e.blocks + 1) last end es some apart.2 last_end lie_on (λ k h. data_in k (inr h)) holes_on))
     where
       first : ℕ
@@ -167,8 +173,8 @@ module _ (Data Hole : ℕ → Type 0) where
       ])
 
   -- one alone, or all of them
-  cut_told : (one : Bool) (at len : ℕ) (xs : List (ℕ × ℕ)) → AreTold Data Hole at xs → 0 < bytes_of xs → bytes_of xs ≤ len
-      → AreTold Data Hole at (cut_to_one one xs) × (0 < bytes_of (cut_to_one one xs)) × (bytes_of (cut_to_one one xs) ≤ len)
+  cut_told : (one : Bool) (at len : ℕ) (xs : List (ℕ × ℕ)) → AreTold m Data Hole at xs → 0 < bytes_of xs → bytes_of xs ≤ len
+      → AreTold m Data Hole at (cut_to_one one xs) × (0 < bytes_of (cut_to_one one xs)) × (bytes_of (cut_to_one one xs) ≤ len)
       × (IsTrue one → length (cut_to_one one xs) ≡ 1)
   cut_told false at len xs told some inside = (told, some, inside, λ h. absurd (false≢true h))
   cut_told true at len [] told some inside = absurd (omega (arith, some))
@@ -176,20 +182,27 @@ module _ (Data Hole : ℕ → Type 0) where
       let has = told.0 in
       ((has, told.1, tt), omega (arith, has), omega (arith, inside), λ h. refl)
 
--- ---- a page of a plain volume
+-- ---- all bytes of a READ
 
-no_slot : (o : Option ℕ) → (IsSome o → ⊥) → o ≡ None
-no_slot None n = refl
-no_slot (Some place) n = absurd (n refl)
+told_both : (Data Hole : ℕ → Type 0) (at : ℕ) (xs ys : List (ℕ × ℕ)) → AreTold Allocation Data Hole at xs → AreTold Allocation Data Hole (at + bytes_of xs) ys → AreTold Allocation Data Hole at (xs ++ ys)
+told_both Data Hole at [] ys told more = let here : at + 0 ≡ at = omega arith in subst (λ (n : ℕ). AreTold Allocation Data Hole n ys) here more
+told_both Data Hole at (x ∷ xs) ys told more =
+    let on : at + (x.0 + bytes_of xs) ≡ at + x.0 + bytes_of xs = omega arith in
+    (told.0, told.1, told_both Data Hole (at + x.0) xs ys told.2 (subst (λ (n : ℕ). AreTold Allocation Data Hole n ys) on more))
 
-module _ (s : PlainPool) (id : ℕ) (r : Request) (runs : List Extent) (blocks : ℕ) (some : 0 < r.len) (unit_some : 0 < unit_of s.geometry)
-    (few : first_block (unit_of s.geometry) r < 16777216)
-    (are : AreRunsOf runs (λ block. (first_block (unit_of s.geometry) r ≤ block) × (block < blocks) × IsSome (slot_at s id block)))
-    (goes_on : first_block (unit_of s.geometry) r < blocks_to (unit_of s.geometry) r → first_block (unit_of s.geometry) r < blocks)
-    (within : blocks ≤ blocks_to (unit_of s.geometry) r) where
-  abbrev pub unit : ℕ
-  unit = unit_of s.geometry
+data_told_by : (Hole : ℕ → Type 0) (at to : ℕ) (b : Bool) → nat_lt at to ≡ b → AreTold Allocation Anything Hole at (if b then (to - at, 0) ∷ [] else [])
+data_told_by Hole at to true e = let lt : at < to = ltb-true at to e in (omega (arith, lt), inl (refl, λ k l r. tt), tt)
+data_told_by Hole at to false e = tt
 
+data_told : (Hole : ℕ → Type 0) (at to : ℕ) → AreTold Allocation Anything Hole at (data_to at to)
+data_told Hole at to = data_told_by Hole at to (nat_lt at to) refl
+
+-- ---- a page
+
+-- Is: what the blocks are that the page lists
+module _ (Is : ℕ → Type 0) (unit : ℕ) (r : Request) (runs : List Extent) (blocks : ℕ) (some : 0 < r.len) (unit_some : 0 < unit) (few : first_block unit r < 16777216)
+    (are : AreRunsOf runs (λ block. (first_block unit r ≤ block) × (block < blocks) × Is block)) (goes_on : first_block unit r < blocks_to unit r → first_block unit r < blocks)
+    (within : blocks ≤ blocks_to unit r) where
   abbrev pub from : ℕ
   from = first_block unit r
 
@@ -246,41 +259,108 @@ module _ (s : PlainPool) (id : ℕ) (r : Request) (runs : List Extent) (blocks :
         omega (arith, f, up),
       )
 
-  data_in : (k : ℕ) → Covers runs (k / unit) → IsMapped s id k
-  data_in k h = (are.has (k / unit) h).2
+  listed_in : (k : ℕ) → Covers runs (k / unit) → Is (k / unit)
+  listed_in k h = (are.has (k / unit) h).2
 
-  holes : (k : ℕ) → r.offset ≤ k → k < end → (Covers runs (k / unit) → ⊥) → IsUnmapped s id k
-  holes k l lt n = no_slot (slot_at s id (k / unit)) (λ is. n (are.all (k / unit) (
+  left_out : (k : ℕ) → r.offset ≤ k → k < end → (Covers runs (k / unit) → ⊥) → Is (k / unit) → ⊥
+  left_out k l lt n is = n (are.all (k / unit) (
     le-div from k unit unit_some (omega (arith, down, l)),
     div_below k unit blocks unit_some (omega (arith, lt, end_in)),
     is,
-  )))
+  ))
 
-  page_fits : Fits (IsMapped s id) (IsUnmapped s id) r.offset end (extents_in unit r.offset end runs)
-  page_fits = all_fit (IsMapped s id) (IsUnmapped s id) unit 0 r.offset end runs unit_some are.apart (omega (arith, offset_end)) lie data_in holes
-
-  pub page_tells : (sent : List ℕ) → sent ≡ status_chunk r.cookie (cut_to_one (wants_one r) (extents_in unit r.offset end runs)) → TellsOf (IsMapped s id) (IsUnmapped s id) r sent
-  page_tells sent is =
-      let xs : List (ℕ × ℕ) = extents_in unit r.offset end runs in
-      let sum : r.offset + bytes_of xs ≡ end = page_fits.1 in
-      let cut = cut_told (IsMapped s id) (IsUnmapped s id) (wants_one r) r.offset r.len xs page_fits.0 (omega (arith, sum, offset_end)) (omega (arith, sum, end_most)) in
+  -- Such, Also: what each byte is, by its block
+  pub page_tells : (is_last : Bool) (m : MetaContext) (Such Also : ℕ → Type 0) → ((k : ℕ) → Is (k / unit) → Such k) → ((k : ℕ) → (Is (k / unit) → ⊥) → Also k) → (sent : List ℕ)
+      → sent ≡ status_chunk is_last m r.cookie (cut_to_one (wants_one r) (extents_in m unit r.offset end runs)) → TellsOf is_last m Such Also r sent
+  page_tells is_last m Such Also such also sent is =
+      let xs : List (ℕ × ℕ) = extents_in m unit r.offset end runs in
+      let fits : Fits m Such Also r.offset end xs =
+      all_fit m Such Also unit 0 r.offset end runs unit_some are.apart (omega (arith, offset_end)) lie (λ k h. such k (listed_in k h)) (λ k l lt n. also k (left_out k l lt n)) in
+      let sum : r.offset + bytes_of xs ≡ end = fits.1 in
+      let cut = cut_told m Such Also (wants_one r) r.offset r.len xs fits.0 (omega (arith, sum, offset_end)) (omega (arith, sum, end_most)) in
       record { extents = cut_to_one (wants_one r) xs; sent_is = is; told = cut.0; some = cut.1; inside = cut.2; one = cut.3 }
 
--- ---- zeros
+  -- all bytes of a READ, by a page of the blocks that are mapped: what is behind it is data
+  pub page_reads : (Also : ℕ → Type 0) → ((k : ℕ) → (Is (k / unit) → ⊥) → Also k)
+      → AreTold Allocation Anything Also r.offset (read_extents unit r runs blocks) × (bytes_of (read_extents unit r runs blocks) ≡ r.len)
+  page_reads Also also =
+      let xs : List (ℕ × ℕ) = extents_in Allocation unit r.offset end runs in
+      let fits : Fits Allocation Anything Also r.offset end xs =
+      all_fit Allocation Anything Also unit 0 r.offset end runs unit_some are.apart (omega (arith, offset_end)) lie (λ k h. tt) (λ k l lt n. also k (left_out k l lt n)) in
+      let sum : r.offset + bytes_of xs ≡ end = fits.1 in
+      let behind : AreTold Allocation Anything Also (r.offset + bytes_of xs) (data_to end (r.offset + r.len)) =
+      subst (λ (n : ℕ). AreTold Allocation Anything Also n (data_to end (r.offset + r.len))) (sym sum) (data_told Also end (r.offset + r.len)) in (
+        told_both Anything Also r.offset xs (data_to end (r.offset + r.len)) fits.0 behind,
+        spans_sum unit r.offset r.len blocks end runs xs (read_extents unit r runs blocks) refl refl refl,
+      )
 
-told_weaker : (Data Hole Also : ℕ → Type 0) → ((k : ℕ) → Hole k → Also k) → (at : ℕ) (xs : List (ℕ × ℕ)) → AreTold Data Hole at xs → AreTold Data Also at xs
-told_weaker Data Hole Also weaker at [] told = tt
-told_weaker Data Hole Also weaker at (x ∷ xs) told = (
+-- ---- where there is data, and where there are zeros
+
+no_slot : (o : Option ℕ) → (IsSome o → ⊥) → o ≡ None
+no_slot None n = refl
+no_slot (Some place) n = absurd (n refl)
+
+pub allocation_tells : (s : PlainPool) (id : ℕ) (is_last : Bool) (r : Request) (runs : List Extent) (blocks : ℕ) → 0 < r.len → 0 < unit_of s.geometry → first_block (unit_of s.geometry) r < 16777216
+    → AreRunsOf runs (λ block. (first_block (unit_of s.geometry) r ≤ block) × (block < blocks) × IsSome (slot_at s id block))
+    → (first_block (unit_of s.geometry) r < blocks_to (unit_of s.geometry) r → first_block (unit_of s.geometry) r < blocks) → blocks ≤ blocks_to (unit_of s.geometry) r → (sent : List ℕ)
+    → sent ≡ status_chunk is_last Allocation r.cookie (cut_to_one (wants_one r) (extents_in Allocation (unit_of s.geometry) r.offset (between r.offset (r.offset + r.len) (unit_of s.geometry * blocks)) runs))
+    → TellsOf is_last Allocation (IsMapped s id) (IsUnmapped s id) r sent
+allocation_tells s id is_last r runs blocks some unit_some few are goes_on within sent is =
+    page_tells (λ block. IsSome (slot_at s id block)) (unit_of s.geometry) r runs blocks some unit_some few are goes_on within is_last Allocation (IsMapped s id) (IsUnmapped s id) (λ k h. h)
+    (λ k n. no_slot (slot_at s id (k / unit_of s.geometry)) n) sent is
+
+pub read_tells : (s : PlainPool) (id : ℕ) (r : Request) (runs : List Extent) (blocks : ℕ) → 0 < r.len → 0 < unit_of s.geometry → first_block (unit_of s.geometry) r < 16777216
+    → AreRunsOf runs (λ block. (first_block (unit_of s.geometry) r ≤ block) × (block < blocks) × IsSome (slot_at s id block))
+    → (first_block (unit_of s.geometry) r < blocks_to (unit_of s.geometry) r → first_block (unit_of s.geometry) r < blocks) → blocks ≤ blocks_to (unit_of s.geometry) r
+    → AreTold Allocation Anything (IsUnmapped s id) r.offset (read_extents (unit_of s.geometry) r runs blocks) × (bytes_of (read_extents (unit_of s.geometry) r runs blocks) ≡ r.len)
+read_tells s id r runs blocks some unit_some few are goes_on within =
+    page_reads (λ block. IsSome (slot_at s id block)) (unit_of s.geometry) r runs blocks some unit_some few are goes_on within (IsUnmapped s id)
+    (λ k n. no_slot (slot_at s id (k / unit_of s.geometry)) n)
+
+told_weaker : (m : MetaContext) (Data Hole Also : ℕ → Type 0) → ((k : ℕ) → Hole k → Also k) → (at : ℕ) (xs : List (ℕ × ℕ)) → AreTold m Data Hole at xs → AreTold m Data Also at xs
+told_weaker m Data Hole Also weaker at [] told = tt
+told_weaker m Data Hole Also weaker at (x ∷ xs) told = (
   told.0,
   elim told.1 [
     | inl h ↦ inl h
     | inr h ↦ inr (h.0, λ k l r. weaker k (h.1 k l r))
   ],
-  told_weaker Data Hole Also weaker (at + x.0) xs told.2,
+  told_weaker m Data Hole Also weaker (at + x.0) xs told.2,
 )
 
-pub holes_are_blank : (s : PlainPool) (id at : ℕ) (xs : List (ℕ × ℕ)) → IsSound s → AreTold (IsMapped s id) (IsUnmapped s id) at xs → AreTold (IsMapped s id) (IsBlank s id) at xs
+pub holes_are_blank : (s : PlainPool) (id at : ℕ) (xs : List (ℕ × ℕ)) → IsSound s → AreTold Allocation (IsMapped s id) (IsUnmapped s id) at xs → AreTold Allocation (IsMapped s id) (IsBlank s id) at xs
 holes_are_blank s id at xs sound told =
-    told_weaker (IsMapped s id) (IsUnmapped s id) (IsBlank s id)
+    told_weaker Allocation (IsMapped s id) (IsUnmapped s id) (IsBlank s id)
     (λ k none_there x is. sound.lawful.unmapped id (k / 512) x
     (ap (λ (b : ℕ). slot_at s id b) (div-div-eq-div-mul k 512 s.geometry.block_sectors) ∙ none_there) is) at xs told
+
+-- ---- where a volume may differ from an older one
+
+-- slots that are not different are the same
+same_slots : (a b : Option ℕ) → ((a ≢ b) → ⊥) → a ≡ b
+same_slots None None h = refl
+same_slots None (Some y) h = absurd (h (λ e. none-some y e))
+same_slots (Some x) None h = absurd (h (λ e. none-some x (sym e)))
+same_slots (Some x) (Some y) h =
+    elim (cases_eq x y) [
+      | inl e ↦ ap Some e
+      | inr n ↦ absurd (h (λ e. n (same_Some x y e)))
+    ]
+
+pub since_tells : (s : PlainPool) (old id : ℕ) (is_last : Bool) (r : Request) (runs : List Extent) (blocks : ℕ) → 0 < r.len → 0 < unit_of s.geometry → first_block (unit_of s.geometry) r < 16777216
+    → AreRunsOf runs (λ block. (first_block (unit_of s.geometry) r ≤ block) × (block < blocks) × (slot_at s id block ≢ slot_at s old block))
+    → (first_block (unit_of s.geometry) r < blocks_to (unit_of s.geometry) r → first_block (unit_of s.geometry) r < blocks) → blocks ≤ blocks_to (unit_of s.geometry) r → (sent : List ℕ)
+    → sent ≡ status_chunk is_last Since r.cookie (cut_to_one (wants_one r) (extents_in Since (unit_of s.geometry) r.offset (between r.offset (r.offset + r.len) (unit_of s.geometry * blocks)) runs))
+    → TellsOf is_last Since (IsOther s old id) (IsSame s old id) r sent
+since_tells s old id is_last r runs blocks some unit_some few are goes_on within sent is =
+    page_tells (λ block. slot_at s id block ≢ slot_at s old block) (unit_of s.geometry) r runs blocks some unit_some few are goes_on within is_last Since (IsOther s old id) (IsSame s old id) (λ k h. h)
+    (λ k n. same_slots (slot_at s id (k / unit_of s.geometry)) (slot_at s old (k / unit_of s.geometry)) n) sent is
+
+pub clean_is_equal : (s : PlainPool) (old id at : ℕ) (xs : List (ℕ × ℕ)) → IsSound s → AreTold Since (IsOther s old id) (IsSame s old id) at xs → AreTold Since (IsOther s old id) (IsEqual s old id) at xs
+clean_is_equal s old id at xs sound told =
+    told_weaker Since (IsOther s old id) (IsSame s old id) (IsEqual s old id)
+    (λ k same_there here there is was.
+    let block : k / 512 / s.geometry.block_sectors ≡ k / unit_of s.geometry = div-div-eq-div-mul k 512 s.geometry.block_sectors in
+    let alike : slot_at s id (k / 512 / s.geometry.block_sectors) ≡ slot_at s old (k / 512 / s.geometry.block_sectors) =
+    ap (λ (b : ℕ). slot_at s id b) block ∙ (same_there ∙ ap (λ (b : ℕ). slot_at s old b) (sym block)) in
+    equal_sectors s id old (k / 512) here there sound.lawful sound.block_sectors alike is was) at xs told

@@ -1,10 +1,11 @@
 -- What follows the calls of a pool follows the steps of a session over it.
-use Rattle.std.proofs.Common.{◌≡◌, ℕ, ◌+◌, ◌⊎◌, Bool, true, false, List, [], ◌∷◌, length, Option, Some, None, refl, sym, ap, subst, inl, inr}
-use Rattle.std.specs.Prelude.{MatchOption, MatchBool, ◌==◌, if◌then◌else◌, nat_lt}
+use Rattle.std.proofs.Common.{◌≡◌, ℕ, ◌+◌, ◌/◌, ◌⊎◌, Bool, true, false, List, [], ◌∷◌, length, Option, Some, None, refl, sym, ap, subst, inl, inr}
+use Rattle.std.specs.Prelude.{MatchOption, MatchBool, ◌==◌, if◌then◌else◌, nat_le, nat_lt}
+use Rattle.std.specs.List.{concat}
 use Rattle.tp_model.specs.declared.mode.Mode.{Mode}
 use Rattle.tp_model.specs.Geometry.{Geometry}
 use Rattle.tp_model.specs.Pool.{Outline}
-use Rattle.tp_model.specs.Calls.{Call, Answer, Done, Found, Gave, Hold, LetGo, Line, NextId, Refused, Sized, Listed, VolumeBlocks, Walk, is_failed, is_read_only}
+use Rattle.tp_model.specs.Calls.{Call, Answer, Done, Found, Gave, Hold, LetGo, Line, NextId, Read, Refused, Sized, Listed, VolumeBlocks, Walk, is_failed, is_read_only}
 use Rattle.nbd_wire.specs.declared.Kind.{Kind}
 use Rattle.nbd_wire.specs.declared.Request.{Request}
 use Rattle.nbd_wire.specs.declared.TheConstants.{OPTION_ABORT, OPTION_EXPORT_NAME, OPTION_GO, OPTION_INFO, OPTION_LIST, OPTION_LIST_META_CONTEXT, OPTION_SET_META_CONTEXT, OPTION_STRUCTURED_REPLY}
@@ -18,13 +19,14 @@ use Rattle.nbd_session.specs.declared.phase.Phase.{Phase}
 use Rattle.nbd_session.specs.declared.phase.Phase.TheVariants.{Flags, Options, Transmission, Ended}
 use Rattle.nbd_session.specs.declared.request.Verdict.{Verdict}
 use Rattle.nbd_session.specs.declared.request.Verdict.TheVariants as verdicts
-use Rattle.nbd_session.specs.Requests.{bytes_of_blocks, is_last, part_call, rest_of, verdict_in}
+use Rattle.nbd_session.specs.Requests.{bytes_of_blocks, has_since, is_kept_apart, is_last, part_call, rest_of, verdict_in}
 use Rattle.tp_model.specs.declared.refusal.NbdError.TheVariants as errors
 use Rattle.tp_model.specs.Refusals.{nbd_code}
-use Rattle.nbd_wire.specs.Chunks.{error_chunk}
-use Rattle.nbd_wire.specs.Contexts.{asks_for, lists}
-use Rattle.nbd_session.specs.Status.{first_block, unit_of}
-use Rattle.nbd_session.specs.Session.{State, Outcome, outcome, option_error, VolumeOption, export_name, go, info, in_context, is_extended, kind_of, list_context, set_context, structures, transmission_flags, terms_of, LetsGo, Ends, Tells, Performs, Serves, IsMade, MakesPart, IsDeaf, IsSized, Sizes, IsHeld, Holds, Enters, Finds, AsksFor, LooksFor, is_there, IsInvalid, IsValid, Informs, Exports, Finding, IsEnough, IsLast, IsRefused, Lists, NamesAll, NamesNone, Answers, Waits, TakesFrame, Steps, Describes, Extends, IsDescribed, IsNoQuery, IsQueried, Queries, Walks}
+use Rattle.nbd_wire.specs.Chunks.{data_chunk, error_chunk}
+use Rattle.nbd_wire.specs.Contexts.{asks_for, lists, since_of}
+use Rattle.nbd_session.specs.Holes.{has_blank}
+use Rattle.nbd_session.specs.Status.{IsAllocation, first_block, unit_of}
+use Rattle.nbd_session.specs.Session.{State, Outcome, outcome, option_error, VolumeOption, export_name, go, info, is_extended, kind_of, list_context, set_context, structures, transmission_flags, terms_of, without_context, chunk_to, reply_to, LetsGo, Begins, Ends, Tells, Performs, Serves, IsMade, MakesPart, IsDeaf, IsSized, Sizes, IsHeld, Holds, Enters, Finds, AsksFor, LooksFor, is_there, IsInvalid, IsValid, Informs, Exports, Finding, IsEnough, IsLast, IsRefused, Lists, NamesAll, NamesNone, Answers, Waits, TakesFrame, Steps, Describes, Extends, Compares, IsDescribed, IsNoQuery, IsQueried, Queries, Seeks, SeeksFor, Walks, IsGiven, ReadsLong, SeeksHoles}
 
 -- Calls of one kind of pool, and Calls' of another. R: what stands between them, and goes on from call to call.
 module _ {D B : Type 0} (outline : D → Outline) (Calls : D → Call → Answer → D → Type 0) (outline' : B → Outline) (Calls' : B → Call → Answer → B → Type 0) (R : D → B → Type 0)
@@ -128,6 +130,104 @@ module _ {D B : Type 0} (outline : D → Outline) (Calls : D → Call → Answer
   finds_likewise o found id (Sized blocks) old new s sent next r h = absurd h
   finds_likewise o found id (Listed slots) old new s sent next r h = absurd h
 
+  asks_likewise : (o : VolumeOption) (id : ℕ) (old new : D) (s : B) (sent : List ℕ) (next : Phase) → R old s → AsksFor outline Calls o id old sent next new → Likewise (AsksFor outline' Calls' o id s sent next) new
+  asks_likewise o id old new s sent next r h =
+      let seen : outline' s ≡ outline old = same old s r in
+      let m = call_follows old h.looked s (NextId id) h.answer r h.calls in
+      let n = finds_likewise o (λ blocks. o.found id (bytes_of_blocks (outline old).geometry blocks) (transmission_flags (outline old))) id h.answer h.looked new m.0 sent next m.2 h.finds in
+      let P : Geometry → Type 0 = λ g. Finds outline' Calls' o (λ blocks. o.found id (bytes_of_blocks g blocks) (transmission_flags (outline' s))) id h.answer m.0 sent next n.0 in
+      let Q : Mode → Type 0 = λ k. Finds outline' Calls' o (λ blocks. o.found id (bytes_of_blocks (outline old).geometry blocks) (if is_read_only k then 0x6f else 0x6d)) id h.answer m.0 sent next n.0 in (
+        n.0,
+        record {
+          answer = h.answer;
+          looked = m.0;
+          calls = m.1;
+          finds = subst P (sym (ap (λ (p : Outline). p.geometry) seen)) (subst Q (sym (ap (λ (p : Outline). p.mode) seen)) n.1);
+        },
+        n.2,
+      )
+
+  looks_likewise : (o : VolumeOption) (name : List ℕ) (old new : D) (s : B) (sent : List ℕ) (next : Phase) → R old s → LooksFor outline Calls o name old sent next new → Likewise (LooksFor outline' Calls' o name s sent next) new
+  looks_likewise o name old new s sent next r (inl h) = let m = told_likewise o.missing old new s sent next r h.tells in (m.0, inl (record { no_id = h.no_id; tells = m.1 }), m.2)
+  looks_likewise o name old new s sent next r (inr h) = let m = asks_likewise o h.id old new s sent next r h.asks in (m.0, inr (record { id = h.id; name_is = h.name_is; asks = m.1 }), m.2)
+
+  -- and an older one before it
+  sought_likewise : (o : ℕ → VolumeOption) (name : List ℕ) (id : ℕ) (answer : Answer) (old new : D) (s : B) (sent : List ℕ) (next : Phase) → R old s
+      → Seeks outline Calls o name id answer old sent next new → Likewise (Seeks outline' Calls' o name id answer s sent next) new
+  sought_likewise o name id (Found least) old new s sent next r h = looks_likewise (o (if is_there id least then id else 16777216)) name old new s sent next r h
+  sought_likewise o name id (Refused reason) old new s sent next r h = told_likewise (outcome [] Ended) old new s sent next r h
+  sought_likewise o name id Done old new s sent next r h = absurd h
+  sought_likewise o name id (Gave sectors) old new s sent next r h = absurd h
+  sought_likewise o name id (Line bytes) old new s sent next r h = absurd h
+  sought_likewise o name id (Sized blocks) old new s sent next r h = absurd h
+  sought_likewise o name id (Listed slots) old new s sent next r h = absurd h
+
+  seeks_likewise : (o : ℕ → VolumeOption) (text name : List ℕ) (old new : D) (s : B) (sent : List ℕ) (next : Phase) → R old s
+      → SeeksFor outline Calls o text name old sent next new → Likewise (SeeksFor outline' Calls' o text name s sent next) new
+  seeks_likewise o text name old new s sent next r (inl h) = let m = looks_likewise (o 16777216) name old new s sent next r h.looks in (m.0, inl (record { no_id = h.no_id; looks = m.1 }), m.2)
+  seeks_likewise o text name old new s sent next r (inr h) =
+      let m = call_follows old h.looked s (NextId h.id) h.answer r h.calls in
+      let n = sought_likewise o name h.id h.answer h.looked new m.0 sent next m.2 h.seeks in
+      (n.0, inr (record { id = h.id; text_is = h.text_is; answer = h.answer; looked = m.0; calls = m.1; seeks = n.1 }), n.2)
+
+  -- ---- what is told of a volume
+
+  compares_likewise : (b : Bool) (x : Manner) (unit from : ℕ) (q : Request) (slots : List (ℕ × ℕ)) (old new : D) (s : B) (sent : List ℕ) → R old s
+      → MatchBool b (Compares outline Calls x unit from q slots old sent new) (IsAllocation true unit q slots sent × (new ≡ old))
+      → Likewise (λ s'. MatchBool b (Compares outline' Calls' x unit from q slots s sent s') (IsAllocation true unit q slots sent × (s' ≡ s))) new
+  compares_likewise true x unit from q slots old new s sent r h =
+      let m = call_follows old new s (Walk x.since from) h.answer r h.calls in
+      (m.0, record { answer = h.answer; calls = m.1; is_compared = h.is_compared }, m.2)
+  compares_likewise false x unit from q slots old new s sent r h = resting _ old new s h.1 r (h.0, refl)
+
+  described_likewise : (x : Manner) (unit from : ℕ) (q : Request) (answer : Answer) (old new : D) (s : B) (sent : List ℕ) → R old s
+      → IsDescribed outline Calls x unit from q answer old sent new → Likewise (IsDescribed outline' Calls' x unit from q answer s sent) new
+  described_likewise x unit from q (Listed slots) old new s sent r h = compares_likewise (has_since x) x unit from q slots old new s sent r h
+  described_likewise x unit from q (Refused reason) old new s sent r h = resting _ old new s h.1 r (h.0, refl)
+  described_likewise x unit from q Done old new s sent r h = absurd h
+  described_likewise x unit from q (Gave sectors) old new s sent r h = absurd h
+  described_likewise x unit from q (Line bytes) old new s sent r h = absurd h
+  described_likewise x unit from q (Found least) old new s sent r h = absurd h
+  described_likewise x unit from q (Sized blocks) old new s sent r h = absurd h
+
+  -- ---- a long READ in chunks
+
+  holes_likewise : (id unit : ℕ) (q : Request) (given sent : List ℕ) (old new : D) (s : B) → R old s → SeeksHoles outline Calls id unit q given old sent new
+      → Likewise (SeeksHoles outline' Calls' id unit q given s sent) new
+  holes_likewise id unit q given sent old new s r h =
+      let m = call_follows old new s (Walk id (first_block unit q)) h.answer r h.calls in
+      (m.0, record { answer = h.answer; calls = m.1; is_sought = h.is_sought }, m.2)
+
+  holes_by : (b : Bool) (id unit : ℕ) (q : Request) (given sent told : List ℕ) (old new : D) (s : B) → R old s
+      → MatchBool b (SeeksHoles outline Calls id unit q given old sent new) ((sent ≡ told) × (new ≡ old))
+      → Likewise (λ s'. MatchBool b (SeeksHoles outline' Calls' id unit q given s sent s') ((sent ≡ told) × (s' ≡ s))) new
+  holes_by true id unit q given sent told old new s r h = holes_likewise id unit q given sent old new s r h
+  holes_by false id unit q given sent told old new s r h = resting _ old new s h.1 r (h.0, refl)
+
+  told_given : (b c : Bool) (id unit : ℕ) (q : Request) (given sent told : List ℕ) (old new : D) (s : B) → R old s
+      → MatchBool b (MatchBool c (SeeksHoles outline Calls id unit q given old sent new) ((sent ≡ told) × (new ≡ old))) ((sent ≡ told) × (new ≡ old))
+      → Likewise (λ s'. MatchBool b (MatchBool c (SeeksHoles outline' Calls' id unit q given s sent s') ((sent ≡ told) × (s' ≡ s))) ((sent ≡ told) × (s' ≡ s))) new
+  told_given true c id unit q given sent told old new s r h = holes_by c id unit q given sent told old new s r h
+  told_given false c id unit q given sent told old new s r h = resting _ old new s h.1 r (h.0, refl)
+
+  given_likewise : (id unit : ℕ) (q : Request) (answer : Answer) (sent : List ℕ) (old new : D) (s : B) → R old s → IsGiven outline Calls id unit q answer old sent new
+      → Likewise (IsGiven outline' Calls' id unit q answer s sent) new
+  given_likewise id unit q (Gave sectors) sent old new s r h =
+      told_given (has_blank q (concat sectors)) (nat_lt (first_block unit q) 16777216) id unit q (concat sectors) sent (data_chunk true q.cookie q.offset (concat sectors)) old new s r h
+  given_likewise id unit q Done sent old new s r h = resting _ old new s h.1 r (h.0, refl)
+  given_likewise id unit q (Line bytes) sent old new s r h = resting _ old new s h.1 r (h.0, refl)
+  given_likewise id unit q (Found least) sent old new s r h = resting _ old new s h.1 r (h.0, refl)
+  given_likewise id unit q (Sized blocks) sent old new s r h = resting _ old new s h.1 r (h.0, refl)
+  given_likewise id unit q (Listed slots) sent old new s r h = resting _ old new s h.1 r (h.0, refl)
+  given_likewise id unit q (Refused reason) sent old new s r h = resting _ old new s h.1 r (h.0, refl)
+
+  long_likewise : (id : ℕ) (q : Request) (sent : List ℕ) (old new : D) (s : B) → R old s → ReadsLong outline Calls id q old sent new → Likewise (ReadsLong outline' Calls' id q s sent) new
+  long_likewise id q sent old new s r h =
+      let m = call_follows old h.asked s (Read id (q.offset / 512) (q.len / 512)) h.answer r h.calls in
+      let n = given_likewise id (unit_of (outline old).geometry) q h.answer sent h.asked new m.0 m.2 h.is_given in
+      let G : Geometry → Type 0 = λ g. IsGiven outline' Calls' id (unit_of g) q h.answer m.0 sent n.0 in
+      (n.0, record { answer = h.answer; asked = m.0; calls = m.1; is_given = subst G (sym (ap (λ (p : Outline). p.geometry) (same old s r))) n.1 }, n.2)
+
   module _ (old new : D) (s : B) (is_shown : R old s) where
     same_mode : (outline' s).mode ≡ (outline old).mode
     same_mode = ap (λ (p : Outline). p.mode) (same old s is_shown)
@@ -154,35 +254,62 @@ module _ {D B : Type 0} (outline : D → Outline) (Calls : D → Call → Answer
         → Likewise (λ s'. Performs outline' Calls' call reply s sent s' × (next ≡ Transmission v n (Listens x))) new
     performed call reply v n x sent next h = let m = performs_likewise call reply sent h.0 in (m.0, (m.1, h.1), m.2)
 
+    begun_likewise : (call : Call) (v n : ℕ) (x : Manner) (r : Request) (sent : List ℕ) (next : Phase) → Begins outline Calls call v n x r old sent next new
+        → Likewise (Begins outline' Calls' call v n x r s sent next) new
+    begun_likewise call v n x r sent next h = let m = call_likewise call h.answer h.calls in (m.0, record { answer = h.answer; calls = m.1; is_begun = h.is_begun }, m.2)
+
+    written_likewise : (b : Bool) (apart call : Call) (v n : ℕ) (x : Manner) (r : Request) (sent : List ℕ) (next : Phase)
+        → MatchBool b (Begins outline Calls apart v n x r old sent next new) (Performs outline Calls call (reply_to r.cookie) old sent new × (next ≡ Transmission v n (Listens x)))
+        → Likewise (λ s'. MatchBool b (Begins outline' Calls' apart v n x r s sent next s') (Performs outline' Calls' call (reply_to r.cookie) s sent s' × (next ≡ Transmission v n (Listens x)))) new
+    written_likewise true apart call v n x r sent next h = begun_likewise apart v n x r sent next h
+    written_likewise false apart call v n x r sent next h = performed call (reply_to r.cookie) v n x sent next h
+
     tells_likewise : (o : Outcome) (sent : List ℕ) (next : Phase) → Tells outline Calls o old sent next new → Likewise (Tells outline' Calls' o s sent next) new
     tells_likewise o sent next h = resting _ old new s h.2 is_shown (h.0, h.1, refl)
 
-    described_by : (b : Bool) (v : ℕ) (r : Request) (sent told : List ℕ) → MatchBool b (Walks outline Calls v r old sent new) ((sent ≡ told) × (new ≡ old))
-        → Likewise (λ s'. MatchBool b (Walks outline' Calls' v r s sent s') ((sent ≡ told) × (s' ≡ s))) new
-    described_by true v r sent told h =
-        let P : Geometry → Type 0 = λ g. Likewise (Calls' s (Walk v (first_block (unit_of g) r)) h.answer) new in
-        let m = subst P (sym same_geometry) (call_likewise (Walk v (first_block (unit_of (outline old).geometry) r)) h.answer h.calls) in
-        let Q : Geometry → Type 0 = λ g. IsDescribed (unit_of g) r h.answer sent in
-        (m.0, record { answer = h.answer; calls = m.1; is_described = subst Q (sym same_geometry) h.is_described }, m.2)
-    described_by false v r sent told h = resting _ old new s h.1 is_shown (h.0, refl)
+    described_by : (b : Bool) (x : Manner) (v : ℕ) (r : Request) (sent told : List ℕ) → MatchBool b (Walks outline Calls x v r old sent new) ((sent ≡ told) × (new ≡ old))
+        → Likewise (λ s'. MatchBool b (Walks outline' Calls' x v r s sent s') ((sent ≡ told) × (s' ≡ s))) new
+    described_by true x v r sent told h =
+        let unit : ℕ = unit_of (outline old).geometry in
+        let from : ℕ = first_block unit r in
+        let m = call_follows old h.walked s (Walk v from) h.answer is_shown h.calls in
+        let n = described_likewise x unit from r h.answer h.walked new m.0 sent m.2 h.is_described in
+        let P : Geometry → Type 0 = λ g. Calls' s (Walk v (first_block (unit_of g) r)) h.answer m.0 in
+        let Q : Geometry → Type 0 = λ g. IsDescribed outline' Calls' x (unit_of g) (first_block (unit_of g) r) r h.answer m.0 sent n.0 in
+        (n.0, record { answer = h.answer; walked = m.0; calls = subst P (sym same_geometry) m.1; is_described = subst Q (sym same_geometry) n.1 }, n.2)
+    described_by false x v r sent told h = resting _ old new s h.1 is_shown (h.0, refl)
 
-    describes_likewise : (v : ℕ) (r : Request) (sent : List ℕ) → Describes outline Calls v r old sent new → Likewise (Describes outline' Calls' v r s sent) new
-    describes_likewise v r sent h =
-        let P : Geometry → Type 0 = λ g. Likewise (λ s'. MatchBool (nat_lt (first_block (unit_of g) r) 16777216) (Walks outline' Calls' v r s sent s')
+    describes_likewise : (x : Manner) (v : ℕ) (r : Request) (sent : List ℕ) → Describes outline Calls x v r old sent new → Likewise (Describes outline' Calls' x v r s sent) new
+    describes_likewise x v r sent h =
+        let P : Geometry → Type 0 = λ g. Likewise (λ s'. MatchBool (nat_lt (first_block (unit_of g) r) 16777216) (Walks outline' Calls' x v r s sent s')
         ((sent ≡ error_chunk (nbd_code errors.Invalid) r.cookie) × (s' ≡ s))) new in
-        subst P (sym same_geometry) (described_by (nat_lt (first_block (unit_of (outline old).geometry) r) 16777216) v r sent _ h)
+        subst P (sym same_geometry) (described_by (nat_lt (first_block (unit_of (outline old).geometry) r) 16777216) x v r sent _ h)
+
+    chunks_by : (b : Bool) (v : ℕ) (q : Request) (sent : List ℕ)
+        → MatchBool b (ReadsLong outline Calls v q old sent new) (Performs outline Calls (Read v (q.offset / 512) (q.len / 512)) (chunk_to q) old sent new)
+        → Likewise (λ s'. MatchBool b (ReadsLong outline' Calls' v q s sent s') (Performs outline' Calls' (Read v (q.offset / 512) (q.len / 512)) (chunk_to q) s sent s')) new
+    chunks_by true v q sent h = long_likewise v q sent old new s is_shown h
+    chunks_by false v q sent h = performs_likewise (Read v (q.offset / 512) (q.len / 512)) (chunk_to q) sent h
+
+    reads_by : (b c : Bool) (v : ℕ) (q : Request) (sent : List ℕ)
+        → MatchBool b (MatchBool c (ReadsLong outline Calls v q old sent new) (Performs outline Calls (Read v (q.offset / 512) (q.len / 512)) (chunk_to q) old sent new))
+        (Performs outline Calls (Read v (q.offset / 512) (q.len / 512)) (reply_to q.cookie) old sent new)
+        → Likewise (λ s'. MatchBool b (MatchBool c (ReadsLong outline' Calls' v q s sent s') (Performs outline' Calls' (Read v (q.offset / 512) (q.len / 512)) (chunk_to q) s sent s'))
+        (Performs outline' Calls' (Read v (q.offset / 512) (q.len / 512)) (reply_to q.cookie) s sent s')) new
+    reads_by true c v q sent h = chunks_by c v q sent h
+    reads_by false c v q sent h = performs_likewise (Read v (q.offset / 512) (q.len / 512)) (reply_to q.cookie) sent h
 
     serves_likewise : (d : Verdict) (v n : ℕ) (x : Manner) (r : Request) (payload sent : List ℕ) (next : Phase) → Serves outline Calls d v n x r payload old sent next new
         → Likewise (Serves outline' Calls' d v n x r payload s sent next) new
     serves_likewise verdicts.Disconnect v n x r payload sent next h = ends_likewise [] (Transmission v n (Listens x)) next sent h
     serves_likewise (verdicts.Refuse e) v n x r payload sent next h = tells_likewise _ sent next h
     serves_likewise verdicts.Nothing v n x r payload sent next h = tells_likewise _ sent next h
-    serves_likewise verdicts.Read v n x r payload sent next h = performed _ _ v n x sent next h
-    serves_likewise verdicts.Write v n x r payload sent next h = performed _ _ v n x sent next h
+    serves_likewise verdicts.Read v n x r payload sent next h = let m = reads_by x.is_structured (nat_le 65536 r.len) v r sent h.0 in (m.0, (m.1, h.1), m.2)
+    serves_likewise verdicts.Write v n x r payload sent next h = written_likewise (is_kept_apart x r) _ _ v n x r sent next h
     serves_likewise verdicts.Trim v n x r payload sent next h = performed _ _ v n x sent next h
     serves_likewise verdicts.WriteZeroes v n x r payload sent next h = performed _ _ v n x sent next h
     serves_likewise verdicts.Flush v n x r payload sent next h = performed _ _ v n x sent next h
-    serves_likewise verdicts.Status v n x r payload sent next h = let m = describes_likewise v r sent h.0 in (m.0, (m.1, h.1), m.2)
+    serves_likewise verdicts.Status v n x r payload sent next h = let m = describes_likewise x v r sent h.0 in (m.0, (m.1, h.1), m.2)
     serves_likewise verdicts.Long v n x r payload sent next h = tells_likewise _ sent next h
 
     pub part_likewise : (v n : ℕ) (x : Manner) (r : Request) (sent : List ℕ) (next : Phase) → MakesPart outline Calls v n x r old sent next new → Likewise (MakesPart outline' Calls' v n x r s sent next) new
@@ -192,25 +319,13 @@ module _ {D B : Type 0} (outline : D → Outline) (Calls : D → Call → Answer
         let Q : Geometry → Type 0 = λ g. IsMade v n x r (rest_of g r) (is_last g r) h.answer sent next in
         (m.0, record { answer = h.answer; calls = m.1; is_made = subst Q (sym same_geometry) h.is_made }, m.2)
 
-    asks_likewise : (o : VolumeOption) (id : ℕ) (sent : List ℕ) (next : Phase) → AsksFor outline Calls o id old sent next new → Likewise (AsksFor outline' Calls' o id s sent next) new
-    asks_likewise o id sent next h =
-        let m = call_follows old h.looked s (NextId id) h.answer is_shown h.calls in
-        let n = finds_likewise o (λ blocks. o.found id (bytes_of_blocks (outline old).geometry blocks) (transmission_flags (outline old))) id h.answer h.looked new m.0 sent next m.2 h.finds in
-        let P : Geometry → Type 0 = λ g. Finds outline' Calls' o (λ blocks. o.found id (bytes_of_blocks g blocks) (transmission_flags (outline' s))) id h.answer m.0 sent next n.0 in
-        let Q : Mode → Type 0 = λ k. Finds outline' Calls' o (λ blocks. o.found id (bytes_of_blocks (outline old).geometry blocks) (if is_read_only k then 0x6f else 0x6d)) id h.answer m.0 sent next n.0 in
-        (n.0, record { answer = h.answer; looked = m.0; calls = m.1; finds = subst P (sym (same_geometry)) (subst Q (sym (same_mode)) n.1) }, n.2)
-
-    looks_likewise : (o : VolumeOption) (name sent : List ℕ) (next : Phase) → LooksFor outline Calls o name old sent next new → Likewise (LooksFor outline' Calls' o name s sent next) new
-    looks_likewise o name sent next (inl h) = let m = tells_likewise o.missing sent next h.tells in (m.0, inl (record { no_id = h.no_id; tells = m.1 }), m.2)
-    looks_likewise o name sent next (inr h) = let m = asks_likewise o h.id sent next h.asks in (m.0, inr (record { id = h.id; name_is = h.name_is; asks = m.1 }), m.2)
-
     informs_by : (b : Bool) (option : ℕ) (o : VolumeOption) (z : Terms) (payload sent : List ℕ) (next : Phase)
         → MatchBool b (Ends outline Calls [] (Options z) old sent next new) (IsInvalid outline Calls option z payload old sent next new ⊎ IsValid outline Calls o payload old sent next new)
         → Likewise (λ s'. MatchBool b (Ends outline' Calls' [] (Options z) s sent next s') (IsInvalid outline' Calls' option z payload s sent next s' ⊎ IsValid outline' Calls' o payload s sent next s')) new
     informs_by true option o z payload sent next h = ends_likewise [] (Options z) next sent h
     informs_by false option o z payload sent next (inl h) = let m = tells_likewise _ sent next h.tells in (m.0, inl (record { no_info = h.no_info; tells = m.1 }), m.2)
     informs_by false option o z payload sent next (inr h) =
-        let m = looks_likewise o h.name sent next h.looks in
+        let m = looks_likewise o h.name old new s sent next is_shown h.looks in
         (m.0, inr (record { name = h.name; types = h.types; info = h.info; looks = m.1 }), m.2)
 
     informs_likewise : (option : ℕ) (o : VolumeOption) (z : Terms) (payload sent : List ℕ) (next : Phase) → Informs outline Calls option o z payload old sent next new → Likewise (Informs outline' Calls' option o z payload s sent next) new
@@ -223,7 +338,7 @@ module _ {D B : Type 0} (outline : D → Outline) (Calls : D → Call → Answer
         → MatchBool b (Ends outline Calls [] (Options z) old sent next new) (LooksFor outline Calls o name old sent next new)
         → Likewise (λ s'. MatchBool b (Ends outline' Calls' [] (Options z) s sent next s') (LooksFor outline' Calls' o name s sent next s')) new
     exports_by true o z name sent next h = ends_likewise [] (Options z) next sent h
-    exports_by false o z name sent next h = looks_likewise o name sent next h
+    exports_by false o z name sent next h = looks_likewise o name old new s sent next is_shown h
 
     exports_likewise : (o : VolumeOption) (z : Terms) (name sent : List ℕ) (next : Phase) → Exports outline Calls o z name old sent next new → Likewise (Exports outline' Calls' o z name s sent next) new
     exports_likewise o z name sent next h =
@@ -261,7 +376,7 @@ module _ {D B : Type 0} (outline : D → Outline) (Calls : D → Call → Answer
         (MatchBool (length payload == 0) (NamesAll outline' Calls' z s sent next s' ⊎ NamesNone outline' Calls' s sent next s') (Tells outline' Calls' (option_error OPTION_LIST Invalid z) s sent next s'))) new in
         subst P (sym (same_mode)) (lists_by (is_failed (outline old).mode) z payload sent next h)
 
-    queries_by : (b c : Bool) (option : ℕ) (asks : List (List ℕ) → Bool) (o : Bool → VolumeOption) (z y : Terms) (payload sent : List ℕ) (next : Phase)
+    queries_by : (b c : Bool) (option : ℕ) (asks : List (List ℕ) → Bool) (o : Bool → ℕ → VolumeOption) (z y : Terms) (payload sent : List ℕ) (next : Phase)
         → MatchBool b (Ends outline Calls [] (Options z) old sent next new)
         (MatchBool c (IsNoQuery outline Calls option y payload old sent next new ⊎ IsQueried outline Calls asks o payload old sent next new) (Tells outline Calls (option_error option Invalid y) old sent next new))
         → Likewise (λ s'. MatchBool b (Ends outline' Calls' [] (Options z) s sent next s')
@@ -269,11 +384,11 @@ module _ {D B : Type 0} (outline : D → Outline) (Calls : D → Call → Answer
     queries_by true c option asks o z y payload sent next h = ends_likewise [] (Options z) next sent h
     queries_by false true option asks o z y payload sent next (inl h) = let m = tells_likewise _ sent next h.tells in (m.0, inl (record { no_query = h.no_query; tells = m.1 }), m.2)
     queries_by false true option asks o z y payload sent next (inr h) =
-        let m = looks_likewise (o (asks h.queries)) h.name sent next h.looks in
-        (m.0, inr (record { name = h.name; queries = h.queries; query = h.query; looks = m.1 }), m.2)
+        let m = seeks_likewise (o (asks h.queries)) (since_of h.queries) h.name old new s sent next is_shown h.seeks in
+        (m.0, inr (record { name = h.name; queries = h.queries; query = h.query; seeks = m.1 }), m.2)
     queries_by false false option asks o z y payload sent next h = tells_likewise (option_error option Invalid y) sent next h
 
-    queries_likewise : (option : ℕ) (asks : List (List ℕ) → Bool) (o : Bool → VolumeOption) (z y : Terms) (payload sent : List ℕ) (next : Phase) → Queries outline Calls option asks o z y payload old sent next new
+    queries_likewise : (option : ℕ) (asks : List (List ℕ) → Bool) (o : Bool → ℕ → VolumeOption) (z y : Terms) (payload sent : List ℕ) (next : Phase) → Queries outline Calls option asks o z y payload old sent next new
         → Likewise (Queries outline' Calls' option asks o z y payload s sent next) new
     queries_likewise option asks o z y payload sent next h =
         let P : Mode → Type 0 = λ m. Likewise (λ s'. MatchBool (is_failed m) (Ends outline' Calls' [] (Options z) s sent next s')
@@ -283,15 +398,15 @@ module _ {D B : Type 0} (outline : D → Outline) (Calls : D → Call → Answer
     extends_likewise : (is_chunks is_list is_set : Bool) (z : Terms) (option : ℕ) (payload sent : List ℕ) (next : Phase)
         → MatchBool is_chunks (Tells outline Calls (structures z payload) old sent next new)
         (MatchBool is_list (Queries outline Calls OPTION_LIST_META_CONTEXT lists (list_context z) z z payload old sent next new)
-        (MatchBool is_set (Queries outline Calls OPTION_SET_META_CONTEXT asks_for (set_context z) z (in_context z 16777216) payload old sent next new)
+        (MatchBool is_set (Queries outline Calls OPTION_SET_META_CONTEXT asks_for (set_context z) z (without_context z) payload old sent next new)
         (Tells outline Calls (option_error option Unsupported z) old sent next new)))
         → Likewise (λ s'. MatchBool is_chunks (Tells outline' Calls' (structures z payload) s sent next s')
         (MatchBool is_list (Queries outline' Calls' OPTION_LIST_META_CONTEXT lists (list_context z) z z payload s sent next s')
-        (MatchBool is_set (Queries outline' Calls' OPTION_SET_META_CONTEXT asks_for (set_context z) z (in_context z 16777216) payload s sent next s')
+        (MatchBool is_set (Queries outline' Calls' OPTION_SET_META_CONTEXT asks_for (set_context z) z (without_context z) payload s sent next s')
         (Tells outline' Calls' (option_error option Unsupported z) s sent next s')))) new
     extends_likewise true is_list is_set z option payload sent next h = tells_likewise (structures z payload) sent next h
     extends_likewise false true is_set z option payload sent next h = queries_likewise OPTION_LIST_META_CONTEXT lists (list_context z) z z payload sent next h
-    extends_likewise false false true z option payload sent next h = queries_likewise OPTION_SET_META_CONTEXT asks_for (set_context z) z (in_context z 16777216) payload sent next h
+    extends_likewise false false true z option payload sent next h = queries_likewise OPTION_SET_META_CONTEXT asks_for (set_context z) z (without_context z) payload sent next h
     extends_likewise false false false z option payload sent next h = tells_likewise (option_error option Unsupported z) sent next h
 
     chosen_by : (is_go is_info is_export is_list is_abort is_long : Bool) (z : Terms) (option : ℕ) (payload sent : List ℕ) (next : Phase)

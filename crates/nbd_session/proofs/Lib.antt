@@ -16,3 +16,6 @@ pub mod Parting
 pub mod Judging
 pub mod Spanning
 pub mod Exact
+pub mod Telling
+pub mod Holing
+pub mod Filling

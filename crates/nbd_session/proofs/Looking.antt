@@ -1,14 +1,15 @@
--- What an option does that holds the volume it looks for, by what the calls for it told.
-use Rattle.std.proofs.Common.{◌≡◌, ℕ, Bool, true, false, List, sym, subst}
-use Rattle.std.specs.Prelude.{Ok, Err, MatchBool, Some}
+-- What an option does that holds the volume it looks for, and one that asks since an older one, by what the calls for it told.
+use Rattle.std.proofs.Common.{◌≡◌, ℕ, Bool, true, false, List, inl, inr, sym, subst}
+use Rattle.std.specs.Prelude.{Ok, Err, MatchBool, Some, if◌then◌else◌}
 use Rattle.tp_model.specs.declared.refusal.Refusal.{Refusal}
 use Rattle.tp_model.specs.Geometry.{Geometry}
 use Rattle.tp_model.specs.Pool.{Outline}
-use Rattle.tp_model.specs.Calls.{Answer, Call, Found}
+use Rattle.tp_model.specs.Calls.{Answer, Call, Found, Refused}
 use Rattle.nbd_session.specs.declared.phase.Phase.{Phase}
 use Rattle.nbd_session.specs.Requests.{bytes_of_blocks}
-use Rattle.nbd_session.specs.Session.{AsksFor, Enters, Holds, Outcome, Tells, VolumeOption, is_there, transmission_flags}
-use Rattle.nbd_session.specs.Looking.{Learns, LooksUp, TakesHold}
+use Rattle.nbd_wire.specs.Contexts.{IsQuery, since_of}
+use Rattle.nbd_session.specs.Session.{AsksFor, Enters, Holds, IsNameOf, IsQueried, LooksFor, Outcome, SeeksFor, Tells, VolumeOption, is_there, transmission_flags}
+use Rattle.nbd_session.specs.Looking.{Learns, LooksUp, Sought, TakesHold}
 
 module _ {S : Type 0} (outline : S → Outline) (Calls : S → Call → Answer → S → Type 0) where
   there_by : (b : Bool) (o : VolumeOption) (found : ℕ → Outcome) (id : ℕ) (p p' : S) (sent : List ℕ) (next : Phase) → b ≡ true → Enters outline Calls o.holds found id p sent next p'
@@ -40,3 +41,27 @@ module _ {S : Type 0} (outline : S → Outline) (Calls : S → Call → Answer �
     pub hold_refused : (reason : Refusal) → LooksUp outline Calls id (Ok true) p q → TakesHold outline Calls g id (Err reason) q p' → Learns outline Calls true id (Err reason) p p'
     hold_refused reason looks takes o sent next h out =
         is_found o sent next looks (enters_held o.holds _ sent next h (takes (λ n. o.found id n (transmission_flags (outline p))) sent next out))
+
+  -- an older volume that is asked since: what a query said names none, or one that is there, or one that is not; or it was refused to look for it
+  pub unsought : (text : List ℕ) (p : S) → ((id : ℕ) → IsNameOf text id → ⊥) → Sought outline Calls text (Ok 16777216) p p
+  unsought text p none o name sent next q looks = inl (record { no_id = none; looks = looks })
+
+  pub sought : (there : Bool) (text : List ℕ) (id : ℕ) (p p' : S) → IsNameOf text id → LooksUp outline Calls id (Ok there) p p' → Sought outline Calls text (Ok (if there then id else 16777216)) p p'
+  sought there text id p p' is (least, found, calls) o name sent next q looks =
+      let P : Bool → Type 0 = λ b. LooksFor outline Calls (o (if b then id else 16777216)) name p' sent next q in
+      inr (record { id = id; text_is = is; answer = Found least; looked = p'; calls = calls; seeks = subst P found looks })
+
+  pub sought_refused : (text : List ℕ) (id : ℕ) (p p' : S) (reason : Refusal) → IsNameOf text id → LooksUp outline Calls id (Err reason) p p' → Sought outline Calls text (Err reason) p p'
+  sought_refused text id p p' reason is calls o name sent next q tells = inr (record { id = id; text_is = is; answer = Refused reason; looked = p'; calls = calls; seeks = tells })
+
+  -- an option with queries, by what was read of them
+  pub queried : (asks : List (List ℕ) → Bool) (o : Bool → ℕ → VolumeOption) (payload name text : List ℕ) (b : Bool) (queries : List (List ℕ)) (p p' : S) (sent : List ℕ) (next : Phase)
+      → IsQuery payload name queries → b ≡ asks queries → text ≡ since_of queries → SeeksFor outline Calls (o b) text name p sent next p' → IsQueried outline Calls asks o payload p sent next p'
+  queried asks o payload name text b queries p p' sent next query b_is text_is seeks = record {
+    name = name;
+    queries = queries;
+    query = query;
+    seeks =
+        subst (λ (x : Bool). SeeksFor outline Calls (o x) (since_of queries) name p sent next p') b_is
+        (subst (λ (t : List ℕ). SeeksFor outline Calls (o b) t name p sent next p') text_is seeks);
+  }

@@ -13,7 +13,7 @@ use Rattle.nbd_wire.specs.declared.Request.{Request}
 use Rattle.nbd_session.specs.declared.phase.Course.TheVariants.{Listens, Works}
 use Rattle.nbd_session.specs.declared.phase.Manner.{Manner}
 use Rattle.nbd_session.specs.declared.phase.Phase.TheVariants.{Transmission}
-use Rattle.nbd_session.specs.Requests.{behind, form_of, has_fua, has_no_hole, is_last, len_of_part, part_call, rest_of, up_to_cut}
+use Rattle.nbd_session.specs.Requests.{IsLeft, IsWhole, behind, form_of, has_fua, has_no_hole, is_last, len_of_part, long_call, part_call, rest_of, to_keep, up_to_cut}
 use Rattle.nbd_session.specs.Session.{IsMade, MakesPart, reply_to}
 
 -- as many whole blocks as 2048 sectors have are one at least
@@ -54,14 +54,29 @@ by_other : (b : Bool) (trim zeroes : Call) → b ≡ false → zeroes ≡ (if b 
 by_other false trim zeroes e = refl
 by_other true trim zeroes e = absurd cc
 
-pub trim_is : (id : ℕ) (g : Geometry) (r : Request) (count : ℕ) (fua : Bool) → is_trim (form_of r) ≡ true → count ≡ len_of_part g r / 512 → fua ≡ (has_fua r && is_last g r) → Trim id (r.offset / 512) count fua ≡ part_call id g r
+pub trim_is : (id : ℕ) (g : Geometry) (r : Request) (count : ℕ) (fua : Bool) → is_trim (form_of r) ≡ true → count ≡ len_of_part g r / 512 → fua ≡ (has_fua r && is_last g r) → Trim id (r.offset / 512) count fua ≡ long_call id g r
 trim_is id g r count fua is c f = by_kind (is_trim (form_of r)) _ (WriteZeroes id (r.offset / 512) count (has_no_hole r) fua) is ∙ both_calls id g r count fua (is_trim (form_of r)) c f
 
 pub zeroes_are : (id : ℕ) (g : Geometry) (r : Request) (count : ℕ) (no_hole fua : Bool) → is_trim (form_of r) ≡ false → count ≡ len_of_part g r / 512 → no_hole ≡ has_no_hole r → fua ≡ (has_fua r && is_last g r)
-    → WriteZeroes id (r.offset / 512) count no_hole fua ≡ part_call id g r
+    → WriteZeroes id (r.offset / 512) count no_hole fua ≡ long_call id g r
 zeroes_are id g r count no_hole fua is c n f =
     ap (λ (x : Bool). WriteZeroes id (r.offset / 512) count x fua) n
     ∙ (by_other (is_trim (form_of r)) (Trim id (r.offset / 512) count fua) _ is ∙ both_calls id g r count fua (is_trim (form_of r)) c f)
+
+-- ---- what is left of a WRITE
+
+-- a FLUSH that counts as a sector of it
+pub left_to_keep : (size : ℕ) (r : Request) → IsWhole size r → 0 < r.len → IsLeft size (to_keep r)
+left_to_keep size r whole some =
+    let len = whole.len in
+    let inside = whole.inside in
+    record {
+      some = omega arith;
+      few = omega arith;
+      offset = whole.offset;
+      len = omega arith;
+      inside = omega (arith, len, inside, some);
+    }
 
 -- ---- what is told of it
 

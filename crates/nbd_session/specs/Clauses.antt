@@ -100,8 +100,9 @@ module _ {D : Type 0} (view : View D) where
     pub more : (id : ℕ) → 0 < held_beside old (view.outline pool).holds id → view.more after id ≡ view.more pool id
 
   -- One step. What is sent is the answer to the frame that ends in what was taken, as the pool answered the calls that the frame makes of it:
-  -- those of NextId for LIST, one of NextId, Hold and VolumeBlocks each at most for another option, and one at most for another frame. One of LetGo may
-  -- be the last, where the session ends. A session that has parts of a request left makes one, and takes nothing.
+  -- those of NextId for LIST, one of NextId, Hold and VolumeBlocks each at most for another option (two of NextId where it names an older volume), two of Walk at most
+  -- for BLOCK_STATUS, one at most for another frame, and Walk behind Read for a long READ in chunks. One of LetGo may be the last, where the session ends. A session that has
+  -- parts of a request left makes one, and takes nothing.
   pub record Advances (old : State) (pool : D) (piece : List ℕ) (taken : ℕ) (sent : List ℕ) (ended : Bool) (new : State) (after : D) : Type 0 where
     pub steps : Steps view.outline (PoolCall view) old pool piece taken sent ended new after
     pub traced : GoesWithTrace pool after (λ t t'. Steps outline_of_traced (TracedCall view.has_use) old t piece taken sent ended new t')

@@ -7,4 +7,5 @@ pub mod Looking
 pub mod Buffers
 pub mod Turns
 pub mod Status
+pub mod Holes
 pub mod Spans

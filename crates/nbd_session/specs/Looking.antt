@@ -8,7 +8,7 @@ use Rattle.tp_model.specs.Calls.{Answer, Call, Found, NextId, Refused, Sized, Vo
 use Rattle.nbd_session.specs.declared.phase.Phase.{Phase}
 use Rattle.nbd_session.specs.declared.phase.Phase.TheVariants.{Ended}
 use Rattle.nbd_session.specs.Requests.{bytes_of_blocks}
-use Rattle.nbd_session.specs.Session.{AsksFor, Holds, IsOutcome, Outcome, Sizes, VolumeOption, is_there, outcome, transmission_flags}
+use Rattle.nbd_session.specs.Session.{AsksFor, Holds, IsOutcome, LooksFor, Outcome, SeeksFor, Sizes, Tells, VolumeOption, is_there, outcome, transmission_flags}
 
 -- what is done where a size was told, and where it was refused
 abbrev pub AnswersSize : (ℕ → Outcome) → Result ℕ Refusal → List ℕ → Phase → Type 0
@@ -49,3 +49,10 @@ module _ {S : Type 0} (outline : S → Outline) (Calls : S → Call → Answer �
       (λ size. IsOutcome (option_map_or (λ n. o.found id n (transmission_flags (outline p))) size o.missing) sent next)
       (λ reason. IsOutcome (outcome [] Ended) sent next)
       → AsksFor outline Calls o id p sent next p'
+
+  -- Whether the older volume that a query names is there: its id then, and else a number that is none, as what an option does that asks since it.
+  abbrev pub Sought : List ℕ → Result ℕ Refusal → S → S → Type 0
+  Sought text result p p' =
+      (o : ℕ → VolumeOption) (name sent : List ℕ) (next : Phase) (q : S)
+      → MatchResult result (λ since. LooksFor outline Calls (o since) name p' sent next q) (λ reason. Tells outline Calls (outcome [] Ended) p' sent next q)
+      → SeeksFor outline Calls o text name p sent next q

@@ -1,13 +1,13 @@
 -- Trusted reading: what becomes of a request of transmission before a pool is asked.
-use Rattle.std.specs.Prelude.{◌≡◌, ℕ, ◌+◌, ◌-◌, ◌*◌, ◌/◌, ◌%◌, ◌<◌, ◌≤◌, Bool, false, not, ◌&&◌, ◌||◌, List, [], ◌∷◌, ◌++◌, ◌==◌, if◌then◌else◌, ◌⊎◌, Option, nat_lt}
+use Rattle.std.specs.Prelude.{◌≡◌, ℕ, ◌+◌, ◌-◌, ◌*◌, ◌/◌, ◌%◌, ◌<◌, ◌≤◌, Bool, false, not, ◌&&◌, ◌||◌, List, [], ◌∷◌, ◌++◌, ◌==◌, if◌then◌else◌, ◌⊎◌, Option, IsTrue, nat_lt}
 use Rattle.std.specs.Option.{option_map_or}
 use Rattle.tp_model.specs.Geometry.{Geometry, sectors_of_volume}
 use Rattle.tp_model.specs.Requests as forms
 use Rattle.tp_model.specs.declared.refusal.NbdError.{NbdError}
 use Rattle.tp_model.specs.declared.refusal.NbdError.TheVariants.{Invalid, NoSpace}
-use Rattle.tp_model.specs.Calls.{Call, Trim, WriteZeroes, first_failed}
+use Rattle.tp_model.specs.Calls.{Call, Flush, Trim, WriteZeroes, first_failed}
 use Rattle.nbd_wire.specs.declared.Request.{Request}
-use Rattle.nbd_wire.specs.declared.TheConstants.{COMMAND_READ, COMMAND_WRITE, COMMAND_DISC, COMMAND_TRIM, COMMAND_WRITE_ZEROES, COMMAND_BLOCK_STATUS}
+use Rattle.nbd_wire.specs.declared.TheConstants.{COMMAND_READ, COMMAND_WRITE, COMMAND_DISC, COMMAND_FLUSH, COMMAND_TRIM, COMMAND_WRITE_ZEROES, COMMAND_BLOCK_STATUS}
 use Rattle.nbd_wire.specs.Grammar.{Message, client_flags, client_option, command, malformed, IsRequest}
 use Rattle.nbd_session.specs.declared.phase.Manner.{Manner}
 use Rattle.nbd_session.specs.declared.request.Verdict.{Verdict}
@@ -66,9 +66,16 @@ reads_in_chunks manner r = manner.is_structured && r.kind == COMMAND_READ
 abbrev pub is_chunked : Manner → Request → Bool
 is_chunked manner r = manner.is_structured && (r.kind == COMMAND_READ || r.kind == COMMAND_BLOCK_STATUS)
 
--- BLOCK_STATUS is answered where the volume's context was asked for.
+-- A context of the volume was asked for: where it has data, or since which older one it is to be told of, where the number is an id.
+abbrev pub has_since : Manner → Bool
+has_since manner = nat_lt manner.since 16777216
+
+abbrev pub has_context : Manner → Bool
+has_context manner = manner.tells_blocks || has_since manner
+
+-- BLOCK_STATUS is answered then.
 abbrev pub is_status : Manner → Request → Bool
-is_status manner r = manner.tells_blocks && r.kind == COMMAND_BLOCK_STATUS
+is_status manner r = has_context manner && r.kind == COMMAND_BLOCK_STATUS
 
 -- The error of the first test of a BLOCK_STATUS that fails: it may have FUA, which has no effect, and REQ_ONE, and asks for some sectors of the volume.
 abbrev pub has_status_flags : ℕ → Bool
@@ -81,7 +88,7 @@ status_error size r = first_failed (
     ∷ (r.len == 0, Invalid)
     ∷ (nat_lt size (r.offset + r.len), Invalid) ∷ [])
 
--- Such a READ may have the flag DF, the third: its data are to come in one chunk, as they always do.
+-- Such a READ may have the flag DF, the third: its data are to come in one chunk.
 abbrev pub without_df : ℕ → ℕ
 without_df flags = if flags / 4 % 2 == 1 then flags - 4 else flags
 
@@ -118,13 +125,27 @@ behind r n = record { flags = r.flags; kind = r.kind; cookie = r.cookie; offset 
 abbrev pub rest_of : Geometry → Request → Request
 rest_of g r = behind r (up_to_cut g r)
 
--- the call of the next part, of which the last one alone has FUA
-abbrev pub part_call : ℕ → Geometry → Request → Call
-part_call id g r =
+-- ---- WRITEs that are kept apart
+
+-- A WRITE with FUA of an extended session is made without it, and a FLUSH is left of it then.
+abbrev pub is_kept_apart : Manner → Request → Bool
+is_kept_apart manner r = manner.is_extended && has_fua r
+
+-- That FLUSH: it counts as one sector, so it is the last part.
+abbrev pub to_keep : Request → Request
+to_keep r = record { flags = r.flags; kind = COMMAND_FLUSH; cookie = r.cookie; offset = r.offset; len = 512 }
+
+-- the call of the next part of a long request, of which the last one alone has FUA
+abbrev pub long_call : ℕ → Geometry → Request → Call
+long_call id g r =
     if forms.is_trim (form_of r) then Trim id (r.offset / 512) (len_of_part g r / 512) (has_fua r && is_last g r)
     else WriteZeroes id (r.offset / 512) (len_of_part g r / 512) (has_no_hole r) (has_fua r && is_last g r)
 
--- what is left of a long request whose tests held, for a volume of so many bytes
+-- the call of what is made next of a request
+abbrev pub part_call : ℕ → Geometry → Request → Call
+part_call id g r = if forms.is_flush (form_of r) then Flush else long_call id g r
+
+-- what is left of a request whose tests held, for a volume of so many bytes
 pub record IsLeft (size : ℕ) (r : Request) : Type 0 where
   pub some : 0 < r.len
   pub few : r.len < 4294967296
@@ -148,7 +169,7 @@ abbrev pub IsTested : Verdict → ℕ → Request → Type 0
 IsTested (verdicts.Refuse e) size r = Unit {0}
 IsTested verdicts.Nothing size r = Unit {0}
 IsTested verdicts.Read size r = IsWhole size r × (r.kind ≡ COMMAND_READ)
-IsTested verdicts.Write size r = IsWhole size r × (r.kind ≡ COMMAND_WRITE)
+IsTested verdicts.Write size r = IsWhole size r × (r.kind ≡ COMMAND_WRITE) × (0 < r.len)
 IsTested verdicts.Trim size r = IsWhole size r
 IsTested verdicts.WriteZeroes size r = IsWhole size r
 IsTested verdicts.Flush size r = Unit {0}
@@ -156,17 +177,21 @@ IsTested verdicts.Disconnect size r = Unit {0}
 IsTested verdicts.Long size r = IsLeft size r
 IsTested verdicts.Status size r = IsLeft size r
 
--- a READ stands whole at the front of a text
-pub record BeginsWithRead (text : List ℕ) : Type 0 where
+-- it looks at its volume and changes nothing: it reads sectors, or asks where data is
+abbrev pub is_look : Request → Bool
+is_look r = r.kind == COMMAND_READ || r.kind == COMMAND_BLOCK_STATUS
+
+-- a READ or a BLOCK_STATUS stands whole at the front of a text
+pub record BeginsWithLook (text : List ℕ) : Type 0 where
   pub request : Request
   pub frame : List ℕ
   pub rest : List ℕ
-  pub kind : request.kind ≡ COMMAND_READ
+  pub kind : IsTrue (is_look request)
   pub is_frame : IsRequest frame request []
   pub text_is : text ≡ frame ++ rest
 
-abbrev pub is_read_message : Message → Bool
-is_read_message (client_flags no_zeroes) = false
-is_read_message (client_option option payload) = false
-is_read_message (command request payload) = request.kind == COMMAND_READ
-is_read_message malformed = false
+abbrev pub is_look_message : Message → Bool
+is_look_message (client_flags no_zeroes) = false
+is_look_message (client_option option payload) = false
+is_look_message (command request payload) = is_look request
+is_look_message malformed = false

@@ -1,23 +1,24 @@
 -- Trusted reading: what a session answers to one frame, and to one piece of what its client sends (NBD's proto.md, "Option types",
 -- "Request types", "Terminating the transmission phase"; the choices that it leaves are own).
-use Rattle.std.specs.Prelude.{◌≡◌, ℕ, ◌/◌, ◌<◌, ◌≤◌, Bool, true, false, ◌&&◌, List, [], ◌∷◌, ◌+◌, ◌++◌, length, take, nat_lt, Option, Some, None, MatchOption, MatchBool, ◌==◌, if◌then◌else◌, ◌⊎◌}
+use Rattle.std.specs.Prelude.{◌≡◌, ℕ, ◌/◌, ◌<◌, ◌≤◌, Bool, true, false, ◌&&◌, List, [], ◌∷◌, ◌+◌, ◌++◌, length, take, nat_le, nat_lt, Option, Some, None, MatchOption, MatchBool, ◌==◌, if◌then◌else◌, ◌⊎◌}
 use Rattle.std.specs.List.{concat, flat_map}
 use Rattle.std.specs.Fmt.{decimal}
 use Rattle.tp_model.specs.declared.refusal.NbdError.{NbdError}
 use Rattle.tp_model.specs.declared.refusal.NbdError.TheVariants as errors
 use Rattle.tp_model.specs.declared.refusal.Refusal.{Refusal}
 use Rattle.tp_model.specs.Refusals.{nbd_code, nbd_error}
+use Rattle.tp_model.specs.Requests.{is_flush}
 use Rattle.tp_model.specs.Sectors.{sectors_of}
 use Rattle.tp_model.specs.Pool.{Outline}
 use Rattle.tp_model.specs.Calls.{Call, Answer, Done, Gave, Line, Found, Refused, Sized, Listed, Hold, LetGo, NextId, VolumeBlocks, Read, Write, Trim, Walk, WriteZeroes, Flush, is_failed, is_read_only}
 use Rattle.nbd_wire.specs.declared.Kind.{Kind}
 use Rattle.nbd_wire.specs.declared.Kind.TheVariants as kinds
 use Rattle.nbd_wire.specs.declared.Request.{Request}
-use Rattle.nbd_wire.specs.declared.TheConstants.{OPTION_ABORT, OPTION_EXPORT_NAME, OPTION_GO, OPTION_INFO, OPTION_LIST, OPTION_LIST_META_CONTEXT, OPTION_SET_META_CONTEXT, OPTION_STRUCTURED_REPLY, ALLOCATION_CONTEXT}
+use Rattle.nbd_wire.specs.declared.TheConstants.{OPTION_ABORT, OPTION_EXPORT_NAME, OPTION_GO, OPTION_INFO, OPTION_LIST, OPTION_LIST_META_CONTEXT, OPTION_SET_META_CONTEXT, OPTION_STRUCTURED_REPLY, ALLOCATION_CONTEXT, SINCE_CONTEXT}
 use Rattle.nbd_wire.specs.declared.writing.ReplyType.{ReplyType}
 use Rattle.nbd_wire.specs.declared.writing.ReplyType.TheVariants.{Acknowledged, Context, Server, Information, Unsupported, Invalid, Unknown}
 use Rattle.nbd_wire.specs.Chunks.{data_chunk, done_chunk, error_chunk}
-use Rattle.nbd_wire.specs.Contexts.{IsQuery, allocation, asks_for, context_data, lists}
+use Rattle.nbd_wire.specs.Contexts.{IsQuery, allocation, asks_for, context_data, lists, since_name, since_of}
 use Rattle.nbd_wire.specs.Grammar.{Message, client_flags, client_option, command, malformed, IsFrame, IsPartial}
 use Rattle.nbd_wire.specs.Replies.{simple_reply, option_reply, export_info, export_reply, block_size_info, server_data, IsInfo}
 use Rattle.nbd_session.specs.declared.phase.Course.TheVariants.{Listens, Works}
@@ -29,8 +30,9 @@ use Rattle.nbd_session.specs.declared.phase.Profile.TheVariants.{Strict, Extende
 use Rattle.nbd_session.specs.declared.phase.Terms.{Terms}
 use Rattle.nbd_session.specs.declared.request.Verdict.{Verdict}
 use Rattle.nbd_session.specs.declared.request.Verdict.TheVariants as verdicts
-use Rattle.nbd_session.specs.Status.{IsStatus, first_block, unit_of}
-use Rattle.nbd_session.specs.Requests.{bytes_of_blocks, has_fua, has_no_hole, is_chunked, is_last, part_call, rest_of, verdict_in}
+use Rattle.nbd_session.specs.Status.{IsAllocation, TellsSince, first_block, unit_of}
+use Rattle.nbd_session.specs.Holes.{IsHoled, has_blank}
+use Rattle.nbd_session.specs.Requests.{bytes_of_blocks, form_of, has_fua, has_no_hole, has_since, is_chunked, is_kept_apart, is_last, part_call, rest_of, to_keep, verdict_in}
 
 -- what a session shows: its phase, and the bytes that it holds of an unfinished frame
 pub record State : Type 0 where
@@ -62,6 +64,22 @@ is_at_work (Transmission volume size (Listens manner)) = false
 is_at_work (Transmission volume size (Works manner rest)) = true
 is_at_work Ended = false
 
+-- and nothing is left of it but a FLUSH
+abbrev pub is_to_flush : Phase → Bool
+is_to_flush (Flags profile) = false
+is_to_flush (Options terms) = false
+is_to_flush (Transmission volume size (Listens manner)) = false
+is_to_flush (Transmission volume size (Works manner rest)) = is_flush (form_of rest)
+is_to_flush Ended = false
+
+-- a session whose WRITEs with FUA are kept apart
+abbrev pub keeps_apart : Phase → Bool
+keeps_apart (Flags profile) = false
+keeps_apart (Options terms) = false
+keeps_apart (Transmission volume size (Listens manner)) = manner.is_extended
+keeps_apart (Transmission volume size (Works manner rest)) = manner.is_extended
+keeps_apart Ended = false
+
 -- how many bytes of a request are left
 abbrev pub left_in : Phase → ℕ
 left_in (Flags profile) = 0
@@ -73,15 +91,20 @@ left_in Ended = 0
 -- ---- what is offered
 
 abbrev pub terms_of : Profile → Bool → Terms
-terms_of profile no_zeroes = record { no_zeroes = no_zeroes; profile = profile; is_structured = false; context = 16777216 }
+terms_of profile no_zeroes = record { no_zeroes = no_zeroes; profile = profile; is_structured = false; context = 16777216; tells_blocks = false; since = 16777216 }
 
 -- the same where READs are to be answered in chunks
 abbrev pub in_chunks : Terms → Terms
-in_chunks terms = record { no_zeroes = terms.no_zeroes; profile = terms.profile; is_structured = true; context = terms.context }
+in_chunks terms = record { no_zeroes = terms.no_zeroes; profile = terms.profile; is_structured = true; context = terms.context; tells_blocks = terms.tells_blocks; since = terms.since }
 
--- the same where this volume is to be told of, or none, where the number is no id
-abbrev pub in_context : Terms → ℕ → Terms
-in_context terms context = record { no_zeroes = terms.no_zeroes; profile = terms.profile; is_structured = terms.is_structured; context = context }
+-- The same where of this volume is to be told: where it has data, if that is asked for, and where it may differ from an older one, if that number is an id.
+abbrev pub in_context : Terms → ℕ → Bool → ℕ → Terms
+in_context terms context tells_blocks since =
+    record { no_zeroes = terms.no_zeroes; profile = terms.profile; is_structured = terms.is_structured; context = context; tells_blocks = tells_blocks; since = since }
+
+-- the same where of no volume is to be told
+abbrev pub without_context : Terms → Terms
+without_context terms = in_context terms 16777216 false 16777216
 
 abbrev pub is_extended : Profile → Bool
 is_extended Strict = false
@@ -98,8 +121,17 @@ default_of (WithDefault volume) = if nat_lt volume 16777216 then Some volume els
 abbrev pub flags_in : Terms → ℕ → ℕ
 flags_in terms flags = (if is_extended terms.profile then 0x100 else 0) + ((if terms.is_structured then 0x80 else 0) + flags)
 
+-- the contexts that were asked for are those of this volume
+abbrev pub is_told_of : Terms → ℕ → Bool
+is_told_of terms id = terms.is_structured && terms.context == id
+
 abbrev pub manner_of : Terms → ℕ → Manner
-manner_of terms id = record { is_extended = is_extended terms.profile; is_structured = terms.is_structured; tells_blocks = terms.is_structured && terms.context == id }
+manner_of terms id = record {
+  is_extended = is_extended terms.profile;
+  is_structured = terms.is_structured;
+  tells_blocks = is_told_of terms id && terms.tells_blocks;
+  since = if is_told_of terms id then terms.since else 16777216;
+}
 
 -- transmission begins so
 abbrev pub begun : Terms → ℕ → ℕ → Phase
@@ -119,13 +151,9 @@ reply_to cookie (Refused reason) = simple_reply (nbd_code (nbd_error reason)) co
 
 -- the reply to a READ as one chunk, which tells where its bytes begin
 abbrev pub chunk_to : Request → Answer → List ℕ
-chunk_to r (Gave sectors) = data_chunk r.cookie r.offset (concat sectors)
+chunk_to r (Gave sectors) = data_chunk true r.cookie r.offset (concat sectors)
 chunk_to r (Refused reason) = error_chunk (nbd_code (nbd_error reason)) r.cookie
 chunk_to r _ = done_chunk r.cookie
-
--- the reply to a READ that the pool answered
-abbrev pub read_reply : Manner → Request → Answer → List ℕ
-read_reply manner r answer = if manner.is_structured then chunk_to r answer else reply_to r.cookie answer
 
 -- the reply to a request that fails before the pool is asked, and to one of no bytes
 abbrev pub error_reply : Manner → Request → NbdError → List ℕ
@@ -211,27 +239,33 @@ info terms = record {
   missing = option_error OPTION_INFO Unknown terms;
 }
 
--- the answer to an option that looks for the one context: a reply that tells it under this number where it is asked for, and ACK
-unfoldable pub context_reply : ℕ → ℕ → Bool → List ℕ
-context_reply option number is_asked =
-    (if is_asked then option_reply option Context (context_data number allocation) else []) ++ option_reply option Acknowledged []
+-- the reply that tells base:allocation under a number, where it is asked for, and the one that tells since which older volume, where that is an id
+abbrev pub allocation_reply : ℕ → ℕ → Bool → List ℕ
+allocation_reply option code is_asked = if is_asked then option_reply option Context (context_data code allocation) else []
 
--- LIST_META_CONTEXT tells the context where a query fits it, or none was made, under no number (0). It changes nothing.
-abbrev pub list_context : Terms → Bool → VolumeOption
-list_context terms is_listed = record {
+abbrev pub since_reply : ℕ → ℕ → ℕ → List ℕ
+since_reply option code since = if nat_lt since 16777216 then option_reply option Context (context_data code (since_name since)) else []
+
+-- the answer to an option that looks for contexts: a reply for each that is asked for, under its number, and ACK
+unfoldable pub context_reply : ℕ → ℕ → ℕ → Bool → ℕ → List ℕ
+context_reply option first second is_asked since = allocation_reply option first is_asked ++ since_reply option second since ++ option_reply option Acknowledged []
+
+-- LIST_META_CONTEXT tells base:allocation where a query fits it, or none was made, and the other where a query is its whole name, under no number (0). It changes nothing.
+abbrev pub list_context : Terms → Bool → ℕ → VolumeOption
+list_context terms is_listed since = record {
   default = default_of terms.profile;
   holds = false;
-  found = λ id size flags. outcome (context_reply OPTION_LIST_META_CONTEXT 0 is_listed) (Options terms);
+  found = λ id size flags. outcome (context_reply OPTION_LIST_META_CONTEXT 0 0 is_listed since) (Options terms);
   missing = option_error OPTION_LIST_META_CONTEXT Unknown terms;
 }
 
--- SET_META_CONTEXT has the volume told of, where the context is asked for by its name, in place of what was asked for before: also where it fails.
-abbrev pub set_context : Terms → Bool → VolumeOption
-set_context terms is_asked = record {
+-- SET_META_CONTEXT has the volume told of in the contexts that are asked for by their names, in place of what was asked for before: also where it fails.
+abbrev pub set_context : Terms → Bool → ℕ → VolumeOption
+set_context terms is_asked since = record {
   default = default_of terms.profile;
   holds = false;
-  found = λ id size flags. outcome (context_reply OPTION_SET_META_CONTEXT ALLOCATION_CONTEXT is_asked) (Options (in_context terms (if is_asked then id else 16777216)));
-  missing = option_error OPTION_SET_META_CONTEXT Unknown (in_context terms 16777216);
+  found = λ id size flags. outcome (context_reply OPTION_SET_META_CONTEXT ALLOCATION_CONTEXT SINCE_CONTEXT is_asked since) (Options (in_context terms id is_asked since));
+  missing = option_error OPTION_SET_META_CONTEXT Unknown (without_context terms);
 }
 
 -- EXPORT_NAME holds the volume, tells its size and the flags, and enters transmission. It has no errors: a name that is
@@ -252,11 +286,17 @@ IsMade id size manner r rest last Done sent next =
     (IsOutcome (outcome [] (Transmission id size (Works manner rest))) sent next)
 IsMade id size manner r rest last answer sent next = IsOutcome (outcome (reply_to r.cookie answer) (Transmission id size (Listens manner))) sent next
 
--- what a walk over a volume told for a BLOCK_STATUS
-abbrev pub IsDescribed : ℕ → Request → Answer → List ℕ → Type 0
-IsDescribed unit r (Listed slots) sent = IsStatus unit r slots sent
-IsDescribed unit r (Refused reason) sent = sent ≡ error_chunk (nbd_code (nbd_error reason)) r.cookie
-IsDescribed unit r answer sent = ⊥
+-- What a walk over an older volume told for a BLOCK_STATUS of a volume that has these slots. A refusal, as where the older one is not there any more, is the answer.
+abbrev pub IsCompared : Manner → ℕ → Request → List (ℕ × ℕ) → Answer → List ℕ → Type 0
+IsCompared manner unit r slots (Listed old) sent = TellsSince manner.tells_blocks unit r old slots sent
+IsCompared manner unit r slots (Refused reason) sent = sent ≡ error_chunk (nbd_code (nbd_error reason)) r.cookie
+IsCompared manner unit r slots answer sent = ⊥
+
+-- what a walk over a volume told for the bytes of a READ: where it is refused, they are sent as they are
+abbrev pub IsReadWith : ℕ → Request → List ℕ → Answer → List ℕ → Type 0
+IsReadWith unit r given (Listed slots) sent = IsHoled unit r given slots sent
+IsReadWith unit r given (Refused reason) sent = sent ≡ data_chunk true r.cookie r.offset given
+IsReadWith unit r given answer sent = ⊥
 
 -- S: pools. outline: a pool's geometry, mode and holds. Calls: that a call of a pool is given an answer, and leaves another pool.
 module _ {S : Type 0} (outline : S → Outline) (Calls : S → Call → Answer → S → Type 0) where
@@ -281,33 +321,88 @@ module _ {S : Type 0} (outline : S → Outline) (Calls : S → Call → Answer �
     pub calls : Calls p call answer p'
     pub sent_is : sent ≡ reply answer
 
-  -- BLOCK_STATUS asks for one walk, from the block in which it begins. One that begins behind the last block that a volume may have is refused.
-  pub record Walks (id : ℕ) (r : Request) (p : S) (sent : List ℕ) (p' : S) : Type 0 where
+  -- a request that the pool is asked, of which a FLUSH is left where it is done, and which is answered where it is refused
+  pub record Begins (call : Call) (id size : ℕ) (manner : Manner) (r : Request) (p : S) (sent : List ℕ) (next : Phase) (p' : S) : Type 0 where
     pub answer : Answer
-    pub calls : Calls p (Walk id (first_block (unit_of (outline p).geometry) r)) answer p'
-    pub is_described : IsDescribed (unit_of (outline p).geometry) r answer sent
+    pub calls : Calls p call answer p'
+    pub is_begun : IsMade id size manner r (to_keep r) false answer sent next
 
-  abbrev pub Describes : ℕ → Request → S → List ℕ → S → Type 0
-  Describes id r p sent p' =
-      MatchBool (nat_lt (first_block (unit_of (outline p).geometry) r) 16777216) (Walks id r p sent p')
+  -- behind a walk over the volume, which listed these slots, one over the older volume from the same block on
+  pub record Compares (manner : Manner) (unit from : ℕ) (r : Request) (slots : List (ℕ × ℕ)) (p : S) (sent : List ℕ) (p' : S) : Type 0 where
+    pub answer : Answer
+    pub calls : Calls p (Walk manner.since from) answer p'
+    pub is_compared : IsCompared manner unit r slots answer sent
+
+  -- what a walk over a volume told for a BLOCK_STATUS
+  abbrev pub IsDescribed : Manner → ℕ → ℕ → Request → Answer → S → List ℕ → S → Type 0
+  IsDescribed manner unit from r (Listed slots) p sent p' =
+      MatchBool (has_since manner) (Compares manner unit from r slots p sent p') (IsAllocation true unit r slots sent × (p' ≡ p))
+  IsDescribed manner unit from r (Refused reason) p sent p' = (sent ≡ error_chunk (nbd_code (nbd_error reason)) r.cookie) × (p' ≡ p)
+  IsDescribed manner unit from r answer p sent p' = ⊥
+
+  -- BLOCK_STATUS asks for one walk, from the block in which it begins, and for another where it is to tell since an older volume. One that begins behind the last block
+  -- that a volume may have is refused.
+  pub record Walks (manner : Manner) (id : ℕ) (r : Request) (p : S) (sent : List ℕ) (p' : S) : Type 0 where
+    pub answer : Answer
+    pub walked : S
+    pub calls : Calls p (Walk id (first_block (unit_of (outline p).geometry) r)) answer walked
+    pub is_described : IsDescribed manner (unit_of (outline p).geometry) (first_block (unit_of (outline p).geometry) r) r answer walked sent p'
+
+  abbrev pub Describes : Manner → ℕ → Request → S → List ℕ → S → Type 0
+  Describes manner id r p sent p' =
+      MatchBool (nat_lt (first_block (unit_of (outline p).geometry) r) 16777216) (Walks manner id r p sent p')
       ((sent ≡ error_chunk (nbd_code errors.Invalid) r.cookie) × (p' ≡ p))
 
-  -- A request of a volume of this size, whose tests had this outcome. Of a long one nothing is made yet, and all of it is left.
+  -- The bytes of a READ are told by one walk, from the block in which it begins.
+  pub record SeeksHoles (id unit : ℕ) (r : Request) (given : List ℕ) (p : S) (sent : List ℕ) (p' : S) : Type 0 where
+    pub answer : Answer
+    pub calls : Calls p (Walk id (first_block unit r)) answer p'
+    pub is_sought : IsReadWith unit r given answer sent
+
+  -- None is asked for behind the last block that a volume may have.
+  abbrev pub SeeksFrom : ℕ → ℕ → Request → List ℕ → S → List ℕ → S → Type 0
+  SeeksFrom id unit r given p sent p' =
+      MatchBool (nat_lt (first_block unit r) 16777216) (SeeksHoles id unit r given p sent p') ((sent ≡ data_chunk true r.cookie r.offset given) × (p' ≡ p))
+
+  -- One is asked for only where a piece of what was read is all zero.
+  abbrev pub TellsGiven : ℕ → ℕ → Request → List ℕ → S → List ℕ → S → Type 0
+  TellsGiven id unit r given p sent p' = MatchBool (has_blank r given) (SeeksFrom id unit r given p sent p') ((sent ≡ data_chunk true r.cookie r.offset given) × (p' ≡ p))
+
+  abbrev pub IsGiven : ℕ → ℕ → Request → Answer → S → List ℕ → S → Type 0
+  IsGiven id unit r (Gave sectors) p sent p' = TellsGiven id unit r (concat sectors) p sent p'
+  IsGiven id unit r answer p sent p' = (sent ≡ chunk_to r answer) × (p' ≡ p)
+
+  -- a READ in chunks of as many bytes as the least block has, which may tell holes
+  pub record ReadsLong (id : ℕ) (r : Request) (p : S) (sent : List ℕ) (p' : S) : Type 0 where
+    pub answer : Answer
+    pub asked : S
+    pub calls : Calls p (Read id (r.offset / 512) (r.len / 512)) answer asked
+    pub is_given : IsGiven id (unit_of (outline p).geometry) r answer asked sent p'
+
+  abbrev pub ReadsInChunks : ℕ → Request → S → List ℕ → S → Type 0
+  ReadsInChunks id r p sent p' = MatchBool (nat_le 65536 r.len) (ReadsLong id r p sent p') (Performs (Read id (r.offset / 512) (r.len / 512)) (chunk_to r) p sent p')
+
+  -- A READ is answered in chunks where that was asked for.
+  abbrev pub AnswersRead : ℕ → Manner → Request → S → List ℕ → S → Type 0
+  AnswersRead id manner r p sent p' = MatchBool manner.is_structured (ReadsInChunks id r p sent p') (Performs (Read id (r.offset / 512) (r.len / 512)) (reply_to r.cookie) p sent p')
+
+  -- A request of a volume of this size, whose tests had this outcome. Of a long one nothing is made yet, and all of it is left. A WRITE that is kept apart is made without FUA.
   abbrev pub Serves : Verdict → ℕ → ℕ → Manner → Request → List ℕ → S → List ℕ → Phase → S → Type 0
   Serves verdicts.Disconnect id size manner r payload p sent next p' = Ends [] (Transmission id size (Listens manner)) p sent next p'
   Serves (verdicts.Refuse e) id size manner r payload p sent next p' =
       Tells (outcome (error_reply manner r e) (Transmission id size (Listens manner))) p sent next p'
   Serves verdicts.Nothing id size manner r payload p sent next p' = Tells (outcome (empty_reply manner r) (Transmission id size (Listens manner))) p sent next p'
-  Serves verdicts.Read id size manner r payload p sent next p' =
-      Performs (Read id (r.offset / 512) (r.len / 512)) (read_reply manner r) p sent p' × (next ≡ Transmission id size (Listens manner))
+  Serves verdicts.Read id size manner r payload p sent next p' = AnswersRead id manner r p sent p' × (next ≡ Transmission id size (Listens manner))
   Serves verdicts.Write id size manner r payload p sent next p' =
-      Performs (Write id (r.offset / 512) (sectors_of payload) (has_fua r)) (reply_to r.cookie) p sent p' × (next ≡ Transmission id size (Listens manner))
+      MatchBool (is_kept_apart manner r)
+      (Begins (Write id (r.offset / 512) (sectors_of payload) false) id size manner r p sent next p')
+      (Performs (Write id (r.offset / 512) (sectors_of payload) (has_fua r)) (reply_to r.cookie) p sent p' × (next ≡ Transmission id size (Listens manner)))
   Serves verdicts.Trim id size manner r payload p sent next p' =
       Performs (Trim id (r.offset / 512) (r.len / 512) (has_fua r)) (reply_to r.cookie) p sent p' × (next ≡ Transmission id size (Listens manner))
   Serves verdicts.WriteZeroes id size manner r payload p sent next p' =
       Performs (WriteZeroes id (r.offset / 512) (r.len / 512) (has_no_hole r) (has_fua r)) (reply_to r.cookie) p sent p' × (next ≡ Transmission id size (Listens manner))
   Serves verdicts.Flush id size manner r payload p sent next p' = Performs Flush (reply_to r.cookie) p sent p' × (next ≡ Transmission id size (Listens manner))
-  Serves verdicts.Status id size manner r payload p sent next p' = Describes id r p sent p' × (next ≡ Transmission id size (Listens manner))
+  Serves verdicts.Status id size manner r payload p sent next p' = Describes manner id r p sent p' × (next ≡ Transmission id size (Listens manner))
   Serves verdicts.Long id size manner r payload p sent next p' = Tells (outcome [] (Transmission id size (Works manner r))) p sent next p'
 
   -- the next part of a request of which so much is left
@@ -447,15 +542,39 @@ module _ {S : Type 0} (outline : S → Outline) (Calls : S → Call → Answer �
     pub no_query : (name : List ℕ) (queries : List (List ℕ)) → IsQuery payload name queries → ⊥
     pub tells : Tells (option_error option Invalid terms) p sent next p'
 
+  -- The pool was asked for the least id from that of an older volume on, and answered so. Where that one is there the option is done with its id, and else with a number that is none. A refusal
+  -- ends the session.
+  abbrev pub Seeks : (ℕ → VolumeOption) → List ℕ → ℕ → Answer → S → List ℕ → Phase → S → Type 0
+  Seeks o name id (Found least) p sent next p' = LooksFor (o (if is_there id least then id else 16777216)) name p sent next p'
+  Seeks o name id (Refused reason) p sent next p' = Tells (outcome [] Ended) p sent next p'
+  Seeks o name id answer p sent next p' = ⊥
+
+  -- what a query said is no older volume's name
+  pub record IsUnsought (o : ℕ → VolumeOption) (text name : List ℕ) (p : S) (sent : List ℕ) (next : Phase) (p' : S) : Type 0 where
+    pub no_id : (id : ℕ) → IsNameOf text id → ⊥
+    pub looks : LooksFor (o 16777216) name p sent next p'
+
+  -- it is one, which is looked for before the volume itself is
+  pub record IsSought (o : ℕ → VolumeOption) (text name : List ℕ) (p : S) (sent : List ℕ) (next : Phase) (p' : S) : Type 0 where
+    pub id : ℕ
+    pub text_is : IsNameOf text id
+    pub answer : Answer
+    pub looked : S
+    pub calls : Calls p (NextId id) answer looked
+    pub seeks : Seeks o name id answer looked sent next p'
+
+  abbrev pub SeeksFor : (ℕ → VolumeOption) → List ℕ → List ℕ → S → List ℕ → Phase → S → Type 0
+  SeeksFor o text name p sent next p' = IsUnsought o text name p sent next p' ⊎ IsSought o text name p sent next p'
+
   -- an option whose data is one
-  pub record IsQueried (asks : List (List ℕ) → Bool) (o : Bool → VolumeOption) (payload : List ℕ) (p : S) (sent : List ℕ) (next : Phase) (p' : S) : Type 0 where
+  pub record IsQueried (asks : List (List ℕ) → Bool) (o : Bool → ℕ → VolumeOption) (payload : List ℕ) (p : S) (sent : List ℕ) (next : Phase) (p' : S) : Type 0 where
     pub name : List ℕ
     pub queries : List (List ℕ)
     pub query : IsQuery payload name queries
-    pub looks : LooksFor (o (asks queries)) name p sent next p'
+    pub seeks : SeeksFor (o (asks queries)) (since_of queries) name p sent next p'
 
   -- An option of this number that asks for contexts, which takes structured replies. In a failed pool it ends the session, whatever its data. refused: the terms behind an error.
-  abbrev pub Queries : ℕ → (List (List ℕ) → Bool) → (Bool → VolumeOption) → Terms → Terms → List ℕ → S → List ℕ → Phase → S → Type 0
+  abbrev pub Queries : ℕ → (List (List ℕ) → Bool) → (Bool → ℕ → VolumeOption) → Terms → Terms → List ℕ → S → List ℕ → Phase → S → Type 0
   Queries option asks o terms refused payload p sent next p' =
       MatchBool (is_failed (outline p).mode)
       (Ends [] (Options terms) p sent next p')
@@ -468,7 +587,7 @@ module _ {S : Type 0} (outline : S → Outline) (Calls : S → Call → Answer �
   Extends terms option payload p sent next p' =
       MatchBool (option == OPTION_STRUCTURED_REPLY) (Tells (structures terms payload) p sent next p')
       (MatchBool (option == OPTION_LIST_META_CONTEXT) (Queries OPTION_LIST_META_CONTEXT lists (list_context terms) terms terms payload p sent next p')
-      (MatchBool (option == OPTION_SET_META_CONTEXT) (Queries OPTION_SET_META_CONTEXT asks_for (set_context terms) terms (in_context terms 16777216) payload p sent next p')
+      (MatchBool (option == OPTION_SET_META_CONTEXT) (Queries OPTION_SET_META_CONTEXT asks_for (set_context terms) terms (without_context terms) payload p sent next p')
       (Tells (option_error option Unsupported terms) p sent next p')))
 
   -- an option, by its number: ABORT is acknowledged and ends the session, whatever its data

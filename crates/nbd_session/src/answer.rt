@@ -1,6 +1,6 @@
 //! The answer to one frame.
 
-ghost use Rattle.std.specs.Prelude.{◌≡◌, ◌≤◌, ◌<◌, ◌+◌, ◌/◌, [], length, take, drop};
+ghost use Rattle.std.specs.Prelude.{◌≡◌, ◌≤◌, ◌<◌, ◌+◌, ◌/◌, [], true, false, length, take, drop};
 ghost use Rattle.tp_model.specs.Sectors.{sectors_of};
 ghost use Rattle.tp_model.specs.Pool.{hold_count};
 ghost use Rattle.tp_model.specs.Calls.{Refused, Read, Write, Trim, WriteZeroes, Flush};
@@ -9,18 +9,20 @@ ghost use Rattle.nbd_wire.specs.Chunks.{data_chunk, error_chunk};
 ghost use Rattle.nbd_wire.specs.Grammar.{payload_len};
 ghost use Rattle.nbd_wire.specs.Reading.{message_of};
 ghost use Rattle.nbd_wire.specs.Replies.{simple_reply};
-ghost use Rattle.nbd_session.specs.Requests.{IsWhole, has_fua, has_no_hole, known_bytes, verdict_in};
-ghost use Rattle.nbd_session.specs.Session.{Answers, LetsGo, Performs, Serves, chunk_to, empty_reply, error_reply, read_reply, reply_to, terms_of};
+ghost use Rattle.nbd_session.specs.Requests.{IsWhole, has_fua, has_no_hole, is_kept_apart, known_bytes, to_keep, verdict_in};
+ghost use Rattle.nbd_session.specs.Session.{Answers, AnswersRead, Begins, LetsGo, Performs, ReadsInChunks, Serves, chunk_to, empty_reply, error_reply, reply_to, terms_of};
 ghost use Rattle.nbd_session.specs.Buffers.{IsSound};
 ghost use Rattle.tp_model.specs.Clauses.{PoolCall};
 ghost use Rattle.nbd_session.specs.Clauses.{IsOf, IsReady};
 
+use crate::holes::{may_have_holes, read_long};
 use crate::options::choose;
 use crate::phase::{Course, Manner, NO_VOLUME, Phase, Profile, Terms};
 use crate::request::{Verdict, is_chunked, judge_in};
 use crate::status::describe;
 use nbd_wire::{
-    Frame, Request, put_data_head, put_done_chunk, put_error_chunk, put_simple_reply_head,
+    COMMAND_FLUSH, Frame, Request, put_data_head, put_done_chunk, put_error_chunk,
+    put_simple_reply_head,
 };
 use tp_model::{DevId, NbdError, Refusal, Volumes, Walked};
 
@@ -82,11 +84,11 @@ pub(crate) fn put_refusal_chunk(out: &mut [u8], refusal: Refusal, cookie: u64) -
 pub(crate) fn put_read_chunk_head(out: &mut [u8], request: &Request) -> usize
     requires most { request.now.len ≤ 1048576 }
     requires room { 28 + request.now.len ≤ length out.old }
-    ensures reply { take result out.new ≡ data_chunk request.now.cookie request.now.offset (take request.now.len (drop 28 out.old)) }
+    ensures reply { take result out.new ≡ data_chunk true request.now.cookie request.now.offset (take request.now.len (drop 28 out.old)) }
     ensures fits { result ≤ length out.new }
     ensures len { length out.new ≡ length out.old }
 {
-    put_data_head(out, 0, request.cookie, request.offset, request.len);
+    put_data_head(out, 0, true, request.cookie, request.offset, request.len);
     28 + request.len as usize
 }
 
@@ -127,8 +129,29 @@ fn read_in_chunk<V: Volumes>(
     }
 }
 
+/// A READ that is answered in chunks: a long one may tell holes.
+fn read_in_chunks<V: Walked>(
+    pool: &mut V,
+    volume: DevId,
+    request: &Request,
+    out: &mut [u8],
+) -> usize
+    requires form { IsWhole (known_bytes (V.view.outline pool.old).geometry (V.view.more pool.old) volume) request.now }
+    requires inside { request.now.offset + request.now.len < 18446744073709551616 }
+    requires room { 2097172 ≤ length out.old }
+    ensures answer { ReadsInChunks V.view.outline (PoolCall V.view) volume request.now pool.old (take result out.new) pool.new }
+    ensures fits { result ≤ length out.new }
+    ensures len { length out.new ≡ length out.old }
+{
+    if may_have_holes(request) {
+        read_long(pool, volume, request, out)
+    } else {
+        read_in_chunk(pool, volume, request, out)
+    }
+}
+
 /// A READ of some sectors.
-fn read<V: Volumes>(
+fn read<V: Walked>(
     pool: &mut V,
     volume: DevId,
     manner: Manner,
@@ -136,14 +159,14 @@ fn read<V: Volumes>(
     out: &mut [u8],
 ) -> usize
     requires form { IsWhole (known_bytes (V.view.outline pool.old).geometry (V.view.more pool.old) volume) request.now }
-    requires room { 1048604 ≤ length out.old }
-    ensures answer { Performs V.view.outline (PoolCall V.view) (Read volume (request.now.offset / 512) (request.now.len / 512)) (read_reply manner request.now)
-        pool.old (take result out.new) pool.new }
+    requires inside { request.now.offset + request.now.len < 18446744073709551616 }
+    requires room { 2097172 ≤ length out.old }
+    ensures answer { AnswersRead V.view.outline (PoolCall V.view) volume manner request.now pool.old (take result out.new) pool.new }
     ensures fits { result ≤ length out.new }
     ensures len { length out.new ≡ length out.old }
 {
     if manner.is_structured {
-        read_in_chunk(pool, volume, request, out)
+        read_in_chunks(pool, volume, request, out)
     } else {
         read_simply(pool, volume, request, out)
     }
@@ -191,7 +214,7 @@ pub(crate) fn wants_no_hole(request: &Request) -> bool
     request.flags / 2 % 2 == 1
 }
 
-/// A WRITE of some sectors.
+/// A WRITE of some sectors, in one call of the pool.
 fn write<V: Volumes>(
     pool: &mut V,
     volume: DevId,
@@ -212,6 +235,93 @@ fn write<V: Volumes>(
         Ok(()) => put_reply(out, 0, request.cookie),
         Err(refusal) => put_refusal(out, refusal, request.cookie),
     }
+}
+
+/// Whether a request is made without FUA, and kept then by a FLUSH of its own.
+fn is_kept_apart(manner: Manner, request: &Request) -> bool
+    ensures { result ≡ is_kept_apart manner request.now }
+{
+    manner.is_extended && wants_fua(request)
+}
+
+/// The FLUSH that is left of such a request.
+fn to_keep(request: Request) -> Request
+    ensures { result ≡ to_keep request }
+{
+    Request {
+        kind: COMMAND_FLUSH,
+        len: 512,
+        ..request
+    }
+}
+
+/// Where a session stands that takes its next request.
+fn listening(volume: DevId, size: u64, manner: Manner) -> Phase
+    ensures { result ≡ Phase.Transmission volume size (Course.Listens manner) }
+{
+    Phase::Transmission {
+        volume,
+        size,
+        course: Course::Listens { manner },
+    }
+}
+
+/// A WRITE of some sectors that is kept apart: where it is done, a FLUSH is left of it, which answers it.
+fn write_apart<V: Volumes>(
+    pool: &mut V,
+    volume: DevId,
+    size: u64,
+    manner: Manner,
+    request: Request,
+    payload: &[u8],
+    out: &mut [u8],
+) -> (Phase, usize)
+    requires form { IsWhole (known_bytes (V.view.outline pool.old).geometry (V.view.more pool.old) volume) request }
+    requires payload { length payload.now ≡ request.len }
+    requires whole { IsWhole size request }
+    requires some { 0 < request.len }
+    requires room { 16 ≤ length out.old }
+    ensures answer { Begins V.view.outline (PoolCall V.view) (Write volume (request.offset / 512) (sectors_of payload.now) false) volume size manner request
+        pool.old (take result.1 out.new) result.0 pool.new }
+    ensures sound { IsSound result.0 }
+    ensures fits { result.1 ≤ length out.new }
+    ensures len { length out.new ≡ length out.old }
+{
+    match pool.write(volume, request.offset / 512, payload, false) {
+        Ok(()) => (at_work(volume, size, manner, to_keep(request)), 0),
+        Err(refusal) => (
+            listening(volume, size, manner),
+            put_refusal(out, refusal, request.cookie),
+        ),
+    }
+}
+
+/// A WRITE of some sectors, whose volume has so many bytes.
+fn take_write<V: Volumes>(
+    pool: &mut V,
+    volume: DevId,
+    size: u64,
+    manner: Manner,
+    request: Request,
+    payload: &[u8],
+    out: &mut [u8],
+) -> (Phase, usize)
+    requires form { IsWhole (known_bytes (V.view.outline pool.old).geometry (V.view.more pool.old) volume) request }
+    requires payload { length payload.now ≡ request.len }
+    requires whole { IsWhole size request }
+    requires some { 0 < request.len }
+    requires room { 16 ≤ length out.old }
+    ensures answer { Serves V.view.outline (PoolCall V.view) Verdict.Write volume size manner request payload.now
+        pool.old (take result.1 out.new) result.0 pool.new }
+    ensures sound { IsSound result.0 }
+    ensures fits { result.1 ≤ length out.new }
+    ensures len { length out.new ≡ length out.old }
+{
+    if is_kept_apart(manner, &request) {
+        return write_apart(pool, volume, size, manner, request, payload, out);
+    }
+    let sent = write(pool, volume, &request, payload, out);
+    (listening(volume, size, manner), sent)
 }
 
 /// A TRIM of some sectors.
@@ -298,7 +408,7 @@ fn serve<V: Walked>(
     requires held { 0 < hold_count (V.view.outline pool.old).holds volume }
     requires size { size ≡ known_bytes (V.view.outline pool.old).geometry (V.view.more pool.old) volume }
     requires payload { length payload.now ≡ payload_len request }
-    requires room { 1048604 ≤ length out.old }
+    requires room { 2097172 ≤ length out.old }
     ensures answer { Serves V.view.outline (PoolCall V.view) (verdict_in manner size request) volume size manner request payload.now
         pool.old (take result.1 out.new) result.0 pool.new }
     ensures sound { IsSound result.0 }
@@ -315,12 +425,12 @@ fn serve<V: Walked>(
         Verdict::Refuse(error) => (same, put_error(out, manner, &request, error)),
         Verdict::Nothing => (same, put_nothing(out, manner, &request)),
         Verdict::Read => (same, read(pool, volume, manner, &request, out)),
-        Verdict::Write => (same, write(pool, volume, &request, payload, out)),
+        Verdict::Write => take_write(pool, volume, size, manner, request, payload, out),
         Verdict::Trim => (same, trim(pool, volume, &request, out)),
         Verdict::WriteZeroes => (same, write_zeroes(pool, volume, &request, out)),
         Verdict::Flush => (same, flush(pool, request.cookie, out)),
         Verdict::Long => (at_work(volume, size, manner, request), 0),
-        Verdict::Status => (same, describe(pool, volume, &request, out)),
+        Verdict::Status => (same, describe(pool, volume, manner, &request, out)),
     }
 }
 
@@ -334,6 +444,8 @@ fn agree(profile: Profile, no_zeroes: bool) -> Phase
             profile,
             is_structured: false,
             context: NO_VOLUME,
+            tells_blocks: false,
+            since: NO_VOLUME,
         },
     }
 }

@@ -1,14 +1,16 @@
 //! Laws of a session, over all texts.
 
-ghost use Rattle.std.specs.Prelude.{◌≡◌, ◌++◌, ◌<◌, ℕ, List, Bool};
+ghost use Rattle.std.specs.Prelude.{◌≡◌, ◌++◌, ◌<◌, ◌≤◌, ◌+◌, ◌*◌, ◌%◌, ℕ, List, Bool, true, length};
 ghost use Rattle.std.specs.FinMap.{entries};
-ghost use Rattle.tp_model.specs.Pool.{IsSound, PlainPool, outline_of, volume_slots};
+ghost use Rattle.tp_model.specs.Pool.{IsSound, PlainPool, outline_of, volume_sectors, volume_slots};
 ghost use Rattle.tp_model.specs.Calls.{piece_from};
 ghost use Rattle.nbd_wire.specs.declared.Request.{Request};
+ghost use Rattle.nbd_wire.specs.declared.contexts.MetaContext.TheVariants.{Allocation, Since};
 ghost use Rattle.nbd_session.specs.declared.phase.Phase.{Phase};
 ghost use Rattle.nbd_session.specs.Session.{LetsGo, State, Steps};
 ghost use Rattle.nbd_session.specs.Clauses.{Feeds, PlainCall};
-ghost use Rattle.nbd_session.specs.Status.{AreTold, IsBlank, IsMapped, IsStatus, IsUnmapped, TellsOf, first_block, unit_of};
+ghost use Rattle.nbd_session.specs.Status.{AreTold, IsAllocation, IsBlank, IsEqual, IsMapped, IsOther, IsSame, IsSince, IsUnmapped, TellsOf, bytes_of, first_block, unit_of};
+ghost use Rattle.nbd_session.specs.Holes.{Anything, IsHoled, TellsHoles, bytes_in, filled};
 ghost use Rattle.nbd_session.specs.Talk.{Converses};
 ghost use Rattle.nbd_session.specs.Turns.{AreLives, AreRuns, AreSame, AreTurns, Happened, Life, Sessions, sent_to};
 ghost use Rattle.tp_model.specs.Clauses.{HasTrace, PoolCall, Traced, TracedCall, outline_of_traced};
@@ -67,11 +69,37 @@ pub fn lives_are_runs<V: Volumes>()
 /// What BLOCK_STATUS is answered is exact: each byte that is told as data lies in a block that is mapped, and each byte of a hole in one that is not, where sectors are
 /// zero, in any pool that calls make. The extents begin at the request's first byte, each has a byte at least, none ends behind the request, and with REQ_ONE there is one alone.
 pub fn statuses_are_exact()
-    ensures exact { (s : PlainPool) (id : ℕ) (r : Request) (sent : List ℕ) → 0 < r.len → 0 < unit_of s.geometry → first_block (unit_of s.geometry) r < 16777216
-        → IsStatus (unit_of s.geometry) r (piece_from (first_block (unit_of s.geometry) r) (entries (volume_slots s id))) sent
-        → TellsOf (IsMapped s id) (IsUnmapped s id) r sent }
-    ensures zeros { (s : PlainPool) (id at : ℕ) (extents : List (ℕ × ℕ)) → IsSound s → AreTold (IsMapped s id) (IsUnmapped s id) at extents
-        → AreTold (IsMapped s id) (IsBlank s id) at extents }
+    ensures exact { (s : PlainPool) (id : ℕ) (is_last : Bool) (r : Request) (sent : List ℕ) → 0 < r.len → 0 < unit_of s.geometry → first_block (unit_of s.geometry) r < 16777216
+        → IsAllocation is_last (unit_of s.geometry) r (piece_from (first_block (unit_of s.geometry) r) (entries (volume_slots s id))) sent
+        → TellsOf is_last Allocation (IsMapped s id) (IsUnmapped s id) r sent }
+    ensures zeros { (s : PlainPool) (id at : ℕ) (extents : List (ℕ × ℕ)) → IsSound s → AreTold Allocation (IsMapped s id) (IsUnmapped s id) at extents
+        → AreTold Allocation (IsMapped s id) (IsBlank s id) at extents }
+{
+    pages_are_exact();
+}
+
+/// What BLOCK_STATUS is answered since an older volume is exact too: each byte that is told as clean lies in a block that has the same data block in both volumes, or none in either, and
+/// each that is told as dirty in one that has not. In any pool that calls make, what is clean reads the same in both, where both have it. The extents are such as those of above.
+pub fn changes_are_exact()
+    ensures exact { (s : PlainPool) (old id : ℕ) (r : Request) (sent : List ℕ) → 0 < r.len → 0 < unit_of s.geometry → first_block (unit_of s.geometry) r < 16777216
+        → IsSince (unit_of s.geometry) r (piece_from (first_block (unit_of s.geometry) r) (entries (volume_slots s old)))
+        (piece_from (first_block (unit_of s.geometry) r) (entries (volume_slots s id))) sent
+        → TellsOf true Since (IsOther s old id) (IsSame s old id) r sent }
+    ensures equal { (s : PlainPool) (old id at : ℕ) (extents : List (ℕ × ℕ)) → IsSound s → AreTold Since (IsOther s old id) (IsSame s old id) at extents
+        → AreTold Since (IsOther s old id) (IsEqual s old id) at extents }
+{
+    pages_are_exact();
+}
+
+/// What a long READ is answered in chunks is exact: there is a chunk for each of some extents of the request, one behind the other, the last one alone says that it is, each byte of a hole lies in a block that is not mapped,
+/// and who puts the chunks over a buffer, the bytes of data as they are and zeros where a hole is, has what was read, in any pool that calls make.
+pub fn holes_are_exact()
+    ensures exact { (s : PlainPool) (id : ℕ) (r : Request) (given sent : List ℕ) → 0 < r.len → length given ≡ r.len → 0 < unit_of s.geometry → first_block (unit_of s.geometry) r < 16777216
+        → IsHoled (unit_of s.geometry) r given (piece_from (first_block (unit_of s.geometry) r) (entries (volume_slots s id))) sent
+        → TellsHoles (IsUnmapped s id) r given sent }
+    ensures filled { (s : PlainPool) (id : ℕ) (r : Request) (extents : List (ℕ × ℕ)) → IsSound s → r.offset % 512 ≡ 0 → r.len % 512 ≡ 0
+        → r.offset + r.len ≤ 512 * length (volume_sectors s id) → AreTold Allocation Anything (IsUnmapped s id) r.offset extents → bytes_of extents ≡ r.len
+        → filled extents (bytes_in s id r) ≡ bytes_in s id r }
 {
     pages_are_exact();
 }

@@ -9,6 +9,7 @@ mod advance;
 mod answer;
 mod feeding;
 mod gather;
+mod holes;
 mod laws;
 mod listing;
 mod name;
@@ -24,10 +25,10 @@ mod status;
 pub use answer::MAX_ANSWER;
 pub use feeding::feed;
 pub use laws::{
-    lives_are_runs, one_place, pieces_join, sessions_are_plain, statuses_are_exact,
-    turns_are_traced,
+    changes_are_exact, holes_are_exact, lives_are_runs, one_place, pieces_join, sessions_are_plain,
+    statuses_are_exact, turns_are_traced,
 };
 pub use name::id_of;
 pub use phase::{Course, Manner, Phase, Profile, Terms};
 pub use session::{Answered, Session, Step};
-pub use shared::begins_with_read;
+pub use shared::begins_with_look;

@@ -1,23 +1,25 @@
 //! The answer to one option.
 
-ghost use Rattle.std.specs.Prelude.{◌≡◌, ◌≤◌, ◌<◌, [], false, true, if◌then◌else◌, length, take};
+ghost use Rattle.std.specs.Prelude.{◌≡◌, ◌≤◌, ◌<◌, ◌+◌, ◌++◌, [], false, true, if◌then◌else◌, length, take};
 ghost use Rattle.tp_model.specs.Pool.{hold_count, hold_total};
 ghost use Rattle.tp_model.specs.Calls.{is_failed, is_read_only};
 ghost use Rattle.tp_model.specs.Clauses.{PoolCall};
-ghost use Rattle.nbd_wire.specs.Contexts.{asks_for, lists};
+ghost use Rattle.nbd_wire.specs.declared.writing.ReplyType.TheVariants.{Context};
+ghost use Rattle.nbd_wire.specs.Contexts.{asks_for, context_data, lists, since_name};
 ghost use Rattle.nbd_wire.specs.Replies.{option_reply};
 ghost use Rattle.nbd_session.specs.Requests.{bytes_of_blocks};
-ghost use Rattle.nbd_session.specs.Looking.{IsTold, Learns, LooksUp, TakesHold, TakesOn};
-ghost use Rattle.nbd_session.specs.Session.{AsksFor, Chooses, Exports, Extends, Informs, IsOutcome, Queries, begun, context_reply, export_name, flags_in, go, in_context, info, info_reply, list_context, manner_of, option_error, set_context, structures};
+ghost use Rattle.nbd_session.specs.Looking.{IsTold, Learns, LooksUp, Sought, TakesHold, TakesOn};
+ghost use Rattle.nbd_session.specs.Session.{AsksFor, Chooses, Exports, Extends, Informs, IsOutcome, LooksFor, Queries, SeeksFor, allocation_reply, begun, context_reply, export_name, flags_in, go, in_context, info, info_reply, is_told_of, list_context, manner_of, option_error, set_context, since_reply, structures, without_context};
 
 use crate::listing::list;
-use crate::name::meant;
+use crate::name::{id_of, meant};
 use crate::phase::{Course, Manner, NO_VOLUME, Phase, Terms, is_extended};
+use itoa::Buffer;
 use nbd_wire::{
     ALLOCATION_CONTEXT, OPTION_ABORT, OPTION_EXPORT_NAME, OPTION_GO, OPTION_INFO, OPTION_LIST,
     OPTION_LIST_META_CONTEXT, OPTION_SET_META_CONTEXT, OPTION_STRUCTURED_REPLY, ReplyType,
-    info_name, put_block_size_info, put_context_reply, put_export_info, put_export_reply,
-    put_option_reply_head, read_query,
+    SINCE_CONTEXT, info_name, put_block_size_info, put_context_reply, put_export_info,
+    put_export_reply, put_option_reply_head, put_since_reply, read_query,
 };
 use tp_model::{DevId, Geometry, Mode, Refusal, Volumes};
 
@@ -99,37 +101,123 @@ fn flags_in(terms: Terms, flags: u16) -> u16
     multi_conn + (send_df + flags)
 }
 
+/// Whether the contexts that were asked for are those of this volume.
+fn is_told_of(terms: Terms, volume: DevId) -> bool
+    ensures { result ≡ is_told_of terms volume }
+{
+    terms.is_structured && terms.context == volume.number()
+}
+
+/// Since which older volume is to be told, where anything is.
+fn since_where(is_told: bool, since: u32) -> u32
+    ensures { result ≡ (if is_told then since else 16777216) }
+{
+    if is_told { since } else { NO_VOLUME }
+}
+
 /// How requests are taken and answered once transmission begins.
 fn manner_of(terms: Terms, volume: DevId) -> Manner
     ensures { result ≡ manner_of terms volume }
 {
+    let is_told = is_told_of(terms, volume);
     Manner {
         is_extended: is_extended(terms.profile),
         is_structured: terms.is_structured,
-        tells_blocks: terms.is_structured && terms.context == volume.number(),
+        tells_blocks: is_told && terms.tells_blocks,
+        since: since_where(is_told, terms.since),
     }
 }
 
-/// The same terms with another context.
-fn in_context(terms: Terms, context: u32) -> Terms
-    ensures { result ≡ in_context terms context }
+/// The same terms with other contexts.
+fn in_context(terms: Terms, context: u32, tells_blocks: bool, since: u32) -> Terms
+    ensures { result ≡ in_context terms context tells_blocks since }
 {
-    Terms { context, ..terms }
+    Terms {
+        context,
+        tells_blocks,
+        since,
+        ..terms
+    }
 }
 
-/// The answer to an option that looks for the one context, at the front: a reply that tells it under this number where it is asked for, and ACK.
-#[tactic(auto, unfolding(crate::specs::Session::context_reply))]
-fn put_context(out: &mut [u8], option: u32, number: u32, is_asked: bool) -> usize
-    requires { 59 ≤ length out.old }
-    ensures reply { take result out.new ≡ context_reply option number is_asked }
-    ensures fits { result ≤ length out.new }
+/// The same terms with no context.
+fn without_context(terms: Terms) -> Terms
+    ensures { result ≡ without_context terms }
+{
+    in_context(terms, NO_VOLUME, false, NO_VOLUME)
+}
+
+/// The reply that tells `base:allocation` under a number, at the front, where it is asked for.
+fn put_allocation(out: &mut [u8], option: u32, code: u32, is_asked: bool) -> usize
+    requires { 39 ≤ length out.old }
+    ensures reply { take result out.new ≡ allocation_reply option code is_asked }
+    ensures end { result ≤ 39 }
     ensures len { length out.new ≡ length out.old }
 {
     if !is_asked {
-        return put_option_reply(out, option, ReplyType::Acknowledged);
+        return 0;
     }
-    let end = put_context_reply(out, 0, option, number);
-    put_option_reply_head(out, end, option, ReplyType::Acknowledged, 0)
+    put_context_reply(out, 0, option, code)
+}
+
+/// The reply that tells under a number since which older volume, at a place, where there is one.
+fn put_since(out: &mut [u8], at: usize, option: u32, code: u32, since: u32) -> usize
+    requires { at + 47 ≤ length out.old }
+    ensures reply { take result out.new ≡ take at out.old ++ since_reply option code since }
+    ensures end { result ≤ at + 47 }
+    ensures len { length out.new ≡ length out.old }
+{
+    if since >= NO_VOLUME {
+        return at;
+    }
+    put_since_id(out, at, option, code, since)
+}
+
+/// The same where there is one.
+fn put_since_id(out: &mut [u8], at: usize, option: u32, code: u32, since: u32) -> usize
+    requires id { since < 16777216 }
+    requires room { at + 47 ≤ length out.old }
+    ensures reply { take result out.new ≡ take at out.old ++ option_reply option Context (context_data code (since_name since)) }
+    ensures end { result ≤ at + 47 }
+    ensures len { length out.new ≡ length out.old }
+{
+    let mut digits = Buffer::new();
+    let id = digits.format(since).as_bytes();
+    put_since_reply(out, at, option, code, id)
+}
+
+/// The answer to an option that looks for contexts, at the front: a reply for each that is asked for, under its number, and ACK.
+#[tactic(auto, unfolding(crate::specs::Session::context_reply))]
+fn put_contexts(
+    out: &mut [u8],
+    option: u32,
+    first: u32,
+    second: u32,
+    is_asked: bool,
+    since: u32,
+) -> usize
+    requires { 106 ≤ length out.old }
+    ensures reply { take result out.new ≡ context_reply option first second is_asked since }
+    ensures fits { result ≤ length out.new }
+    ensures len { length out.new ≡ length out.old }
+{
+    let behind_first = put_allocation(out, option, first, is_asked);
+    let behind_second = put_since(out, behind_first, option, second, since);
+    put_option_reply_head(out, behind_second, option, ReplyType::Acknowledged, 0)
+}
+
+/// The id of the older volume that a query names, where it is there, and else a number that is none.
+fn seek<V: Volumes>(pool: &mut V, text: &[u8]) -> Result<u32, Refusal>
+    ensures { Sought V.view.outline (PoolCall V.view) text.now result pool.old pool.new }
+{
+    let Some(id) = id_of(text) else {
+        return Ok(NO_VOLUME);
+    };
+    match look_up(pool, id) {
+        Ok(true) => Ok(id.number()),
+        Ok(false) => Ok(NO_VOLUME),
+        Err(refusal) => Err(refusal),
+    }
 }
 
 /// LIST_META_CONTEXT of a volume.
@@ -137,21 +225,42 @@ fn tell_list<V: Volumes>(
     terms: Terms,
     volume: DevId,
     is_listed: bool,
+    since: u32,
     out: &mut [u8],
     pool: &mut V,
 ) -> (Phase, usize)
-    requires room { 86 ≤ length out.old }
-    ensures answer { AsksFor V.view.outline (PoolCall V.view) (list_context terms is_listed) volume pool.old (take result.1 out.new) result.0 pool.new }
+    requires room { 106 ≤ length out.old }
+    ensures answer { AsksFor V.view.outline (PoolCall V.view) (list_context terms is_listed since) volume pool.old (take result.1 out.new) result.0 pool.new }
     ensures fits { result.1 ≤ length out.new }
     ensures len { length out.new ≡ length out.old }
 {
     match find(pool, volume) {
         Ok(Some(_)) => (
             Phase::Options { terms },
-            put_context(out, OPTION_LIST_META_CONTEXT, 0, is_listed),
+            put_contexts(out, OPTION_LIST_META_CONTEXT, 0, 0, is_listed, since),
         ),
         Ok(None) => answer_error(terms, OPTION_LIST_META_CONTEXT, ReplyType::Unknown, out),
         Err(_) => (Phase::Ended, 0),
+    }
+}
+
+/// LIST_META_CONTEXT of the volume that a name means.
+fn list_of<V: Volumes>(
+    terms: Terms,
+    name: &[u8],
+    is_listed: bool,
+    since: u32,
+    out: &mut [u8],
+    pool: &mut V,
+) -> (Phase, usize)
+    requires room { 106 ≤ length out.old }
+    ensures answer { LooksFor V.view.outline (PoolCall V.view) (list_context terms is_listed since) name.now pool.old (take result.1 out.new) result.0 pool.new }
+    ensures fits { result.1 ≤ length out.new }
+    ensures len { length out.new ≡ length out.old }
+{
+    match meant(terms.profile, name) {
+        None => answer_error(terms, OPTION_LIST_META_CONTEXT, ReplyType::Unknown, out),
+        Some(volume) => tell_list(terms, volume, is_listed, since, out, pool),
     }
 }
 
@@ -160,25 +269,95 @@ fn tell_set<V: Volumes>(
     terms: Terms,
     volume: DevId,
     is_asked: bool,
+    since: u32,
     out: &mut [u8],
     pool: &mut V,
 ) -> (Phase, usize)
-    requires room { 86 ≤ length out.old }
-    ensures answer { AsksFor V.view.outline (PoolCall V.view) (set_context terms is_asked) volume pool.old (take result.1 out.new) result.0 pool.new }
+    requires room { 106 ≤ length out.old }
+    ensures answer { AsksFor V.view.outline (PoolCall V.view) (set_context terms is_asked since) volume pool.old (take result.1 out.new) result.0 pool.new }
     ensures fits { result.1 ≤ length out.new }
     ensures len { length out.new ≡ length out.old }
 {
     match find(pool, volume) {
         Ok(Some(_)) => {
-            let context = if is_asked { volume.number() } else { NO_VOLUME };
-            let terms = in_context(terms, context);
-            let sent = put_context(out, OPTION_SET_META_CONTEXT, ALLOCATION_CONTEXT, is_asked);
+            let terms = in_context(terms, volume.number(), is_asked, since);
+            let sent = put_contexts(
+                out,
+                OPTION_SET_META_CONTEXT,
+                ALLOCATION_CONTEXT,
+                SINCE_CONTEXT,
+                is_asked,
+                since,
+            );
             (Phase::Options { terms }, sent)
         }
         Ok(None) => {
-            let terms = in_context(terms, NO_VOLUME);
+            let terms = without_context(terms);
             answer_error(terms, OPTION_SET_META_CONTEXT, ReplyType::Unknown, out)
         }
+        Err(_) => (Phase::Ended, 0),
+    }
+}
+
+/// SET_META_CONTEXT of the volume that a name means.
+fn set_of<V: Volumes>(
+    terms: Terms,
+    name: &[u8],
+    is_asked: bool,
+    since: u32,
+    out: &mut [u8],
+    pool: &mut V,
+) -> (Phase, usize)
+    requires room { 106 ≤ length out.old }
+    ensures answer { LooksFor V.view.outline (PoolCall V.view) (set_context terms is_asked since) name.now pool.old (take result.1 out.new) result.0 pool.new }
+    ensures fits { result.1 ≤ length out.new }
+    ensures len { length out.new ≡ length out.old }
+{
+    match meant(terms.profile, name) {
+        None => {
+            let terms = without_context(terms);
+            answer_error(terms, OPTION_SET_META_CONTEXT, ReplyType::Unknown, out)
+        }
+        Some(volume) => tell_set(terms, volume, is_asked, since, out, pool),
+    }
+}
+
+/// LIST_META_CONTEXT of the volume that a name means; the queries say this text of an older one.
+fn list_by<V: Volumes>(
+    terms: Terms,
+    name: &[u8],
+    is_listed: bool,
+    text: &[u8],
+    out: &mut [u8],
+    pool: &mut V,
+) -> (Phase, usize)
+    requires room { 106 ≤ length out.old }
+    ensures answer { SeeksFor V.view.outline (PoolCall V.view) (list_context terms is_listed) text.now name.now pool.old (take result.1 out.new) result.0 pool.new }
+    ensures fits { result.1 ≤ length out.new }
+    ensures len { length out.new ≡ length out.old }
+{
+    match seek(pool, text) {
+        Ok(since) => list_of(terms, name, is_listed, since, out, pool),
+        Err(_) => (Phase::Ended, 0),
+    }
+}
+
+/// SET_META_CONTEXT of the volume that a name means; the queries say this text of an older one.
+fn set_by<V: Volumes>(
+    terms: Terms,
+    name: &[u8],
+    is_asked: bool,
+    text: &[u8],
+    out: &mut [u8],
+    pool: &mut V,
+) -> (Phase, usize)
+    requires room { 106 ≤ length out.old }
+    ensures answer { SeeksFor V.view.outline (PoolCall V.view) (set_context terms is_asked) text.now name.now pool.old (take result.1 out.new) result.0 pool.new }
+    ensures fits { result.1 ≤ length out.new }
+    ensures len { length out.new ≡ length out.old }
+{
+    match seek(pool, text) {
+        Ok(since) => set_of(terms, name, is_asked, since, out, pool),
         Err(_) => (Phase::Ended, 0),
     }
 }
@@ -190,7 +369,7 @@ fn list_contexts<V: Volumes>(
     out: &mut [u8],
     pool: &mut V,
 ) -> (Phase, usize)
-    requires room { 86 ≤ length out.old }
+    requires room { 106 ≤ length out.old }
     ensures answer { Queries V.view.outline (PoolCall V.view) OPTION_LIST_META_CONTEXT lists (list_context terms) terms terms payload.now pool.old (take result.1 out.new) result.0 pool.new }
     ensures fits { result.1 ≤ length out.new }
     ensures len { length out.new ≡ length out.old }
@@ -204,10 +383,7 @@ fn list_contexts<V: Volumes>(
     let Some(query) = read_query(payload) else {
         return answer_error(terms, OPTION_LIST_META_CONTEXT, ReplyType::Invalid, out);
     };
-    match meant(terms.profile, query.name) {
-        None => answer_error(terms, OPTION_LIST_META_CONTEXT, ReplyType::Unknown, out),
-        Some(volume) => tell_list(terms, volume, query.lists, out, pool),
-    }
+    list_by(terms, query.name, query.lists, query.since, out, pool)
 }
 
 /// The answer to SET_META_CONTEXT.
@@ -217,25 +393,22 @@ fn set_contexts<V: Volumes>(
     out: &mut [u8],
     pool: &mut V,
 ) -> (Phase, usize)
-    requires room { 86 ≤ length out.old }
-    ensures answer { Queries V.view.outline (PoolCall V.view) OPTION_SET_META_CONTEXT asks_for (set_context terms) terms (in_context terms 16777216) payload.now pool.old (take result.1 out.new) result.0 pool.new }
+    requires room { 106 ≤ length out.old }
+    ensures answer { Queries V.view.outline (PoolCall V.view) OPTION_SET_META_CONTEXT asks_for (set_context terms) terms (without_context terms) payload.now pool.old (take result.1 out.new) result.0 pool.new }
     ensures fits { result.1 ≤ length out.new }
     ensures len { length out.new ≡ length out.old }
 {
     if has_failed(pool.mode()) {
         return (Phase::Ended, 0);
     }
-    let forgotten = in_context(terms, NO_VOLUME);
+    let forgotten = without_context(terms);
     if !terms.is_structured {
         return answer_error(forgotten, OPTION_SET_META_CONTEXT, ReplyType::Invalid, out);
     }
     let Some(query) = read_query(payload) else {
         return answer_error(forgotten, OPTION_SET_META_CONTEXT, ReplyType::Invalid, out);
     };
-    match meant(terms.profile, query.name) {
-        None => answer_error(forgotten, OPTION_SET_META_CONTEXT, ReplyType::Unknown, out),
-        Some(volume) => tell_set(terms, volume, query.asks, out, pool),
-    }
+    set_by(terms, query.name, query.asks, query.since, out, pool)
 }
 
 /// The answer to an option that an extended session alone may take.
@@ -246,7 +419,7 @@ fn extend<V: Volumes>(
     out: &mut [u8],
     pool: &mut V,
 ) -> (Phase, usize)
-    requires room { 86 ≤ length out.old }
+    requires room { 106 ≤ length out.old }
     ensures answer { Extends V.view.outline (PoolCall V.view) terms option payload.now pool.old (take result.1 out.new) result.0 pool.new }
     ensures fits { result.1 ≤ length out.new }
     ensures len { length out.new ≡ length out.old }

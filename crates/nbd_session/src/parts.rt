@@ -1,15 +1,15 @@
-//! Parts of a long request.
+//! Parts of a long request, and the FLUSH that is left of a WRITE.
 
 ghost use Rattle.std.specs.Prelude.{◌≡◌, ◌≤◌, ◌<◌, ◌+◌, ◌%◌, false, length, take, MatchResult};
 ghost use Rattle.tp_model.specs.Calls.{Done, Refused};
 ghost use Rattle.tp_model.specs.Clauses.{PoolCall};
-ghost use Rattle.nbd_session.specs.Requests.{IsLeft, behind, is_last, known_bytes, len_of_part, part_bytes, part_call, up_to_cut};
+ghost use Rattle.nbd_session.specs.Requests.{IsLeft, behind, is_last, known_bytes, len_of_part, long_call, part_bytes, part_call, up_to_cut};
 ghost use Rattle.nbd_session.specs.Session.{MakesPart, left_in};
 ghost use Rattle.nbd_session.specs.Buffers.{IsSound};
 
 use crate::answer::{at_work, put_refusal, put_reply, wants_fua, wants_no_hole};
 use crate::phase::{Course, Manner, Phase};
-use nbd_wire::{COMMAND_TRIM, Request};
+use nbd_wire::{COMMAND_FLUSH, COMMAND_TRIM, Request};
 use tp_model::{DevId, Geometry, Refusal, Volumes};
 
 /// The bytes of the most whole blocks that 2048 sectors have.
@@ -81,7 +81,33 @@ fn behind(rest: Request, len: u64) -> Request
     }
 }
 
-/// Asks the pool for the next part of a request. FUA is for the last one.
+/// Asks the pool for the next part of a long request. FUA is for the last one.
+fn ask_long<V: Volumes>(
+    pool: &mut V,
+    volume: DevId,
+    rest: &Request,
+    part: Part,
+) -> Result<(), Refusal>
+    requires whole { (rest.now.offset % 512 ≡ 0) × (part.len % 512 ≡ 0) }
+    requires most { part.len ≤ 1048576 }
+    requires inside { rest.now.offset + part.len ≤ known_bytes (V.view.outline pool.old).geometry (V.view.more pool.old) volume }
+    requires len { part.len ≡ len_of_part (V.view.outline pool.old).geometry rest.now }
+    requires last { part.is_last ≡ is_last (V.view.outline pool.old).geometry rest.now }
+    ensures { MatchResult result
+        (λ _. PoolCall V.view pool.old (long_call volume (V.view.outline pool.old).geometry rest.now) Done pool.new)
+        (λ reason. PoolCall V.view pool.old (long_call volume (V.view.outline pool.old).geometry rest.now) (Refused reason) pool.new) }
+{
+    let sector = rest.offset / 512;
+    let count = part.len / 512;
+    let fua = wants_fua(rest) && part.is_last;
+    if rest.kind == COMMAND_TRIM {
+        pool.trim(volume, sector, count, fua)
+    } else {
+        pool.write_zeroes(volume, sector, count, wants_no_hole(rest), fua)
+    }
+}
+
+/// Asks the pool for what is made next of a request: the next part of a long one, or the FLUSH that is left of a WRITE.
 fn ask_part<V: Volumes>(
     pool: &mut V,
     volume: DevId,
@@ -97,13 +123,10 @@ fn ask_part<V: Volumes>(
         (λ _. PoolCall V.view pool.old (part_call volume (V.view.outline pool.old).geometry rest.now) Done pool.new)
         (λ reason. PoolCall V.view pool.old (part_call volume (V.view.outline pool.old).geometry rest.now) (Refused reason) pool.new) }
 {
-    let sector = rest.offset / 512;
-    let count = part.len / 512;
-    let fua = wants_fua(rest) && part.is_last;
-    if rest.kind == COMMAND_TRIM {
-        pool.trim(volume, sector, count, fua)
+    if rest.kind == COMMAND_FLUSH {
+        pool.flush()
     } else {
-        pool.write_zeroes(volume, sector, count, wants_no_hole(rest), fua)
+        ask_long(pool, volume, rest, part)
     }
 }
 

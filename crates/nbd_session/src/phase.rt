@@ -1,9 +1,9 @@
 //! Where a session stands.
 
 ghost use Rattle.std.specs.Prelude.{◌≡◌};
-ghost use Rattle.nbd_session.specs.Session.{is_at_work, is_extended};
+ghost use Rattle.nbd_session.specs.Session.{is_at_work, is_extended, is_to_flush, keeps_apart};
 
-use nbd_wire::Request;
+use nbd_wire::{COMMAND_FLUSH, Request};
 use tp_model::DevId;
 
 /// What a session offers its client.
@@ -11,7 +11,8 @@ use tp_model::DevId;
 pub enum Profile {
     /// One connection for each client, requests of at most 1 MiB, and no volume for the empty name.
     Strict,
-    /// Several connections of one client, TRIM and WRITE_ZEROES of any length, structured replies to READ, and BLOCK_STATUS.
+    /// Several connections of one client, TRIM and WRITE_ZEROES of any length, structured replies to READ, and BLOCK_STATUS. Its WRITEs with FUA are kept apart:
+    /// each is made, and then flushed.
     Extended,
     /// The same, and this volume for the empty name; none where the number is over 16777215.
     WithDefault { volume: u32 },
@@ -47,8 +48,12 @@ pub struct Terms {
     pub profile: Profile,
     /// Whether READs are to be answered in chunks, as the client has asked for.
     pub is_structured: bool,
-    /// The volume of which the client wants to be told where it has data; none where the number is over 16777215.
+    /// The volume of which the client wants to be told; none where the number is over 16777215.
     pub context: u32,
+    /// Whether it wants to be told where that volume has data.
+    pub tells_blocks: bool,
+    /// The older volume from which it wants to be told where that one may differ; none where the number is over 16777215.
+    pub since: u32,
 }
 
 /// How requests are taken and answered in transmission.
@@ -58,8 +63,10 @@ pub struct Manner {
     pub is_extended: bool,
     /// Whether READs are answered in chunks.
     pub is_structured: bool,
-    /// Whether BLOCK_STATUS is answered.
+    /// Whether BLOCK_STATUS is answered where the volume has data.
     pub tells_blocks: bool,
+    /// The older volume from which BLOCK_STATUS is answered where the volume may differ; none where the number is over 16777215.
+    pub since: u32,
 }
 
 /// What a session in transmission does next.
@@ -67,7 +74,7 @@ pub struct Manner {
 pub enum Course {
     /// It takes a request.
     Listens { manner: Manner },
-    /// It makes the next part of a request of which so much is left.
+    /// It makes the next part of a request of which so much is left, or the FLUSH that is left of a WRITE.
     Works { manner: Manner, rest: Request },
 }
 
@@ -110,4 +117,30 @@ pub fn is_at_work(phase: Phase) -> bool
             ..
         }
     )
+}
+
+/// Whether nothing but a FLUSH is left of its request.
+pub fn is_to_flush(phase: Phase) -> bool
+    ensures { result ≡ is_to_flush phase }
+{
+    match phase {
+        Phase::Transmission { course, .. } => match course {
+            Course::Works { rest, .. } => rest.kind == COMMAND_FLUSH,
+            Course::Listens { .. } => false,
+        },
+        _ => false,
+    }
+}
+
+/// Whether its WRITEs with FUA are kept apart.
+pub fn keeps_apart(phase: Phase) -> bool
+    ensures { result ≡ keeps_apart phase }
+{
+    match phase {
+        Phase::Transmission { course, .. } => match course {
+            Course::Works { manner, .. } => manner.is_extended,
+            Course::Listens { manner } => manner.is_extended,
+        },
+        _ => false,
+    }
 }

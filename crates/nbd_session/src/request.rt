@@ -3,9 +3,9 @@
 ghost use Rattle.std.specs.Prelude.{◌≡◌, ◌⊎◌, IfNone, if◌then◌else◌, true};
 ghost use Rattle.tp_model.specs.Requests.{form_error};
 ghost use Rattle.tp_model.specs.declared.refusal.NbdError.TheVariants.{Invalid, NoSpace};
-ghost use Rattle.nbd_session.specs.Requests.{IsForSectors, IsLeft, IsTested, IsWhole, form_of, is_chunked, is_long, is_status, long_error, plainly, reads_in_chunks, status_error, verdict_in, verdict_on, without_df};
+ghost use Rattle.nbd_session.specs.Requests.{IsForSectors, IsLeft, IsTested, IsWhole, form_of, has_context, is_chunked, is_long, is_look, is_status, long_error, plainly, reads_in_chunks, status_error, verdict_in, verdict_on, without_df};
 
-use crate::phase::Manner;
+use crate::phase::{Manner, NO_VOLUME};
 use nbd_wire::{
     COMMAND_BLOCK_STATUS, COMMAND_DISC, COMMAND_FLUSH, COMMAND_READ, COMMAND_TRIM, COMMAND_WRITE,
     COMMAND_WRITE_ZEROES, Request,
@@ -33,7 +33,7 @@ pub enum Verdict {
     Disconnect,
     /// The parts of a long request are to be made.
     Long,
-    /// Where there is data is to be told.
+    /// Where there is data, or where it may differ from an older volume, is to be told.
     Status,
 }
 
@@ -150,11 +150,25 @@ pub(crate) fn is_chunked(manner: Manner, request: &Request) -> bool
     manner.is_structured && (request.kind == COMMAND_READ || request.kind == COMMAND_BLOCK_STATUS)
 }
 
+/// Whether the volume is to be told of in any context.
+fn has_context(manner: Manner) -> bool
+    ensures { result ≡ has_context manner }
+{
+    manner.tells_blocks || manner.since < NO_VOLUME
+}
+
 /// Whether a request is a BLOCK_STATUS that is answered.
 fn is_status(manner: Manner, request: &Request) -> bool
     ensures { result ≡ is_status manner request.now }
 {
-    manner.tells_blocks && request.kind == COMMAND_BLOCK_STATUS
+    has_context(manner) && request.kind == COMMAND_BLOCK_STATUS
+}
+
+/// Whether a request looks at its volume and changes nothing: a READ, or a BLOCK_STATUS.
+pub(crate) fn is_look(request: &Request) -> bool
+    ensures { result ≡ is_look request.now }
+{
+    request.kind == COMMAND_READ || request.kind == COMMAND_BLOCK_STATUS
 }
 
 /// The error of the first test of a BLOCK_STATUS that fails, for a volume of so many bytes.

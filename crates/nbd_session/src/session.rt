@@ -4,7 +4,7 @@ ghost use Rattle.std.specs.Prelude.{◌≡◌, ◌<◌, ◌≤◌, [], false, le
 
 use crate::advance::{advance, has_ended_in};
 use crate::answer::{MAX_ANSWER, end};
-use crate::phase::{Phase, Profile, is_at_work};
+use crate::phase::{Phase, Profile, is_at_work, is_to_flush, keeps_apart};
 use crate::shared::take_read;
 use nbd_wire::{MAX_FRAME, put_greeting};
 use std::alloc::{AllocError, Global};
@@ -57,8 +57,8 @@ pub struct Answered {
 impl Session {
     ghost use Rattle.std.specs.Borrow.{sem};
     ghost use Rattle.nbd_wire.specs.Replies.{greeting};
-    ghost use Rattle.nbd_session.specs.Requests.{BeginsWithRead};
-    ghost use Rattle.nbd_session.specs.Session.{is_at_work, left_in, state};
+    ghost use Rattle.nbd_session.specs.Requests.{BeginsWithLook};
+    ghost use Rattle.nbd_session.specs.Session.{is_at_work, is_to_flush, keeps_apart, left_in, state};
     ghost use Rattle.nbd_session.specs.Clauses.{Advances, IsCalm, IsReady, Leaves};
     ghost use Rattle.nbd_session.specs.contracts.session.Session.{the_row};
     ghost use mathlib.Core.Option.{none};
@@ -100,6 +100,20 @@ impl Session {
         is_at_work(self.phase)
     }
 
+    /// Whether nothing but a FLUSH is left of that request: the next step keeps what was written.
+    pub fn is_to_flush(&self) -> bool
+        ensures { result ≡ is_to_flush self.now.phase }
+    {
+        is_to_flush(self.phase)
+    }
+
+    /// Whether its WRITEs with FUA are kept apart.
+    pub fn keeps_apart(&self) -> bool
+        ensures { result ≡ keeps_apart self.now.phase }
+    {
+        keeps_apart(self.phase)
+    }
+
     /// What is sent before anything comes. It changes nothing.
     pub fn greeting(&mut self) -> &[u8]
         ensures* greets { sem 𝓛 (follows_so the_row the_row self.entry.ghost_name none (λ _ _. ⊤)
@@ -120,8 +134,9 @@ impl Session {
 
     /// Takes bytes of a piece, up to the end of one frame, and answers that frame in the step that takes its last byte: from the
     /// frame, and from what the pool answered to the calls that the frame makes of it: LIST one for each volume and one more, an option
-    /// that looks for a volume one, one that holds it and one that tells its size; another frame one at most, BLOCK_STATUS a walk. Where the size of a volume that is
-    /// held is refused, it is let go. Over a pool that has a trace this is a step of the traced plain pool: bytes, faults and what a
+    /// that looks for a volume one, one that holds it and one that tells its size, and one more where it is to tell since an older volume;
+    /// another frame one at most, BLOCK_STATUS a walk or two, and a long READ in chunks a walk more. Where the size of a
+    /// volume that is held is refused, it is let go. Over a pool that has a trace this is a step of the traced plain pool: bytes, faults and what a
     /// stop leaves at any moment of it stand on one trace.
     ///
     /// A frame that stands whole in the piece is used from there, and what a READ gives goes from the pool to its place in the answer.
@@ -168,10 +183,10 @@ impl Session {
         }
     }
 
-    /// Answers the READ with which a piece begins, by a shared read: a step, with the answer at the front of the buffer, that leaves the session and the
-    /// pool as they are. None where that cannot be, and then nothing was done, but that the buffer may hold anything: a step is to be taken. So it is where
-    /// no READ stands whole at the front of the piece, bytes of an unfinished frame are held, a test of the READ fails or it is of no bytes, or the pool has no
-    /// shared read of it.
+    /// Answers the READ or BLOCK_STATUS with which a piece begins, by a shared read or walk: a step, with the answer at the front of the buffer, that leaves the
+    /// session and the pool as they are. None where that cannot be, and then nothing was done, but that the buffer may hold anything: a step is to be taken. So it
+    /// is where none of both stands whole at the front of the piece, bytes of an unfinished frame are held, a test of the request fails or it is of no bytes, or the
+    /// pool has no shared read or walk of it.
     pub fn read_shared<V: Volumes, S: SharedReads<V>>(
         &self,
         pool: &S,
@@ -181,7 +196,7 @@ impl Session {
         requires ready { IsReady self.now.phase (V.view.outline (S.of pool.now)) (V.view.more (S.of pool.now)) }
         requires room { MAX_ANSWER ≤ length out.old }
         ensures steps { IfSome result (λ a. Advances V.view self.now (S.of pool.now) piece.now a.taken (take a.sent out.new) a.ended self.now (S.of pool.now)) }
-        ensures begins { IfSome result (λ a. BeginsWithRead piece.now) }
+        ensures begins { IfSome result (λ a. BeginsWithLook piece.now) }
         ensures goes_on { IfSome result (λ a. (a.ended ≡ false) × (0 < a.taken) × (a.taken ≤ length piece.now)) }
         ensures fits { IfSome result (λ a. a.sent ≤ length out.new) }
         ensures len { length out.new ≡ length out.old }

@@ -1,19 +1,22 @@
-//! The READ with which a piece begins, where the pool has a shared read of it: neither the session nor the pool changes by it.
+//! The READ or BLOCK_STATUS with which a piece begins, where the pool has a shared read or walk of it: neither the session nor the pool changes by it.
 
-ghost use Rattle.std.specs.Prelude.{◌≡◌, ◌≤◌, ◌<◌, ◌/◌, ℕ, List, [], false, length, take, IfSome, MatchBool};
+ghost use Rattle.std.specs.Prelude.{◌≡◌, ◌≤◌, ◌<◌, ◌+◌, ◌/◌, ℕ, List, [], false, length, take, drop, IfSome, IsTrue, MatchBool};
 ghost use Rattle.tp_model.specs.Calls.{Read};
 ghost use Rattle.tp_model.specs.Clauses.{PoolCall};
 ghost use Rattle.nbd_wire.specs.Reading.{message_of, whole_len};
-ghost use Rattle.nbd_session.specs.Requests.{BeginsWithRead, IsWhole, is_read_message, known_bytes, verdict_in};
-ghost use Rattle.nbd_session.specs.Session.{AnswersText, Performs, Serves, Steps, chunk_to, is_at_work, read_reply, reply_to, state};
+ghost use Rattle.nbd_session.specs.Requests.{BeginsWithLook, IsWhole, is_look, is_look_message, known_bytes, verdict_in};
+ghost use Rattle.nbd_session.specs.Session.{AnswersRead, AnswersText, Performs, ReadsInChunks, ReadsLong, SeeksFrom, Serves, Steps, chunk_to, is_at_work, reply_to, state};
+ghost use Rattle.nbd_session.specs.Status.{unit_of};
 ghost use Rattle.nbd_session.specs.Clauses.{IsReady};
 
 use crate::answer::{MAX_ANSWER, put_read_chunk_head, put_read_head};
+use crate::holes::{has_blank, may_have_holes, put_holes};
 use crate::phase::{Course, Manner, Phase};
-use crate::request::{Verdict, judge_in};
+use crate::request::{Verdict, is_look, judge_in};
 use crate::session::Answered;
-use nbd_wire::{COMMAND_READ, Frame, Kind, Request, read_frame, wanted};
-use tp_model::{DevId, SharedReads, Volumes};
+use crate::status::{describe_shared, first_block, unit_of};
+use nbd_wire::{Frame, Kind, Request, read_frame, wanted};
+use tp_model::{DevId, SharedReads, Slots, Volumes};
 
 /// A READ of some sectors that is answered by a simple reply, whose data goes to its place behind the reply's head. None where the pool has no shared read of them.
 fn read_simply<V: Volumes, S: SharedReads<V>>(
@@ -57,7 +60,81 @@ fn read_in_chunk<V: Volumes, S: SharedReads<V>>(
     Some(put_read_chunk_head(out, request))
 }
 
-/// A READ of some sectors. None where the pool has no shared read of them.
+/// Asks for a walk over the blocks of a READ, whose bytes stand behind the head of its one chunk, and answers by what that told. None where the pool has no shared walk of the
+/// volume.
+fn seek_beside<V: Volumes, S: SharedReads<V>>(
+    pool: &S,
+    volume: DevId,
+    request: &Request,
+    out: &mut [u8],
+) -> Option<usize>
+    requires some { 0 < request.now.len }
+    requires most { request.now.len ≤ 1048576 }
+    requires inside { request.now.offset + request.now.len < 18446744073709551616 }
+    requires room { 2097172 ≤ length out.old }
+    ensures sought { IfSome result (λ sent. SeeksFrom V.view.outline (PoolCall V.view) volume (unit_of (V.view.outline (S.of pool.now)).geometry) request.now
+        (take request.now.len (drop 28 out.old)) (S.of pool.now) (take sent out.new) (S.of pool.now)) }
+    ensures fits { IfSome result (λ sent. sent ≤ length out.new) }
+    ensures len { length out.new ≡ length out.old }
+{
+    let unit = unit_of(&pool.geometry_beside());
+    let Some(from) = first_block(unit, request) else {
+        return None;
+    };
+    let mut slots = Slots::new();
+    if !pool.walk_beside(volume, from, &mut slots) {
+        return None;
+    }
+    Some(put_holes(out, unit, from, request, &slots))
+}
+
+/// The same of one of as many bytes as the least block has, or more, which may tell holes. None also where the pool has no shared walk that would tell them.
+fn read_long<V: Volumes, S: SharedReads<V>>(
+    pool: &S,
+    volume: DevId,
+    request: &Request,
+    out: &mut [u8],
+) -> Option<usize>
+    requires form { IsWhole (known_bytes (V.view.outline (S.of pool.now)).geometry (V.view.more (S.of pool.now)) volume) request.now }
+    requires some { 0 < request.now.len }
+    requires inside { request.now.offset + request.now.len < 18446744073709551616 }
+    requires room { 2097172 ≤ length out.old }
+    ensures answer { IfSome result (λ sent. ReadsLong V.view.outline (PoolCall V.view) volume request.now (S.of pool.now) (take sent out.new) (S.of pool.now)) }
+    ensures fits { IfSome result (λ sent. sent ≤ length out.new) }
+    ensures len { length out.new ≡ length out.old }
+{
+    let len = request.len as usize;
+    if !pool.read_beside(volume, request.offset / 512, &mut out[28..28 + len]) {
+        return None;
+    }
+    if !has_blank(request, &out[..28 + len]) {
+        return Some(put_read_chunk_head(out, request));
+    }
+    seek_beside(pool, volume, request, out)
+}
+
+/// A READ of some sectors that is answered in chunks.
+fn read_in_chunks<V: Volumes, S: SharedReads<V>>(
+    pool: &S,
+    volume: DevId,
+    request: &Request,
+    out: &mut [u8],
+) -> Option<usize>
+    requires form { IsWhole (known_bytes (V.view.outline (S.of pool.now)).geometry (V.view.more (S.of pool.now)) volume) request.now }
+    requires inside { request.now.offset + request.now.len < 18446744073709551616 }
+    requires room { 2097172 ≤ length out.old }
+    ensures answer { IfSome result (λ sent. ReadsInChunks V.view.outline (PoolCall V.view) volume request.now (S.of pool.now) (take sent out.new) (S.of pool.now)) }
+    ensures fits { IfSome result (λ sent. sent ≤ length out.new) }
+    ensures len { length out.new ≡ length out.old }
+{
+    if may_have_holes(request) {
+        read_long(pool, volume, request, out)
+    } else {
+        read_in_chunk(pool, volume, request, out)
+    }
+}
+
+/// A READ of some sectors. None where the pool has no shared read of them, or no walk that would tell holes.
 fn read<V: Volumes, S: SharedReads<V>>(
     pool: &S,
     volume: DevId,
@@ -66,20 +143,20 @@ fn read<V: Volumes, S: SharedReads<V>>(
     out: &mut [u8],
 ) -> Option<usize>
     requires form { IsWhole (known_bytes (V.view.outline (S.of pool.now)).geometry (V.view.more (S.of pool.now)) volume) request.now }
-    requires room { 1048604 ≤ length out.old }
-    ensures answer { IfSome result (λ sent. Performs V.view.outline (PoolCall V.view) (Read volume (request.now.offset / 512) (request.now.len / 512)) (read_reply manner request.now)
-        (S.of pool.now) (take sent out.new) (S.of pool.now)) }
+    requires inside { request.now.offset + request.now.len < 18446744073709551616 }
+    requires room { 2097172 ≤ length out.old }
+    ensures answer { IfSome result (λ sent. AnswersRead V.view.outline (PoolCall V.view) volume manner request.now (S.of pool.now) (take sent out.new) (S.of pool.now)) }
     ensures fits { IfSome result (λ sent. sent ≤ length out.new) }
     ensures len { length out.new ≡ length out.old }
 {
     if manner.is_structured {
-        read_in_chunk(pool, volume, request, out)
+        read_in_chunks(pool, volume, request, out)
     } else {
         read_simply(pool, volume, request, out)
     }
 }
 
-/// The answer to one request of a volume of so many bytes, where its tests let it read.
+/// The answer to one request of a volume of so many bytes, where its tests let it read, or tell of the volume.
 fn serve<V: Volumes, S: SharedReads<V>>(
     pool: &S,
     volume: DevId,
@@ -89,15 +166,16 @@ fn serve<V: Volumes, S: SharedReads<V>>(
     out: &mut [u8],
 ) -> Option<usize>
     requires size { size ≡ known_bytes (V.view.outline (S.of pool.now)).geometry (V.view.more (S.of pool.now)) volume }
-    requires room { 1048604 ≤ length out.old }
+    requires room { 2097172 ≤ length out.old }
     ensures answer { (payload : List ℕ) → IfSome result (λ sent. Serves V.view.outline (PoolCall V.view) (verdict_in manner size request) volume size manner request payload
         (S.of pool.now) (take sent out.new) (Phase.Transmission volume size (Course.Listens manner)) (S.of pool.now)) }
-    ensures kind { IfSome result (λ sent. request.kind ≡ COMMAND_READ) }
+    ensures kind { IfSome result (λ sent. IsTrue (is_look request)) }
     ensures fits { IfSome result (λ sent. sent ≤ length out.new) }
     ensures len { length out.new ≡ length out.old }
 {
     match judge_in(manner, size, &request) {
         Verdict::Read => read(pool, volume, manner, &request, out),
+        Verdict::Status => describe_shared(pool, volume, manner, &request, out),
         _ => None,
     }
 }
@@ -114,10 +192,10 @@ fn answer_text<V: Volumes, S: SharedReads<V>>(
     requires size { size ≡ known_bytes (V.view.outline (S.of pool.now)).geometry (V.view.more (S.of pool.now)) volume }
     requires fixed { 28 ≤ length text.now }
     requires whole { whole_len Kind.Requests text.now ≡ length text.now }
-    requires room { 1048604 ≤ length out.old }
+    requires room { 2097172 ≤ length out.old }
     ensures answer { IfSome result (λ sent. AnswersText V.view.outline (PoolCall V.view) Kind.Requests (Phase.Transmission volume size (Course.Listens manner)) text.now
         (S.of pool.now) (take sent out.new) (Phase.Transmission volume size (Course.Listens manner)) (S.of pool.now)) }
-    ensures begins { IfSome result (λ sent. BeginsWithRead text.now) }
+    ensures begins { IfSome result (λ sent. BeginsWithLook text.now) }
     ensures fits { IfSome result (λ sent. sent ≤ length out.new) }
     ensures len { length out.new ≡ length out.old }
 {
@@ -127,7 +205,7 @@ fn answer_text<V: Volumes, S: SharedReads<V>>(
     }
 }
 
-/// Takes the READ with which a piece begins, of a session that holds nothing of a frame, and whose volume has so many bytes.
+/// Takes the READ or BLOCK_STATUS with which a piece begins, of a session that holds nothing of a frame, and whose volume has so many bytes.
 fn take_from<V: Volumes, S: SharedReads<V>>(
     pool: &S,
     volume: DevId,
@@ -140,7 +218,7 @@ fn take_from<V: Volumes, S: SharedReads<V>>(
     requires room { MAX_ANSWER ≤ length out.old }
     ensures steps { IfSome result (λ a. Steps V.view.outline (PoolCall V.view) (state (Phase.Transmission volume size (Course.Listens manner)) []) (S.of pool.now) piece.now
         a.taken (take a.sent out.new) a.ended (state (Phase.Transmission volume size (Course.Listens manner)) []) (S.of pool.now)) }
-    ensures begins { IfSome result (λ a. BeginsWithRead piece.now) }
+    ensures begins { IfSome result (λ a. BeginsWithLook piece.now) }
     ensures goes_on { IfSome result (λ a. (a.ended ≡ false) × (0 < a.taken) × (a.taken ≤ length piece.now)) }
     ensures fits { IfSome result (λ a. a.sent ≤ length out.new) }
     ensures len { length out.new ≡ length out.old }
@@ -159,7 +237,7 @@ fn take_from<V: Volumes, S: SharedReads<V>>(
     })
 }
 
-/// Takes the READ with which a piece begins, of a session that holds nothing of a frame.
+/// Takes the READ or BLOCK_STATUS with which a piece begins, of a session that holds nothing of a frame.
 pub fn take_read<V: Volumes, S: SharedReads<V>>(
     phase: Phase,
     pool: &S,
@@ -170,7 +248,7 @@ pub fn take_read<V: Volumes, S: SharedReads<V>>(
     requires room { MAX_ANSWER ≤ length out.old }
     ensures steps { IfSome result (λ a. Steps V.view.outline (PoolCall V.view) (state phase []) (S.of pool.now) piece.now a.taken (take a.sent out.new) a.ended (state phase []) (S.of pool.now)) }
     ensures idle { IfSome result (λ a. is_at_work phase ≡ false) }
-    ensures begins { IfSome result (λ a. BeginsWithRead piece.now) }
+    ensures begins { IfSome result (λ a. BeginsWithLook piece.now) }
     ensures goes_on { IfSome result (λ a. (a.ended ≡ false) × (0 < a.taken) × (a.taken ≤ length piece.now)) }
     ensures fits { IfSome result (λ a. a.sent ≤ length out.new) }
     ensures len { length out.new ≡ length out.old }
@@ -188,23 +266,24 @@ pub fn take_read<V: Volumes, S: SharedReads<V>>(
     }
 }
 
-/// Whether a frame is a READ.
-fn is_read(frame: Frame<'_>) -> bool
-    ensures { result ≡ is_read_message (message_of frame.entry) }
+/// Whether a frame is a READ or a BLOCK_STATUS.
+fn is_look_frame(frame: Frame<'_>) -> bool
+    ensures { result ≡ is_look_message (message_of frame.entry) }
 {
     match frame {
-        Frame::Command { request, .. } => request.kind == COMMAND_READ,
+        Frame::Command { request, .. } => is_look(&request),
         _ => false,
     }
 }
 
-/// Whether a READ stands whole at the front of a piece. None of its tests is made. Where it is false no session answers the piece by a shared read.
-pub fn begins_with_read(piece: &[u8]) -> bool
-    ensures { MatchBool result (BeginsWithRead piece.now) (BeginsWithRead piece.now → ⊥) }
+/// Whether a READ or a BLOCK_STATUS stands whole at the front of a piece. None of its tests is made. Where it is false no session answers the piece by a shared read or
+/// walk.
+pub fn begins_with_look(piece: &[u8]) -> bool
+    ensures { MatchBool result (BeginsWithLook piece.now) (BeginsWithLook piece.now → ⊥) }
 {
     let length = wanted(Kind::Requests, piece);
     if length > piece.len() {
         return false;
     }
-    is_read(read_frame(Kind::Requests, &piece[..length]))
+    is_look_frame(read_frame(Kind::Requests, &piece[..length]))
 }

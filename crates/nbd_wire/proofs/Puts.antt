@@ -4,7 +4,7 @@ use Rattle.std.proofs.lemmas.List.{take_at, drop_at, take_all, drop_all, drop-dr
 use borrow.Rule.Slice.PartMut.{put_mid, post_of}
 use Rattle.nbd_wire.specs.declared.TheConstants.{INFO_EXPORT, INFO_BLOCK_SIZE}
 use Rattle.nbd_wire.specs.declared.writing.ReplyType.TheVariants.{Context}
-use Rattle.nbd_wire.specs.Contexts.{allocation, context_data}
+use Rattle.nbd_wire.specs.Contexts.{allocation, context_data, since}
 use Rattle.nbd_wire.specs.Replies.{Puts, option_reply, option_reply_head, export_info, export_reply, padding, block_size_info, server_data}
 use Rattle.nbd_wire.specs.Numbers.{bytes}
 use Rattle.nbd_wire.proofs.Fields.{width2, width4, width8}
@@ -78,6 +78,17 @@ puts_context old a b new at i j end option id p q r =
     let len : 19 ≡ length told = omega (arith, length-append (bytes 4 id) allocation, width4.len id) in
     puts_then old a new (option_reply_head option Context (length told)) told at i end
     (subst (λ (n : ℕ). Puts old at (option_reply_head option Context n) a i) len p) (puts_then a b new (bytes 4 id) allocation i j end q r)
+
+-- the same of one that tells since which volume
+pub puts_since : (old a b c new : List ℕ) (at i j k end option code : ℕ) (id : List ℕ) → Puts old at (option_reply_head option Context (19 + length id)) a i → Puts a i (bytes 4 code) b j
+    → Puts b j since c k → Puts c k id new end → Puts old at (option_reply option Context (context_data code (since ++ id))) new end
+unfolding context_data
+puts_since old a b c new at i j k end option code id p q r s =
+    let told : List ℕ = bytes 4 code ++ (since ++ id) in
+    let len : 19 + length id ≡ length told = omega (arith, length-append (bytes 4 code) (since ++ id), length-append since id, width4.len code) in
+    puts_then old a new (option_reply_head option Context (length told)) told at i end
+    (subst (λ (n : ℕ). Puts old at (option_reply_head option Context n) a i) len p)
+    (puts_then a b new (bytes 4 code) (since ++ id) i j end q (puts_then b c new since id j k end r s))
 
 -- ---- how long the parts of an answer are
 

@@ -1,14 +1,15 @@
 -- The data of LIST_META_CONTEXT and SET_META_CONTEXT: what is read is in the form, and what is in the form is read.
 use Rattle.std.proofs.Common.{◌≡◌, ℕ, zero, suc, ◌^◌, ◌<◌, ◌≤◌, Bool, true, false, ◌||◌, cond, List, [], ◌∷◌, ◌++◌, length, take, drop, eqb, leb, Option, Some, None, refl, sym, ap, subst, ◌∙◌, arith, ap₂}
-use Rattle.std.specs.Prelude.{All, bytes_eq}
+use Rattle.std.specs.Prelude.{All, bytes_eq, if◌then◌else◌}
 use Rattle.std.specs.List.{flat_map}
-use Rattle.std.proofs.lemmas.Bool.{and_from, and_left, and_right, and_parts, eqb-true, le-leb, lt-leb, leb-true, false≢true}
-use Rattle.std.proofs.lemmas.List.{length-take-le, take_at, drop_at, take-append-drop, length-append, nil_from_length}
+use Rattle.std.proofs.lemmas.Bool.{and_from, and_left, and_right, and_parts, eqb-true, le-leb, lt-leb, leb-true, false_from_ne_true, false≢true}
+use Rattle.std.proofs.lemmas.List.{length-take, length-take-le, take_at, drop_at, take-append-drop, length-append, nil_from_length}
 use Rattle.std.proofs.lemmas.List.Elements.{All-nil, All-cons, All-head, All-tail}
 use Rattle.std.proofs.lemmas.Option.{cond_some, none-some}
+use Rattle.std.proofs.lemmas.Slice.Eq.{bytes_eq-Decides}
 use Rattle.nbd_wire.specs.Numbers.{bytes, number}
 use Rattle.nbd_wire.specs.Replies.{server_data}
-use Rattle.nbd_wire.specs.Contexts.{IsQuery, allocation, asks_for, base, has_query, lists, query_text}
+use Rattle.nbd_wire.specs.Contexts.{IsQuery, allocation, asks_for, base, has_query, lists, query_text, since, since_in, since_of, since_or}
 use Rattle.nbd_wire.specs.Reading.{behind_string, has_string, string_at, told_by}
 use Rattle.nbd_wire.proofs.Fields.{IsBytes, IsBytes-drop, width4, field_takes, field_drops}
 use Rattle.nbd_wire.proofs.Told.{one_name_listed, same_field, server_data_is}
@@ -69,47 +70,52 @@ or-assoc : (a b c : Bool) → ((a || b) || c) ≡ (a || (b || c))
 or-assoc true b c = refl
 or-assoc false b c = refl
 
-abbrev Seen : List (List ℕ) → Bool → Bool → Option (Bool × Bool)
-Seen qs a b = Some (a || has_query allocation qs, b || has_query base qs)
+abbrev Gist : Type 0
+Gist = Bool × Bool × List ℕ
 
-told_again : (qs : List (List ℕ)) (a b : Bool) → All Fits qs → told_by (length qs) (flat_map server_data qs) a b ≡ Seen qs a b
-told_again [] a b h = ap₂ (λ (x y : Bool). Some (x, y)) (or-false a) (or-false b)
-told_again (q ∷ qs) a b h =
+abbrev Seen : List (List ℕ) → Bool → Bool → List ℕ → Option Gist
+Seen qs a b v = Some (a || has_query allocation qs, b || has_query base qs, since_in qs v)
+
+told_again : (qs : List (List ℕ)) (a b : Bool) (v : List ℕ) → All Fits qs → told_by (length qs) (flat_map server_data qs) a b v ≡ Seen qs a b v
+told_again [] a b v h = ap₂ (λ (x y : Bool). Some (x, y, v)) (or-false a) (or-false b)
+told_again (q ∷ qs) a b v h =
     let rest = flat_map server_data qs in
     let s = string_again q rest (All-head Fits q qs h) in
-    let a' = a || bytes_eq q allocation in let b' = b || bytes_eq q base in
-    let one : told_by (suc (length qs)) (server_data q ++ rest) a b ≡ told_by (length qs) rest a' b' = rw (s.0, s.1, s.2) refl in
-    one ∙ told_again qs a' b' (All-tail Fits q qs h)
-    ∙ ap₂ (λ (x y : Bool). Some (x, y)) (or-assoc a (bytes_eq q allocation) (has_query allocation qs)) (or-assoc b (bytes_eq q base) (has_query base qs))
+    let a' = a || bytes_eq q allocation in let b' = b || bytes_eq q base in let v' = since_or q v in
+    let one : told_by (suc (length qs)) (server_data q ++ rest) a b v ≡ told_by (length qs) rest a' b' v' = rw (s.0, s.1, s.2) refl in
+    one ∙ told_again qs a' b' v' (All-tail Fits q qs h)
+    ∙ ap₂ (λ (x y : Bool). Some (x, y, since_in qs v')) (or-assoc a (bytes_eq q allocation) (has_query allocation qs)) (or-assoc b (bytes_eq q base) (has_query base qs))
 
-record AreQueries (n : ℕ) (text : List ℕ) (a b x y : Bool) (qs : List (List ℕ)) : Type 0 where
+record AreQueries (n : ℕ) (text : List ℕ) (a b : Bool) (v : List ℕ) (x y : Bool) (w : List ℕ) (qs : List (List ℕ)) : Type 0 where
   count : length qs ≡ n
   fit : All Fits qs
   text_is : flat_map server_data qs ≡ text
   first : x ≡ (a || has_query allocation qs)
   second : y ≡ (b || has_query base qs)
+  third : w ≡ since_in qs v
 
-passed : (b : Bool) (o : Option (Bool × Bool)) (y : Bool × Bool) → cond b o None ≡ Some y → (b ≡ true) × (o ≡ Some y)
+passed : (b : Bool) (o : Option Gist) (y : Gist) → cond b o None ≡ Some y → (b ≡ true) × (o ≡ Some y)
 passed true o y e = (refl, e)
 passed false o y e = absurd cc
 
-told_takes : (n : ℕ) (t : List ℕ) (a b x y : Bool) → IsBytes t → told_by n t a b ≡ Some (x, y) → (qs : List (List ℕ)) × AreQueries n t a b x y qs
-told_takes zero t a b x y hb e =
-    let p = cond_some (eqb (length t) 0) (a, b) (x, y) e in (
+told_takes : (n : ℕ) (t : List ℕ) (a b : Bool) (v : List ℕ) (x y : Bool) (w : List ℕ) → IsBytes t → told_by n t a b v ≡ Some (x, y, w) → (qs : List (List ℕ)) × AreQueries n t a b v x y w qs
+told_takes zero t a b v x y w hb e =
+    let p = cond_some (eqb (length t) 0) (a, b, v) (x, y, w) e in (
       [],
       record {
         count = refl;
         fit = All-nil Fits;
         text_is = sym (nil_from_length t (eqb-true (length t) 0 p.0));
-        first = sym (ap (λ (z : Bool × Bool). z.0) p.1) ∙ or-false a;
-        second = sym (ap (λ (z : Bool × Bool). z.1) p.1) ∙ or-false b;
+        first = sym (ap (λ (z : Gist). z.0) p.1) ∙ or-false a;
+        second = sym (ap (λ (z : Gist). z.1) p.1) ∙ or-false b;
+        third = sym (ap (λ (z : Gist). z.2) p.1);
       },
     )
-told_takes (suc n) t a b x y hb e =
+told_takes (suc n) t a b v x y w hb e =
     let q = string_at t in let rest = behind_string t in
-    let p = passed (has_string t) (told_by n rest (a || bytes_eq q allocation) (b || bytes_eq q base)) (x, y) e in
+    let p = passed (has_string t) (told_by n rest (a || bytes_eq q allocation) (b || bytes_eq q base) (since_or q v)) (x, y, w) e in
     let s = string_takes t hb p.0 in
-    let r = told_takes n rest (a || bytes_eq q allocation) (b || bytes_eq q base) x y (behind_bytes t hb) p.1 in (
+    let r = told_takes n rest (a || bytes_eq q allocation) (b || bytes_eq q base) (since_or q v) x y w (behind_bytes t hb) p.1 in (
       q ∷ r.0,
       record {
         count = ap suc r.1.count;
@@ -117,13 +123,27 @@ told_takes (suc n) t a b x y hb e =
         text_is = ap (λ (z : List ℕ). server_data q ++ z) r.1.text_is ∙ sym s.0;
         first = r.1.first ∙ or-assoc a (bytes_eq q allocation) (has_query allocation r.0);
         second = r.1.second ∙ or-assoc b (bytes_eq q base) (has_query base r.0);
+        third = r.1.third;
       },
     )
 
 -- a step of the loop
-pub told_more : (n m : ℕ) (t : List ℕ) (a b : Bool) → n ≡ suc m → has_string t ≡ true
-    → told_by n t a b ≡ told_by m (behind_string t) (a || bytes_eq (string_at t) allocation) (b || bytes_eq (string_at t) base)
-told_more n m t a b e h = ap (λ (k : ℕ). told_by k t a b) e ∙ rw h refl
+pub told_more : (n m : ℕ) (t : List ℕ) (a b : Bool) (v : List ℕ) → n ≡ suc m → has_string t ≡ true
+    → told_by n t a b v ≡ told_by m (behind_string t) (a || bytes_eq (string_at t) allocation) (b || bytes_eq (string_at t) base) (since_or (string_at t) v)
+told_more n m t a b v e h = ap (λ (k : ℕ). told_by k t a b v) e ∙ rw h refl
+
+-- a query that is shorter does not begin so
+abbrev since_by : Bool → List ℕ → List ℕ → List ℕ
+since_by b query before = if b then drop 15 query else before
+
+short_front : (query : List ℕ) → length query < 15 → bytes_eq (take 15 query) since ≡ false
+short_front query lt =
+    false_from_ne_true (bytes_eq (take 15 query) since) (λ e.
+    let same : take 15 query ≡ since = (bytes_eq-Decides (take 15 query) since).0 e in
+    omega (arith, lt, ap length same, length-take 15 query))
+
+pub since_short : (query before : List ℕ) → length query < 15 → before ≡ since_or query before
+since_short query before lt = ap (λ (b : Bool). since_by b query before) (sym (short_front query lt))
 
 -- ---- the whole data
 
@@ -150,22 +170,22 @@ count_again t name qs i =
     (ap (number 4) e ∙ width4.again (length qs) rest i.count_fits, ap (drop 4) e ∙ field_drops 4 width4 (length qs) rest)
 
 pub no_queries : (t rest text : List ℕ) (count : ℕ) → rest ≡ behind_string t → count ≡ number 4 rest → text ≡ drop 4 rest
-    → told_by count text false false ≡ None → (name : List ℕ) (qs : List (List ℕ)) → IsQuery t name qs → ⊥
+    → told_by count text false false [] ≡ None → (name : List ℕ) (qs : List (List ℕ)) → IsQuery t name qs → ⊥
 no_queries t rest text count rest_is count_is text_is h name qs i =
     let c = count_again t name qs i in
-    let same : told_by count text false false ≡ told_by (length qs) (flat_map server_data qs) false false =
-    ap₂ (λ (n : ℕ) (x : List ℕ). told_by n x false false) (count_is ∙ ap (number 4) rest_is ∙ c.0) (text_is ∙ ap (drop 4) rest_is ∙ c.1) in
-    none-some (has_query allocation qs, has_query base qs) (sym h ∙ same ∙ told_again qs false false i.each_fits)
+    let same : told_by count text false false [] ≡ told_by (length qs) (flat_map server_data qs) false false [] =
+    ap₂ (λ (n : ℕ) (x : List ℕ). told_by n x false false []) (count_is ∙ ap (number 4) rest_is ∙ c.0) (text_is ∙ ap (drop 4) rest_is ∙ c.1) in
+    none-some (has_query allocation qs, has_query base qs, since_of qs) (sym h ∙ same ∙ told_again qs false false [] i.each_fits)
 
-query_takes : (t : List ℕ) (x y : Bool) → IsBytes t → has_string t ≡ true → 4 ≤ length (behind_string t)
-    → told_by (number 4 (behind_string t)) (drop 4 (behind_string t)) false false ≡ Some (x, y)
-    → (qs : List (List ℕ)) × IsQuery t (string_at t) qs × (length qs ≡ number 4 (behind_string t)) × (x ≡ asks_for qs) × (y ≡ has_query base qs)
+query_takes : (t : List ℕ) (x y : Bool) (w : List ℕ) → IsBytes t → has_string t ≡ true → 4 ≤ length (behind_string t)
+    → told_by (number 4 (behind_string t)) (drop 4 (behind_string t)) false false [] ≡ Some (x, y, w)
+    → (qs : List (List ℕ)) × IsQuery t (string_at t) qs × (length qs ≡ number 4 (behind_string t)) × (x ≡ asks_for qs) × (y ≡ has_query base qs) × (w ≡ since_of qs)
 unfolding query_text
-query_takes t x y hb h long e =
+query_takes t x y w hb h long e =
     let rest = behind_string t in
     let rest_bytes = behind_bytes t hb in
     let s = string_takes t hb h in
-    let r = told_takes (number 4 rest) (drop 4 rest) false false x y (IsBytes-drop 4 rest rest_bytes) e in
+    let r = told_takes (number 4 rest) (drop 4 rest) false false [] x y w (IsBytes-drop 4 rest rest_bytes) e in
     let below = width4.below rest rest_bytes in
     let tail : rest ≡ bytes 4 (length r.0) ++ flat_map server_data r.0 =
     field_takes 4 width4 rest rest_bytes long ∙ ap₂ (λ (n : ℕ) (z : List ℕ). bytes 4 n ++ z) (sym r.1.count) (sym r.1.text_is) in (
@@ -179,19 +199,20 @@ query_takes t x y hb h long e =
       r.1.count,
       r.1.first,
       r.1.second,
+      r.1.third,
     )
 
-pub query_found : (t name rest text : List ℕ) (count : ℕ) (x y : Bool) → IsBytes t → has_string t ≡ true → name ≡ string_at t → rest ≡ behind_string t
-    → 4 ≤ length rest → count ≡ number 4 rest → text ≡ drop 4 rest → told_by count text false false ≡ Some (x, y)
-    → (qs : List (List ℕ)) × IsQuery t name qs × (x ≡ asks_for qs) × ((eqb count 0 || x || y) ≡ lists qs)
-query_found t name rest text count x y hb h name_is rest_is long count_is text_is e =
+pub query_found : (t name rest text : List ℕ) (count : ℕ) (x y : Bool) (w : List ℕ) → IsBytes t → has_string t ≡ true → name ≡ string_at t → rest ≡ behind_string t
+    → 4 ≤ length rest → count ≡ number 4 rest → text ≡ drop 4 rest → told_by count text false false [] ≡ Some (x, y, w)
+    → (qs : List (List ℕ)) × IsQuery t name qs × (x ≡ asks_for qs) × ((eqb count 0 || x || y) ≡ lists qs) × (w ≡ since_of qs)
+query_found t name rest text count x y w hb h name_is rest_is long count_is text_is e =
     let count_also : count ≡ number 4 (behind_string t) = count_is ∙ ap (number 4) rest_is in
-    let same : told_by count text false false ≡ told_by (number 4 (behind_string t)) (drop 4 (behind_string t)) false false =
-    ap₂ (λ (n : ℕ) (z : List ℕ). told_by n z false false) count_also (text_is ∙ ap (drop 4) rest_is) in
-    let q = query_takes t x y hb h (omega (arith, long, ap length rest_is)) (sym same ∙ e) in
+    let same : told_by count text false false [] ≡ told_by (number 4 (behind_string t)) (drop 4 (behind_string t)) false false [] =
+    ap₂ (λ (n : ℕ) (z : List ℕ). told_by n z false false []) count_also (text_is ∙ ap (drop 4) rest_is) in
+    let q = query_takes t x y w hb h (omega (arith, long, ap length rest_is)) (sym same ∙ e) in
     let empty : eqb count 0 ≡ eqb (length q.0) 0 = ap (λ (n : ℕ). eqb n 0) (count_also ∙ sym q.2) in
     let two : (eqb count 0 || x) ≡ (eqb (length q.0) 0 || asks_for q.0) = ap₂ (λ (a b : Bool). a || b) empty q.3 in
-    (q.0, subst (λ (n : List ℕ). IsQuery t n q.0) (sym name_is) q.1, q.3, ap₂ (λ (a b : Bool). a || b) two q.4)
+    (q.0, subst (λ (n : List ℕ). IsQuery t n q.0) (sym name_is) q.1, q.3, ap₂ (λ (a b : Bool). a || b) two q.4, q.5)
 
 -- and it says one thing
 one_list : (qs also : List (List ℕ)) → All Fits qs → All Fits also → length qs ≡ length also → flat_map server_data qs ≡ flat_map server_data also → qs ≡ also

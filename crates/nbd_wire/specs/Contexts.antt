@@ -1,14 +1,23 @@
 -- Trusted reading: meta contexts, and what BLOCK_STATUS is answered, as functions of what they say (NBD's proto.md, "Metadata querying",
--- "NBD_OPT_LIST_META_CONTEXT", "NBD_OPT_SET_META_CONTEXT", "NBD_REPLY_TYPE_BLOCK_STATUS"). There is one context, base:allocation.
-use Rattle.std.specs.Prelude.{◌≡◌, ℕ, ◌+◌, ◌*◌, ◌<◌, ◌^◌, Bool, ◌||◌, ◌==◌, List, ◌++◌, length, All, codes, bytes_eq}
+-- "NBD_OPT_LIST_META_CONTEXT", "NBD_OPT_SET_META_CONTEXT", "NBD_REPLY_TYPE_BLOCK_STATUS"). There are two contexts: base:allocation, and
+-- thinpool:since: with what stands behind it, the id of an older volume.
+use Rattle.std.specs.Prelude.{◌≡◌, ℕ, ◌+◌, ◌*◌, ◌<◌, ◌^◌, Bool, ◌||◌, ◌==◌, if◌then◌else◌, List, [], ◌∷◌, ◌++◌, length, take, drop, All, codes, bytes_eq}
+use Rattle.std.specs.Fmt.{decimal}
 use Rattle.std.specs.List.{flat_map, list_any}
 use Rattle.nbd_wire.specs.declared.chunks.ChunkType.TheVariants.{Status}
-use Rattle.nbd_wire.specs.declared.TheConstants.{ALLOCATION_CONTEXT}
+use Rattle.nbd_wire.specs.declared.contexts.MetaContext.{MetaContext}
+use Rattle.nbd_wire.specs.declared.contexts.MetaContext.TheVariants.{Allocation, Since}
+use Rattle.nbd_wire.specs.declared.TheConstants.{ALLOCATION_CONTEXT, SINCE_CONTEXT}
 use Rattle.nbd_wire.specs.Numbers.{bytes}
 use Rattle.nbd_wire.specs.Replies.{server_data}
 use Rattle.nbd_wire.specs.Chunks.{chunk, chunk_head}
 
--- the name of the context, and the query that stands for all contexts of its namespace
+-- the number of each context
+abbrev pub context_code : MetaContext → ℕ
+context_code Allocation = ALLOCATION_CONTEXT
+context_code Since = SINCE_CONTEXT
+
+-- the name of the first one, and the query that stands for all contexts of its namespace
 abbrev pub allocation : List ℕ
 allocation = codes "base:allocation"
 
@@ -28,7 +37,26 @@ pub record IsQuery (text name : List ℕ) (queries : List (List ℕ)) : Type 0 w
 abbrev pub has_query : List ℕ → List (List ℕ) → Bool
 has_query wanted queries = list_any (λ query. bytes_eq query wanted) queries
 
--- SET_META_CONTEXT selects the context by its whole name alone
+-- what the names of the others begin with, and the name of that of an older volume
+abbrev pub since : List ℕ
+since = codes "thinpool:since:"
+
+abbrev pub since_name : ℕ → List ℕ
+since_name id = since ++ decimal id
+
+-- what stands behind that in a query which begins so, and else what was told before
+abbrev pub since_or : List ℕ → List ℕ → List ℕ
+since_or query before = if bytes_eq (take 15 query) since then drop 15 query else before
+
+-- and in the last query which begins so; nothing where none does
+abbrev pub since_in : List (List ℕ) → List ℕ → List ℕ
+since_in [] before = before
+since_in (query ∷ queries) before = since_in queries (since_or query before)
+
+abbrev pub since_of : List (List ℕ) → List ℕ
+since_of queries = since_in queries []
+
+-- SET_META_CONTEXT selects base:allocation by its whole name alone
 abbrev pub asks_for : List (List ℕ) → Bool
 asks_for queries = has_query allocation queries
 
@@ -51,9 +79,9 @@ abbrev pub extents_text : List (ℕ × ℕ) → List ℕ
 extents_text extents = flat_map (λ extent. extent_text extent.0 extent.1) extents
 
 -- what stands before so many extents: the fixed part, and the number of the context
-unfoldable pub status_head : ℕ → ℕ → List ℕ
-status_head cookie count = chunk_head Status cookie (4 + 8 * count) ++ bytes 4 ALLOCATION_CONTEXT
+unfoldable pub status_head : Bool → MetaContext → ℕ → ℕ → List ℕ
+status_head is_last context cookie count = chunk_head is_last Status cookie (4 + 8 * count) ++ bytes 4 (context_code context)
 
--- the extents of a BLOCK_STATUS, in the order of the volume
-abbrev pub status_chunk : ℕ → List (ℕ × ℕ) → List ℕ
-status_chunk cookie extents = chunk Status cookie (bytes 4 ALLOCATION_CONTEXT ++ extents_text extents)
+-- the extents of a BLOCK_STATUS in one context, in the order of the volume
+abbrev pub status_chunk : Bool → MetaContext → ℕ → List (ℕ × ℕ) → List ℕ
+status_chunk is_last context cookie extents = chunk is_last Status cookie (bytes 4 (context_code context) ++ extents_text extents)

@@ -9,7 +9,8 @@ use Rattle.nbd_wire.specs.declared.Frame.{Frame}
 use Rattle.nbd_wire.specs.declared.Frame.TheVariants.{ClientFlags, ClientOption, Command, Malformed}
 use Rattle.nbd_wire.specs.declared.TheConstants.{OPTION_MAGIC, REQUEST_MAGIC, MAX_OPTION, MAX_REQUEST}
 use Rattle.nbd_wire.specs.Numbers.{number}
-use Rattle.nbd_wire.specs.Contexts.{allocation, base}
+use Rattle.nbd_wire.specs.declared.contexts.Said.{Said}
+use Rattle.nbd_wire.specs.Contexts.{allocation, base, since_or}
 use Rattle.nbd_wire.specs.Grammar.{Message, client_flags, client_option, command, malformed, payload_len}
 
 -- the bytes of the fixed part
@@ -97,11 +98,20 @@ string_at text = take (number 4 text) (drop 4 text)
 unfoldable pub behind_string : List ℕ → List ℕ
 behind_string text = drop (number 4 text) (drop 4 text)
 
--- Whether a text is exactly so many queries; and if so, whether one of them, or of those before, is the context's name, and whether one is its namespace.
-abbrev pub told_by : ℕ → List ℕ → Bool → Bool → Option (Bool × Bool)
-told_by zero text asks all = if length text == 0 then Some (asks, all) else None
-told_by (suc n) text asks all =
-    if has_string text then told_by n (behind_string text) (asks || bytes_eq (string_at text) allocation) (all || bytes_eq (string_at text) base) else None
+-- Whether a text is exactly so many queries; and if so, whether one of them, or of those before, is the name of base:allocation, whether one is its namespace,
+-- and what stands behind thinpool:since: in the last one that begins so.
+abbrev pub told_by : ℕ → List ℕ → Bool → Bool → List ℕ → Option (Bool × Bool × List ℕ)
+told_by zero text asks all since = if length text == 0 then Some (asks, all, since) else None
+told_by (suc n) text asks all since =
+    if has_string text then told_by n (behind_string text) (asks || bytes_eq (string_at text) allocation) (all || bytes_eq (string_at text) base) (since_or (string_at text) since)
+    else None
+
+-- the same that the program found, or none
+abbrev pub said : Said → Bool × Bool × List ℕ
+said s = (s.asks, s.all, s.since.now)
+
+abbrev pub SaidIs : Option Said → Option (Bool × Bool × List ℕ) → Type 0
+SaidIs found told = option_map said found ≡ told
 
 -- a name that the program found, or none
 abbrev pub NameIs : Option (Bor (List ℕ)) → Option (List ℕ) → Type 0

@@ -1,15 +1,16 @@
 //! Laws of the grammar, over all texts.
 
-ghost use Rattle.std.specs.Prelude.{◌≡◌, ◌<◌, ◌+◌, ◌*◌, ◌^◌, ◌++◌, ℕ, Bool, List, [], length};
+ghost use Rattle.std.specs.Prelude.{◌≡◌, ◌<◌, ◌+◌, ◌*◌, ◌^◌, ◌++◌, ℕ, Bool, true, List, [], length};
 ghost use Rattle.nbd_wire.specs.declared.Kind.{Kind};
 ghost use Rattle.nbd_wire.specs.declared.writing.ReplyType.{ReplyType};
-ghost use Rattle.nbd_wire.specs.Chunks.{chunk, data_chunk, done_chunk, error_chunk};
+ghost use Rattle.nbd_wire.specs.Chunks.{chunk, data_chunk, done_chunk, error_chunk, hole_chunk};
 ghost use Rattle.nbd_wire.specs.Contexts.{FitExtents, IsQuery, context_data, extents_text, status_chunk, status_head};
 ghost use Rattle.nbd_wire.specs.Grammar.{Message, IsFrame};
 ghost use Rattle.nbd_wire.specs.Numbers.{bytes};
 ghost use Rattle.nbd_wire.specs.Replies.{IsInfo, block_size_info, export_info, export_reply, option_reply, server_data, simple_reply_head};
 
 use crate::chunks::ChunkType;
+use crate::contexts::MetaContext;
 
 /// No frame of a phase begins another of that phase, and none says two things: a text has at most
 /// one first frame.
@@ -53,15 +54,18 @@ pub fn one_first_reply()
 
 /// No chunk begins another, none says two things, and none begins as a simple reply does. The chunks that are written are chunks of these types with this data.
 pub fn one_first_chunk()
-    ensures chunks { (kind other : ChunkType) (cookie also : ℕ) (a b x y : List ℕ) → cookie < 2 ^ 64 → also < 2 ^ 64
-        → length a < 2 ^ 32 → length b < 2 ^ 32 → chunk kind cookie a ++ x ≡ chunk other also b ++ y
-        → (kind ≡ other) × (cookie ≡ also) × (a ≡ b) × (x ≡ y) }
-    ensures simple { (kind : ChunkType) (cookie error also : ℕ) (a x y : List ℕ) → chunk kind cookie a ++ x ≡ simple_reply_head error also ++ y → ⊥ }
-    ensures reads { (cookie offset : ℕ) (given : List ℕ) → data_chunk cookie offset given ≡ chunk ChunkType.Data cookie (bytes 8 offset ++ given) }
-    ensures statuses { (cookie also : ℕ) (extents others : List (ℕ × ℕ)) (x y : List ℕ) → cookie < 2 ^ 64 → also < 2 ^ 64
+    ensures chunks { (is_last ends : Bool) (kind other : ChunkType) (cookie also : ℕ) (a b x y : List ℕ) → cookie < 2 ^ 64 → also < 2 ^ 64
+        → length a < 2 ^ 32 → length b < 2 ^ 32 → chunk is_last kind cookie a ++ x ≡ chunk ends other also b ++ y
+        → (is_last ≡ ends) × (kind ≡ other) × (cookie ≡ also) × (a ≡ b) × (x ≡ y) }
+    ensures simple { (is_last : Bool) (kind : ChunkType) (cookie error also : ℕ) (a x y : List ℕ) → chunk is_last kind cookie a ++ x ≡ simple_reply_head error also ++ y → ⊥ }
+    ensures reads { (is_last : Bool) (cookie offset : ℕ) (given : List ℕ) → data_chunk is_last cookie offset given ≡ chunk is_last ChunkType.Data cookie (bytes 8 offset ++ given) }
+    ensures holes { (is_last : Bool) (cookie offset len : ℕ) → hole_chunk is_last cookie offset len ≡ chunk is_last ChunkType.Hole cookie (bytes 8 offset ++ bytes 4 len) }
+    ensures statuses { (is_last ends : Bool) (context other : MetaContext) (cookie also : ℕ) (extents others : List (ℕ × ℕ)) (x y : List ℕ) → cookie < 2 ^ 64 → also < 2 ^ 64
         → FitExtents extents → FitExtents others → 4 + 8 * length extents < 2 ^ 32 → 4 + 8 * length others < 2 ^ 32
-        → status_chunk cookie extents ++ x ≡ status_chunk also others ++ y → (cookie ≡ also) × (extents ≡ others) × (x ≡ y) }
-    ensures extents { (cookie : ℕ) (extents : List (ℕ × ℕ)) → status_chunk cookie extents ≡ status_head cookie (length extents) ++ extents_text extents }
-    ensures errors { (error cookie : ℕ) → error_chunk error cookie ≡ chunk ChunkType.Error cookie (bytes 4 error ++ bytes 2 0) }
-    ensures done { (cookie : ℕ) → done_chunk cookie ≡ chunk ChunkType.Done cookie [] }
+        → status_chunk is_last context cookie extents ++ x ≡ status_chunk ends other also others ++ y
+        → (is_last ≡ ends) × (context ≡ other) × (cookie ≡ also) × (extents ≡ others) × (x ≡ y) }
+    ensures extents { (is_last : Bool) (context : MetaContext) (cookie : ℕ) (extents : List (ℕ × ℕ))
+        → status_chunk is_last context cookie extents ≡ status_head is_last context cookie (length extents) ++ extents_text extents }
+    ensures errors { (error cookie : ℕ) → error_chunk error cookie ≡ chunk true ChunkType.Error cookie (bytes 4 error ++ bytes 2 0) }
+    ensures done { (cookie : ℕ) → done_chunk cookie ≡ chunk true ChunkType.Done cookie [] }
 {}

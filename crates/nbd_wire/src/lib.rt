@@ -11,8 +11,10 @@ mod laws;
 mod reading;
 mod writing;
 
-pub use chunks::{ChunkType, put_data_head, put_done_chunk, put_error_chunk};
-pub use contexts::{Query, put_context_reply, put_extent, put_status_head, read_query};
+pub use chunks::{ChunkType, put_data_head, put_done_chunk, put_error_chunk, put_hole_chunk};
+pub use contexts::{
+    MetaContext, Query, put_context_reply, put_extent, put_since_reply, put_status_head, read_query,
+};
 pub use info::info_name;
 pub use laws::{one_first_chunk, one_first_frame, one_first_reply, one_name, one_query};
 pub use reading::{fixed_len, read_frame, wanted, whole_len};
@@ -68,6 +70,9 @@ pub const OPTION_SET_META_CONTEXT: u32 = 10;
 
 /// The number of the meta context `base:allocation`, which the server chooses ("Metadata querying").
 pub const ALLOCATION_CONTEXT: u32 = 1;
+
+/// The number of the meta contexts `thinpool:since:`, of which a session has one at most ("Metadata querying").
+pub const SINCE_CONTEXT: u32 = 2;
 
 /// The information type `NBD_INFO_EXPORT` ("Information types").
 pub const INFO_EXPORT: u16 = 0;

@@ -38,14 +38,15 @@ pub struct Served<V: Volumes> {
 /// Serves clients as they come, each on a thread of its own: the first as session 0, the next as session 1, and so on. It takes 64 of them at most, and then
 /// looks for no more. It ends when all of them have.
 ///
-/// The hub stands behind a lock, which one ask has alone, or READs share ([`LockedDesk`]); reads and writes of a stream wait for no other client. Buffers are a client's own. Who
-/// finds no memory for them, or no thread, is refused: that stream is dropped, and nothing was read from it or written to it. So is a client
+/// The hub stands behind a lock, which one ask has alone, or READs and BLOCK_STATUSes share ([`LockedDesk`]); reads and writes of a stream wait for no other client. Buffers
+/// are a client's own. Who finds no memory for them, or no thread, is refused: that stream is dropped, and nothing was read from it or written to it. So is a client
 /// whose session is open when it comes, which does not count as refused. When the pool has failed, the alarm sounds once.
 ///
-/// Each ask is one [`Hub::run`], made while the lock is held, or READs of [`Hub::ask_shared`], which change nothing, made while it is shared; and nothing else is
-/// done to the hub but flushes that nobody asked for ([`Hub::begin_flush`]), each of which is one run too. So the hub that is given back came of the one that was
-/// given by runs one behind the other (`asked`), in the order in which the lock was had; READs that shared it may stand anywhere. Which of these runs were a
-/// client's, and so that it is told what they answered and no more is done than it asked for, no clause says, nor that every client that came is served.
+/// Each ask is one [`Hub::run`], made while the lock is held, or READs and BLOCK_STATUSes of [`Hub::ask_shared`], which change nothing, made while it is shared; and
+/// nothing else is done to the hub but flushes that nobody asked for ([`Hub::begin_flush`]), each of which is one run too. So the hub that is given back came of
+/// the one that was given by runs one behind the other (`asked`), in the order in which the lock was had; those that shared it may stand anywhere. Which of these
+/// runs were a client's, and so that it is told what they answered and no more is done than it asked for, no clause says, nor that every client that came is
+/// served.
 pub fn serve_all<R, V, S, I, A>(
     rt: &R,
     alloc: Global,

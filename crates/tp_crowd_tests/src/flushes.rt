@@ -1,7 +1,7 @@
 //! Flushes that nobody asked for, which are made in parts before one that a client asks for.
 
 use crate::served::{Synced, served_in_parts};
-use crate::talk::{ANSWERED_FLUSH, ANSWERED_GO, FLUSH, GO, READ, write};
+use crate::talk::{ANSWERED_FLUSH, ANSWERED_GO, FLUSH, GO, READ, kept_write, write};
 use crate::waiting::{Seen, Waiting};
 use nbd_session::Profile;
 use std::alloc::Global;
@@ -88,6 +88,55 @@ where
 fn two_flushes_share_a_commit(rt: HostRuntime) -> Result<(), Fail> {
     let told = told_of_two(&rt, &write(rt.alloc())?)?;
     assert_eq!(rt; told, (32, 2));
+    Ok(())
+}
+
+/// How many bytes answer a client of this profile that goes to a volume and sends a request twice.
+fn answered_to<H>(
+    rt: &H,
+    hub: &HubLock<'_, Shelf, Seen, Brand>,
+    profile: Profile,
+    request: &[u8],
+) -> usize
+where
+    H: Wait + Sync + Alloc<A = Global>,
+{
+    let mut out = Answers::new(rt.alloc());
+    let mut desk = LockedDesk {
+        rt,
+        alloc: rt.alloc(),
+        hub,
+    };
+    desk.ask(Event::Open(0, profile), &mut out);
+    desk.ask(Event::Bytes(0, GO), &mut out);
+    out.clear();
+    desk.ask(Event::Bytes(0, request), &mut out);
+    desk.ask(Event::Bytes(0, request), &mut out);
+    out.bytes().len()
+}
+
+/// The same, and how many syncs were made between parts of flushes.
+fn told_of_kept<H>(rt: &H, profile: Profile, write: &[u8]) -> Result<(usize, u64), Refusal>
+where
+    H: Wait + Sync + Alloc<A = Global>,
+{
+    let alarm = Seen::nothing();
+    let shelf = staged_shelf(rt.alloc(), 2, false)?;
+    let hub = HubLock::<Shelf, Seen, Brand>::new(Hub::new(shelf), &alarm);
+    let answered = answered_to(rt, &hub, profile, write);
+    Ok((answered, hub.into_inner().into_pool().synced().0))
+}
+
+/// Each WRITE with FUA of an extended session is kept by a flush in parts, between which READs go on. Those of a strict one are kept by their own calls: a flush in
+/// parts is made before the first, of what was asked before.
+#[test]
+fn a_write_with_fua_is_kept_in_parts(rt: HostRuntime) -> Result<(), Fail> {
+    let write = kept_write(rt.alloc())?;
+    let told = [
+        told_of_kept(&rt, Profile::Extended, &write)?,
+        told_of_kept(&rt, Profile::Strict, &write)?,
+    ];
+    assert_eq!(rt; told, [(32, 4), (32, 2)]);
     Ok(())
 }
 

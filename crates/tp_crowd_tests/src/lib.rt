@@ -24,6 +24,8 @@ mod pauses;
 #[cfg(test)]
 mod served;
 #[cfg(test)]
+mod statuses;
+#[cfg(test)]
 mod staying;
 #[cfg(test)]
 mod talk;

@@ -24,6 +24,15 @@ pub(crate) fn write(alloc: Global) -> Result<Vec<u8>, AllocError> {
     joined(alloc, &[WRITE_HEAD, LETTERS])
 }
 
+/// The head of the same with FUA.
+const KEPT_HEAD: &[u8] =
+    b"\x25\x60\x95\x13\0\x01\0\x01\0\0\0\0\0\0\0\x01\0\0\0\0\0\0\0\0\0\0\x02\0";
+
+/// A write of sector 0 with FUA.
+pub(crate) fn kept_write(alloc: Global) -> Result<Vec<u8>, AllocError> {
+    joined(alloc, &[KEPT_HEAD, LETTERS])
+}
+
 pub(crate) const READ: &[u8] =
     b"\x25\x60\x95\x13\0\0\0\0\0\0\0\0\0\0\0\x02\0\0\0\0\0\0\0\0\0\0\x02\0";
 

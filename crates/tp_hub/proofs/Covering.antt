@@ -1,5 +1,5 @@
 -- What the reply to a FLUSH says of what was answered before.
-use Rattle.std.proofs.Common.{◌≡◌, ◌≢◌, ◌⊎◌, ℕ, ◌<◌, Bool, true, false, List, [], ◌∷◌, ◌++◌, length, ◌^◌, Option, Some, None, inl, inr, refl, sym, ap, ap₂, subst, ◌∙◌, arith, append_assoc, append-nil, true≢false}
+use Rattle.std.proofs.Common.{◌≡◌, ◌≢◌, ◌⊎◌, ℕ, ◌+◌, ◌<◌, Bool, true, false, List, [], ◌∷◌, ◌++◌, length, ◌^◌, Option, Some, None, inl, inr, refl, sym, ap, ap₂, subst, ◌∙◌, arith, append_assoc, append-nil, length-append, true≢false}
 use Rattle.std.specs.Prelude.{◌&&◌, ◌||◌, ◌==◌, MatchOption, if◌then◌else◌, nat_lt, map}
 use Rattle.std.specs.Option.{option_map_or}
 use Rattle.std.proofs.lemmas.Bool.{eq-eqb, ne_eqb}
@@ -12,6 +12,8 @@ use Rattle.tp_model.specs.Refusals.{nbd_code, nbd_error}
 use Rattle.tp_model.specs.Requests as forms
 use Rattle.tp_model.specs.Sectors.{Sector}
 use Rattle.tp_model.specs.Pool.{PlainPool, volume_sector}
+use Rattle.tp_model.specs.Geometry.{Geometry}
+use Rattle.tp_model.specs.Calls as answers
 use Rattle.tp_model.specs.Calls.{Answer, Call, Done, Flush, Makes, Refused, Step, Takes, after_refusal, refusal_of, reply}
 use Rattle.tp_model.specs.PoolStops.{Event, GivenBy, GivenIn, IsState, LeftAt, MayBeLeft, MayBeLeftSince, MayReopen, NoneKeeps, Nothing, keeps, reopened, state_after}
 use Rattle.tp_model.specs.Clauses.{Entry, Traced, TracedCall, View, events_of, outline_of_traced, traced}
@@ -19,25 +21,27 @@ use Rattle.tp_model.proofs.Found.{MayReopen-nothing}
 use Rattle.tp_model.proofs.PoolStopLaws.{MayReopen-weaken}
 use Rattle.nbd_wire.specs.declared.Kind.TheVariants as kinds
 use Rattle.nbd_wire.specs.declared.Request.{Request}
-use Rattle.nbd_wire.specs.declared.TheConstants.{COMMAND_FLUSH}
+use Rattle.nbd_wire.specs.declared.TheConstants.{COMMAND_FLUSH, SIMPLE_REPLY_MAGIC}
+use Rattle.nbd_wire.specs.Numbers.{bytes}
 use Rattle.nbd_wire.specs.Grammar.{FitsRequest, IsFrame, IsRequest, Message, command}
 use Rattle.nbd_wire.specs.Replies.{simple_reply}
 use Rattle.nbd_wire.proofs.Frames.{one_frame}
-use Rattle.nbd_wire.proofs.Told.{one_simple_reply}
-use Rattle.nbd_session.specs.declared.phase.Course.TheVariants.{Listens}
+use Rattle.nbd_wire.proofs.Fields.{width4}
+use Rattle.nbd_wire.proofs.Told.{one_simple_reply, simple_head_is}
+use Rattle.nbd_session.specs.declared.phase.Course.TheVariants.{Listens, Works}
 use Rattle.nbd_session.specs.declared.phase.Manner.{Manner}
 use Rattle.nbd_session.specs.declared.phase.Phase.{Phase}
 use Rattle.nbd_session.specs.declared.phase.Phase.TheVariants.{Transmission}
 use Rattle.nbd_session.specs.declared.request.Verdict.{Verdict}
 use Rattle.nbd_session.specs.declared.request.Verdict.TheVariants as verdicts
-use Rattle.nbd_session.specs.Requests.{form_of, is_long, long_error, plainly, status_error, verdict_in, verdict_on}
+use Rattle.nbd_session.specs.Requests.{form_of, is_last, is_long, long_call, long_error, part_call, plainly, rest_of, status_error, verdict_in, verdict_on}
 use Rattle.nbd_session.proofs.Judging.{error_other, plainly_other, status_other}
-use Rattle.nbd_session.specs.Session.{Answers, Serves, State, Steps, TakesFrame, Waits, reply_to, state}
+use Rattle.nbd_session.specs.Session.{Answers, GoesOn, IsMade, MakesPart, Serves, State, Steps, TakesFrame, Waits, reply_to, state}
 use Rattle.nbd_session.specs.Turns.{AreTurns, Happened, IsFoundIn, Sessions, TakesTurn, Turn, closed, pool_after, sessions_after}
 use Rattle.nbd_session.specs.Turns as turns
 use Rattle.nbd_session.proofs.Turning.{turn_follows}
 use Rattle.tp_hub.proofs.Whole.{all_taken, state_is}
-use Rattle.tp_hub.specs.Covered.{Covers, IsCovered, IsFlushed, IsNewer}
+use Rattle.tp_hub.specs.Covered.{Covers, IsCovered, IsFlushed, IsKept, IsNewer, KeepsAll}
 
 -- ---- what was kept
 
@@ -203,6 +207,15 @@ no_error e cookie fits is =
     let some = code.0 in
     absurd (omega (arith, zero_is, some))
 
+-- a reply has bytes
+no_reply : (error cookie : ℕ) → simple_reply error cookie [] ≡ [] → ⊥
+no_reply error cookie is =
+    let rest : List ℕ = bytes 4 error ++ (bytes 8 cookie ++ []) in
+    let none : length (bytes 4 SIMPLE_REPLY_MAGIC ++ rest) ≡ 0 = ap length (sym (simple_head_is error cookie []) ∙ is) in
+    let both : length (bytes 4 SIMPLE_REPLY_MAGIC ++ rest) ≡ length (bytes 4 SIMPLE_REPLY_MAGIC) + length rest = length-append (bytes 4 SIMPLE_REPLY_MAGIC) rest in
+    let four : length (bytes 4 SIMPLE_REPLY_MAGIC) ≡ 4 = width4.len SIMPLE_REPLY_MAGIC in
+    absurd (omega (arith, none, both, four))
+
 answer_of : (s made after : PlainPool) (call : Call) (answer : Answer) → call ≡ Flush → Takes s call answer made after → (answer ≡ Done) ⊎ ((reason : Refusal) × (answer ≡ Refused reason))
 answer_of s made after call answer is (inr fault) = inr (Fault, fault.0)
 answer_of s made after call answer is (inl step) = by_refusal (refusal_of s Flush) (subst (λ (c : Call). Step s c answer after) is step.0)
@@ -288,7 +301,7 @@ module _ (HasUse : PlainPool → Type 0) where
       ∙ (ap (verdict_on size) (plainly_other m r (no_read r 3 is (omega arith))) ∙ (ap (λ (b : Bool). if b then verdicts.Disconnect else option_map_or verdicts.Refuse (forms.form_error size (form_of r)) (if r.kind == 3 then verdicts.Flush else behind_flush r)) disc
       ∙ ap (λ (b : Bool). option_map_or verdicts.Refuse (forms.form_error size (form_of r)) (if b then verdicts.Flush else behind_flush r)) flush)))
 
-  pub flush_keeps : (at : Sessions) (p : Traced) (h : Happened Traced) → IsFlushed at h → TracedTurn at p h.turn h.sessions h.pool → Flushed p h.pool
+  flush_keeps : (at : Sessions) (p : Traced) (h : Happened Traced) → IsFlushed at h → TracedTurn at p h.turn h.sessions h.pool → Flushed p h.pool
   flush_keeps at p h f takes =
       let n = f.session in
       let r = f.request in
@@ -311,6 +324,42 @@ module _ (HasUse : PlainPool → Type 0) where
             (subst (λ (v : Verdict). Serves outline_of_traced (TracedCall HasUse) v f.volume f.size f.manner r [] p (simple_reply 0 r.cookie []) (h.sessions n).phase h.pool) (verdict_is f.manner f.size r f.is_flush) answered)
       ]
 
+  -- the same of the FLUSH that was left of a WRITE
+  part_keeps : (p t : Traced) (volume size : ℕ) (m : Manner) (r : Request) (next : Phase) → r.kind ≡ COMMAND_FLUSH → r.cookie < 2 ^ 64
+      → MakesPart outline_of_traced (TracedCall HasUse) volume size m r p (simple_reply 0 r.cookie []) next t → Flushed p t
+  part_keeps p t volume size m r next is fits part =
+      let g : Geometry = (outline_of_traced p).geometry in
+      let call_is : part_call volume g r ≡ Flush = ap (λ (b : Bool). if b then Flush else long_call volume g r) (eq-eqb r.kind 3 is) in
+      let calls : TracedCall HasUse p Flush part.answer t = subst (λ (c : Call). TracedCall HasUse p c part.answer t) call_is part.calls in
+      performed p t r.cookie part.answer fits calls (by_answer (is_last g r) part.answer part.is_made)
+    where
+      by_answer : (last : Bool) (answer : Answer) → IsMade volume size m r (rest_of (outline_of_traced p).geometry r) last answer (simple_reply 0 r.cookie []) next → simple_reply 0 r.cookie [] ≡ reply_to r.cookie answer
+      by_answer true Done made = made.0
+      by_answer false Done made = absurd (no_reply 0 r.cookie made.0)
+      by_answer last (answers.Gave sectors) made = made.0
+      by_answer last (answers.Line text) made = made.0
+      by_answer last (answers.Found least) made = made.0
+      by_answer last (answers.Sized blocks) made = made.0
+      by_answer last (answers.Listed slots) made = made.0
+      by_answer last (Refused reason) made = made.0
+
+  kept_keeps : (at : Sessions) (p : Traced) (h : Happened Traced) → IsKept at h → TracedTurn at p h.turn h.sessions h.pool → Flushed p h.pool
+  kept_keeps at p h k takes =
+      let n = k.session in
+      let sent = simple_reply 0 k.rest.cookie [] in
+      let phase : Phase = Transmission k.volume k.size (Works k.manner k.rest) in
+      let held = (at n).held in
+      let here : at n ≡ state phase held = state_is (at n) phase held k.works refl in
+      let turned : Steps outline_of_traced (TracedCall HasUse) (at n) p [] 0 sent false (h.sessions n) h.pool =
+      (subst (λ (t : Turn). TracedTurn at p t h.sessions h.pool) k.turn takes).0 in
+      let step : GoesOn outline_of_traced (TracedCall HasUse) k.volume k.size k.manner k.rest (state phase held) p 0 sent false (h.sessions n) h.pool =
+      subst (λ (x : State). Steps outline_of_traced (TracedCall HasUse) x p [] 0 sent false (h.sessions n) h.pool) here turned in
+      part_keeps p h.pool k.volume k.size k.manner k.rest (h.sessions n).phase k.is_flush k.fits step.part
+
+  pub all_kept : (at : Sessions) (p : Traced) (h : Happened Traced) → KeepsAll at h → TracedTurn at p h.turn h.sessions h.pool → Flushed p h.pool
+  all_kept at p h (inl flushed) takes = flush_keeps at p h flushed takes
+  all_kept at p h (inr kept) takes = kept_keeps at p h kept takes
+
 -- ---- in turns of the plain pool
 
 pub sessions_at : {S : Type 0} (at : Sessions) (xs : List (Happened S)) (h : Happened S) (ys : List (Happened S)) → sessions_after at (xs ++ h ∷ ys) ≡ sessions_after h.sessions ys
@@ -322,11 +371,11 @@ pool_at p [] h ys = refl
 pool_at p (x ∷ xs) h ys = pool_at x.pool xs h ys
 
 pub flush_covers : {D : Type 0} (view : View D) (s P : PlainPool) (xs ys : List (Happened Traced)) (h : Happened Traced) (current : Option (Happened D)) → AreTurns outline_of_traced (TracedCall view.has_use) closed (traced s []) (xs ++ h ∷ ys)
-    → IsFlushed (sessions_after closed xs) h → IsFoundIn view s (sessions_after closed (xs ++ h ∷ ys)) (pool_after (traced s []) (xs ++ h ∷ ys)) current P
+    → KeepsAll (sessions_after closed xs) h → IsFoundIn view s (sessions_after closed (xs ++ h ∷ ys)) (pool_after (traced s []) (xs ++ h ∷ ys)) current P
     → IsCovered view s h.pool (sessions_after closed (xs ++ h ∷ ys)) (pool_after (traced s []) (xs ++ h ∷ ys)) current P
 flush_covers view s P xs ys h current are flushed found =
     let split = turn_in view.has_use closed (traced s []) xs h ys are in
-    let f = flush_keeps view.has_use (sessions_after closed xs) (pool_after (traced s []) xs) h flushed split.0 in
+    let f = all_kept view.has_use (sessions_after closed xs) (pool_after (traced s []) xs) h flushed split.0 in
     let more = turns_grow view.has_use h.sessions h.pool ys split.1 in
     let told_is : events_of h.pool.trace ≡ events_of (pool_after (traced s []) xs).trace ++ f.entry.event ∷ [] = ap events_of f.trace_is ∙ events_join (pool_after (traced s []) xs).trace (f.entry ∷ []) in
     covered view s h.pool (events_of (pool_after (traced s []) xs).trace) f.entry.event told_is f.keeping P (pool_after (traced s []) (xs ++ h ∷ ys)) (sessions_after closed (xs ++ h ∷ ys)) more.0

@@ -1,4 +1,4 @@
--- READs that are answered while the sessions and the pool stay as they are.
+-- READs and BLOCK_STATUSes that are answered while the sessions and the pool stay as they are.
 use Rattle.std.proofs.Common.{◌≡◌, ℕ, zero, suc, ◌+◌, ◌<◌, ◌≤◌, false, List, [], ◌∷◌, ◌++◌, length, take, Option, Some, None, inl, inr, refl, sym, ap, subst, ◌∙◌, arith, append-nil, length-take}
 use Rattle.std.specs.Prelude.{IfSome}
 use Rattle.std.proofs.lemmas.List.{take_all}
@@ -20,7 +20,7 @@ use Rattle.tp_hub.proofs.Hearing.{keeps_none}
 use Rattle.tp_hub.proofs.Taking.{brings_all, idle_is_free}
 
 module _ {D : Type 0} (view : View D) where
-  -- a READ whose answer was put at a place
+  -- a READ or a BLOCK_STATUS whose answer was put at a place
   pub read_there : (o : Option Answered) (s : State) (p : D) (piece : List ℕ) (at : ℕ) (old part post : List ℕ) → at ≤ length old
       → IfSome o (λ a. Advances view s p piece a.taken (take a.sent part) a.ended s p) → IfSome o (λ a. (a.ended ≡ false) × (0 < a.taken) × (a.taken ≤ length piece)) → IfSome o (λ a. a.sent ≤ length part)
       → IfSome o (λ a. (sent : List ℕ) × (length sent ≡ a.sent) × (take (at + a.sent) (take at old ++ (part ++ post)) ≡ take at old ++ sent) × IsRead view s p piece a.taken sent)

@@ -1,6 +1,6 @@
 -- What a client was answered for a WRITE, and another one then for its FLUSH, is found behind a stop.
-use Rattle.std.proofs.Common.{◌≡◌, ◌≢◌, ◌⊎◌, ℕ, zero, ◌+◌, ◌-◌, ◌/◌, ◌<◌, ◌≤◌, ◌^◌, Bool, true, false, List, [], ◌∷◌, ◌++◌, length, get_or, Option, Some, None, inl, inr, refl, sym, ap, ap₂, subst, ◌∙◌, arith, append_assoc, append-nil}
-use Rattle.std.specs.Prelude.{◌&&◌, ◌||◌, ◌==◌, MatchOption, if◌then◌else◌, nat_le, nat_lt, slice_get, slice_index_or, not}
+use Rattle.std.proofs.Common.{◌≡◌, ◌≢◌, ◌⊎◌, ℕ, zero, ◌+◌, ◌-◌, ◌/◌, ◌<◌, ◌≤◌, ◌^◌, Bool, true, false, List, [], ◌∷◌, ◌++◌, length, get_or, Option, Some, None, inl, inr, refl, sym, ap, ap₂, subst, ◌∙◌, arith, append_assoc, append-nil, true≢false}
+use Rattle.std.specs.Prelude.{◌&&◌, ◌||◌, ◌==◌, MatchBool, MatchOption, if◌then◌else◌, nat_le, nat_lt, slice_get, slice_index_or, not}
 use Rattle.std.specs.Option.{option_map, option_map_or}
 use Rattle.std.proofs.lemmas.Bool.{and_from, cases_eq, eq-eqb, le-leb, lt-ltb, ne_eqb}
 use Rattle.std.proofs.lemmas.Option.{get_or_from_slice_get, slice_get_within}
@@ -23,19 +23,19 @@ use Rattle.nbd_wire.specs.declared.TheConstants.{COMMAND_WRITE}
 use Rattle.nbd_wire.specs.Grammar.{IsFrame, Message, command, payload_len}
 use Rattle.nbd_wire.specs.Replies.{simple_reply}
 use Rattle.nbd_wire.proofs.Frames.{one_frame}
-use Rattle.nbd_session.specs.declared.phase.Course.TheVariants.{Listens}
+use Rattle.nbd_session.specs.declared.phase.Course.TheVariants.{Listens, Works}
 use Rattle.nbd_session.specs.declared.phase.Manner.{Manner}
 use Rattle.nbd_session.specs.declared.phase.Phase.{Phase}
 use Rattle.nbd_session.specs.declared.phase.Phase.TheVariants.{Transmission}
 use Rattle.nbd_session.specs.declared.request.Verdict.{Verdict}
 use Rattle.nbd_session.specs.declared.request.Verdict.TheVariants as verdicts
-use Rattle.nbd_session.specs.Requests.{form_of, has_fua, is_long, long_error, plainly, status_error, verdict_in, verdict_on}
+use Rattle.nbd_session.specs.Requests.{form_of, has_fua, is_kept_apart, is_long, long_error, plainly, status_error, to_keep, verdict_in, verdict_on}
 use Rattle.nbd_session.proofs.Judging.{error_other, plainly_other, status_other}
-use Rattle.nbd_session.specs.Session.{Answers, Serves, State, Steps, TakesFrame, Waits, reply_to, state}
+use Rattle.nbd_session.specs.Session.{Answers, Begins, IsMade, Performs, Serves, State, Steps, TakesFrame, Waits, is_at_work, reply_to, state}
 use Rattle.nbd_session.specs.Turns.{AreTurns, Happened, IsFoundIn, Sessions, TakesTurn, Turn, closed, pool_after, sessions_after}
 use Rattle.tp_hub.proofs.Whole.{all_taken, state_is}
-use Rattle.tp_hub.proofs.Covering.{and_false, events_join, flush_covers, flush_keeps, no_error, no_read, no_status, pool_at, sessions_at, turn_in, turns_grow, written_stays}
-use Rattle.tp_hub.specs.Covered.{Covers, IsCovered, IsFlushed, IsKeptThere, IsNewer, IsThere, IsWritten}
+use Rattle.tp_hub.proofs.Covering.{all_kept, and_false, events_join, flush_covers, no_error, no_read, no_status, pool_at, sessions_at, turn_in, turns_grow, written_stays}
+use Rattle.tp_hub.specs.Covered.{Covers, IsCovered, IsKeptThere, IsNewer, IsThere, IsWritten, KeepsAll}
 
 -- ---- the sector that a WRITE gives
 
@@ -104,13 +104,48 @@ module _ (HasUse : PlainPool → Type 0) where
             m.1 ∙ gives p.pool.geometry volume sector sectors fua k x m.0 is;
       }
 
-  by_verdict : (p t : Traced) (volume size : ℕ) (m : Manner) (r : Request) (payload : List ℕ) (next : Phase) (o : Option NbdError) → r.cookie < 2 ^ 64 → (r.kind == 0) ≡ false → (r.kind == 7) ≡ false
-      → Serves outline_of_traced (TracedCall HasUse) (option_map_or verdicts.Refuse o verdicts.Write) volume size m r payload p (simple_reply 0 r.cookie []) next t → Wrote volume (r.offset / 512) (sectors_of payload) p t
-  by_verdict p t volume size m r payload next (Some e) fits reads tells serves = absurd (no_error e r.cookie fits (serves.0 ∙ error_other m r e reads tells))
-  by_verdict p t volume size m r payload next None fits reads tells serves =
+  -- it is answered, or a FLUSH alone is left of it
+  abbrev IsDone : ℕ → ℕ → Manner → Request → List ℕ → Phase → Type 0
+  IsDone volume size m r sent next = (sent ≡ simple_reply 0 r.cookie []) ⊎ (next ≡ Transmission volume size (Works m (to_keep r)))
+
+  not_left : (volume size : ℕ) (m : Manner) (rest : Request) → Transmission volume size (Listens m) ≡ Transmission volume size (Works m rest) → ⊥
+  not_left volume size m rest is = let same : false ≡ true = ap is_at_work is in true≢false (sym same)
+
+  whole_wrote : (p t : Traced) (volume size : ℕ) (m : Manner) (r : Request) (payload sent : List ℕ) (next : Phase) → r.cookie < 2 ^ 64 → IsDone volume size m r sent next
+      → Performs outline_of_traced (TracedCall HasUse) (Write volume (r.offset / 512) (sectors_of payload) (has_fua r)) (reply_to r.cookie) p sent t × (next ≡ Transmission volume size (Listens m)) → Wrote volume (r.offset / 512) (sectors_of payload) p t
+  whole_wrote p t volume size m r payload sent next fits (inl told) serves =
       let did = serves.0 in
-      done_by p t volume (r.offset / 512) r.cookie (sectors_of payload) (has_fua r) did.answer fits did.calls did.sent_is
+      done_by p t volume (r.offset / 512) r.cookie (sectors_of payload) (has_fua r) did.answer fits did.calls (sym told ∙ did.sent_is)
       (write_answer p.pool did.calls.entry.event.made did.calls.is_trace.0 did.calls.entry.event.call volume (r.offset / 512) (sectors_of payload) (has_fua r) did.calls.entry.event.answer did.calls.call_is did.calls.is_trace.2)
+  whole_wrote p t volume size m r payload sent next fits (inr left) serves = absurd (not_left volume size m (to_keep r) (sym serves.1 ∙ left))
+
+  apart_wrote : (p t : Traced) (volume size : ℕ) (m : Manner) (r : Request) (payload sent : List ℕ) (next : Phase) → r.cookie < 2 ^ 64 → IsDone volume size m r sent next
+      → (begins : Begins outline_of_traced (TracedCall HasUse) (Write volume (r.offset / 512) (sectors_of payload) false) volume size m r p sent next t)
+      → (begins.calls.entry.event.answer ≡ Done) ⊎ ((reason : Refusal) × (begins.calls.entry.event.answer ≡ Refused reason)) → Wrote volume (r.offset / 512) (sectors_of payload) p t
+  apart_wrote p t volume size m r payload sent next fits done begins (inl did) =
+      done_by p t volume (r.offset / 512) r.cookie (sectors_of payload) false begins.answer fits begins.calls (sym (ap (reply_to r.cookie) (sym begins.calls.answer_is ∙ did))) (inl did)
+  apart_wrote p t volume size m r payload sent next fits done begins (inr refused) =
+      let is : begins.answer ≡ Refused refused.0 = sym begins.calls.answer_is ∙ refused.1 in
+      let told : IsMade volume size m r (to_keep r) false (Refused refused.0) sent next = subst (λ (a : Answer). IsMade volume size m r (to_keep r) false a sent next) is begins.is_begun in
+      elim done [
+        | inl answered ↦ absurd (no_error (nbd_error refused.0) r.cookie fits (sym answered ∙ told.0))
+        | inr left ↦ absurd (not_left volume size m (to_keep r) (sym told.1 ∙ left))
+      ]
+
+  by_kind : (b : Bool) (p t : Traced) (volume size : ℕ) (m : Manner) (r : Request) (payload sent : List ℕ) (next : Phase) → r.cookie < 2 ^ 64 → IsDone volume size m r sent next
+      → MatchBool b (Begins outline_of_traced (TracedCall HasUse) (Write volume (r.offset / 512) (sectors_of payload) false) volume size m r p sent next t)
+      (Performs outline_of_traced (TracedCall HasUse) (Write volume (r.offset / 512) (sectors_of payload) (has_fua r)) (reply_to r.cookie) p sent t × (next ≡ Transmission volume size (Listens m))) → Wrote volume (r.offset / 512) (sectors_of payload) p t
+  by_kind false p t volume size m r payload sent next fits done serves = whole_wrote p t volume size m r payload sent next fits done serves
+  by_kind true p t volume size m r payload sent next fits done begins =
+      apart_wrote p t volume size m r payload sent next fits done begins
+      (write_answer p.pool begins.calls.entry.event.made begins.calls.is_trace.0 begins.calls.entry.event.call volume (r.offset / 512) (sectors_of payload) false begins.calls.entry.event.answer begins.calls.call_is begins.calls.is_trace.2)
+
+  by_verdict : (p t : Traced) (volume size : ℕ) (m : Manner) (r : Request) (payload sent : List ℕ) (next : Phase) (o : Option NbdError) → r.cookie < 2 ^ 64 → (r.kind == 0) ≡ false → (r.kind == 7) ≡ false
+      → IsDone volume size m r sent next
+      → Serves outline_of_traced (TracedCall HasUse) (option_map_or verdicts.Refuse o verdicts.Write) volume size m r payload p sent next t → Wrote volume (r.offset / 512) (sectors_of payload) p t
+  by_verdict p t volume size m r payload sent next (Some e) fits reads tells (inl told) serves = absurd (no_error e r.cookie fits (sym told ∙ (serves.0 ∙ error_other m r e reads tells)))
+  by_verdict p t volume size m r payload sent next (Some e) fits reads tells (inr left) serves = absurd (not_left volume size m (to_keep r) (sym serves.1 ∙ left))
+  by_verdict p t volume size m r payload sent next None fits reads tells done serves = by_kind (is_kept_apart m r) p t volume size m r payload sent next fits done serves
 
   verdict_is : (m : Manner) (size : ℕ) (r : Request) → r.kind ≡ COMMAND_WRITE → 0 < r.len → verdict_in m size r ≡ option_map_or verdicts.Refuse (forms.form_error size (form_of r)) verdicts.Write
   verdict_is m size r is some =
@@ -139,20 +174,20 @@ module _ (HasUse : PlainPool → Type 0) where
       let phase : Phase = Transmission w.volume w.size (Listens w.manner) in
       let held = (at n).held in
       let here : at n ≡ state phase held = state_is (at n) phase held w.serves refl in
-      let turned : Steps outline_of_traced (TracedCall HasUse) (at n) p w.piece (length w.piece) (simple_reply 0 r.cookie []) false (h.sessions n) h.pool =
+      let turned : Steps outline_of_traced (TracedCall HasUse) (at n) p w.piece (length w.piece) w.sent false (h.sessions n) h.pool =
       (subst (λ (t : Turn). TakesTurn outline_of_traced (TracedCall HasUse) at p t h.sessions h.pool) w.turn takes).0 in
-      let step : Waits outline_of_traced (TracedCall HasUse) kinds.Requests (state phase held) p w.piece (length w.piece) (simple_reply 0 r.cookie []) false (h.sessions n) h.pool
-      ⊎ TakesFrame outline_of_traced (TracedCall HasUse) kinds.Requests (state phase held) p w.piece (length w.piece) (simple_reply 0 r.cookie []) false (h.sessions n) h.pool =
-      subst (λ (x : State). Steps outline_of_traced (TracedCall HasUse) x p w.piece (length w.piece) (simple_reply 0 r.cookie []) false (h.sessions n) h.pool) here turned in
+      let step : Waits outline_of_traced (TracedCall HasUse) kinds.Requests (state phase held) p w.piece (length w.piece) w.sent false (h.sessions n) h.pool
+      ⊎ TakesFrame outline_of_traced (TracedCall HasUse) kinds.Requests (state phase held) p w.piece (length w.piece) w.sent false (h.sessions n) h.pool =
+      subst (λ (x : State). Steps outline_of_traced (TracedCall HasUse) x p w.piece (length w.piece) w.sent false (h.sessions n) h.pool) here turned in
       elim step [
         | inl waits ↦ absurd (waits.partial (command r w.payload) (held ++ w.piece) [] w.frame (sym (append-nil (held ++ w.piece))))
         | inr frame ↦
             let there : IsFrame kinds.Requests frame.message (held ++ w.piece) = subst (λ (t : List ℕ). IsFrame kinds.Requests frame.message (held ++ t)) (all_taken w.piece) frame.frame in
             let same = one_frame kinds.Requests frame.message (command r w.payload) (held ++ w.piece) (held ++ w.piece) [] [] there w.frame refl in
-            let answered : Serves outline_of_traced (TracedCall HasUse) (verdict_in w.manner w.size r) w.volume w.size w.manner r w.payload p (simple_reply 0 r.cookie []) (h.sessions n).phase h.pool =
-            subst (λ (m : Message). Answers outline_of_traced (TracedCall HasUse) phase m p (simple_reply 0 r.cookie []) (h.sessions n).phase h.pool) same.1 frame.answer in
-            by_verdict p h.pool w.volume w.size w.manner r w.payload (h.sessions n).phase (forms.form_error w.size (form_of r)) w.frame.request_fits.cookie (no_read r 1 w.is_write (omega arith)) (no_status r 1 w.is_write (omega arith))
-            (subst (λ (v : Verdict). Serves outline_of_traced (TracedCall HasUse) v w.volume w.size w.manner r w.payload p (simple_reply 0 r.cookie []) (h.sessions n).phase h.pool) (verdict_is w.manner w.size r w.is_write some) answered)
+            let answered : Serves outline_of_traced (TracedCall HasUse) (verdict_in w.manner w.size r) w.volume w.size w.manner r w.payload p w.sent (h.sessions n).phase h.pool =
+            subst (λ (m : Message). Answers outline_of_traced (TracedCall HasUse) phase m p w.sent (h.sessions n).phase h.pool) same.1 frame.answer in
+            by_verdict p h.pool w.volume w.size w.manner r w.payload w.sent (h.sessions n).phase (forms.form_error w.size (form_of r)) w.frame.request_fits.cookie (no_read r 1 w.is_write (omega arith)) (no_status r 1 w.is_write (omega arith)) w.is_done
+            (subst (λ (v : Verdict). Serves outline_of_traced (TracedCall HasUse) v w.volume w.size w.manner r w.payload p w.sent (h.sessions n).phase h.pool) (verdict_is w.manner w.size r w.is_write some) answered)
       ]
 
   turns_front : (at : Sessions) (t : Traced) (xs ys : List (Happened Traced)) → AreTurns outline_of_traced (TracedCall HasUse) at t (xs ++ ys) → AreTurns outline_of_traced (TracedCall HasUse) at t xs
@@ -183,7 +218,7 @@ module _ {D : Type 0} (view : View D) (s P : PlainPool) (first between behind : 
   abbrev pub end : Traced
   end = pool_after (traced s []) (before_flush ++ flush ∷ behind)
 
-  module _ (are : AreTurns outline_of_traced (TracedCall view.has_use) closed (traced s []) (before_flush ++ flush ∷ behind)) (w : IsWritten (sessions_after closed first) write) (flushed : IsFlushed (sessions_after closed before_flush) flush)
+  module _ (are : AreTurns outline_of_traced (TracedCall view.has_use) closed (traced s []) (before_flush ++ flush ∷ behind)) (w : IsWritten (sessions_after closed first) write) (flushed : KeepsAll (sessions_after closed before_flush) flush)
       (found : IsFoundIn view s at_end end current P) (k : ℕ) (x : Sector) (got : slice_get (sectors_of w.payload) k ≡ Some x) where
     abbrev pub place : ℕ
     place = w.request.offset / 512 + k
@@ -203,7 +238,7 @@ module _ {D : Type 0} (view : View D) (s P : PlainPool) (first between behind : 
         let split = turn_in view.has_use closed (traced s []) first write between (turns_front view.has_use closed (traced s []) before_flush (flush ∷ behind) are) in
         let wrote = write_enters view.has_use (sessions_after closed first) (pool_after (traced s []) first) write w (some_len w.request w.payload k x w.is_write w.frame.whole got) split.0 in
         let more = turns_grow view.has_use write.sessions write.pool between split.1 in
-        let f = flush_keeps view.has_use (sessions_after closed before_flush) (pool_after (traced s []) before_flush) flush flushed (turn_in view.has_use closed (traced s []) before_flush flush behind are).0 in
+        let f = all_kept view.has_use (sessions_after closed before_flush) (pool_after (traced s []) before_flush) flush flushed (turn_in view.has_use closed (traced s []) before_flush flush behind are).0 in
         let m : List Entry = more.0 ++ f.entry ∷ [] in
         let is : flush.pool.trace ≡ write.pool.trace ++ m =
         f.trace_is ∙ (ap (λ (l : List Entry). l ++ f.entry ∷ []) (ap (λ (t : Traced). t.trace) (pool_at (traced s []) first write between) ∙ more.1) ∙ append_assoc write.pool.trace more.0 (f.entry ∷ [])) in

@@ -1,5 +1,5 @@
 -- Trusted reading: what the reply to one client's FLUSH says of what all clients were answered before (NBD's proto.md, "NBD_FLAG_CAN_MULTI_CONN").
-use Rattle.std.specs.Prelude.{◌≡◌, ◌⊎◌, ℕ, Bool, false, List, [], ◌∷◌, ◌++◌, length, Option, None, Some}
+use Rattle.std.specs.Prelude.{◌≡◌, ◌⊎◌, ℕ, ◌<◌, ◌^◌, Bool, false, List, [], ◌∷◌, ◌++◌, length, Option, None, Some}
 use Rattle.tp_model.specs.Sectors.{Sector}
 use Rattle.tp_model.specs.Pool.{PlainPool, volume_sector}
 use Rattle.tp_model.specs.PoolStops.{Event, GivenBy, GivenIn, MayReopen, state_after}
@@ -8,9 +8,10 @@ use Rattle.nbd_wire.specs.declared.Request.{Request}
 use Rattle.nbd_wire.specs.declared.TheConstants.{COMMAND_FLUSH, COMMAND_WRITE}
 use Rattle.nbd_wire.specs.Grammar.{IsRequest}
 use Rattle.nbd_wire.specs.Replies.{simple_reply}
-use Rattle.nbd_session.specs.declared.phase.Course.TheVariants.{Listens}
+use Rattle.nbd_session.specs.declared.phase.Course.TheVariants.{Listens, Works}
 use Rattle.nbd_session.specs.declared.phase.Manner.{Manner}
 use Rattle.nbd_session.specs.declared.phase.Phase.TheVariants.{Transmission}
+use Rattle.nbd_session.specs.Requests.{to_keep}
 use Rattle.nbd_session.specs.Turns.{Happened, Hears, Sessions, TakesTurn}
 
 -- In this turn a FLUSH of some session came to its end, and was answered without an error.
@@ -25,6 +26,22 @@ pub record IsFlushed {S : Type 0} (at : Sessions) (h : Happened S) : Type 0 wher
   pub piece : List ℕ
   pub frame : IsRequest ((at session).held ++ piece) request []
   pub turn : h.turn ≡ Hears session piece (length piece) (simple_reply 0 request.cookie []) false
+
+-- In this turn the FLUSH that was left of a WRITE of some session was made, and answered without an error.
+pub record IsKept {S : Type 0} (at : Sessions) (h : Happened S) : Type 0 where
+  pub session : ℕ
+  pub volume : ℕ
+  pub size : ℕ
+  pub manner : Manner
+  pub rest : Request
+  pub works : (at session).phase ≡ Transmission volume size (Works manner rest)
+  pub is_flush : rest.kind ≡ COMMAND_FLUSH
+  pub fits : rest.cookie < 2 ^ 64
+  pub turn : h.turn ≡ Hears session [] 0 (simple_reply 0 rest.cookie []) false
+
+-- an answer of either kind says that all is kept
+abbrev pub KeepsAll : {S : Type 0} → Sessions → Happened S → Type 0
+KeepsAll at h = IsFlushed at h ⊎ IsKept at h
 
 -- P is the state behind these events and some of the later ones, but for sectors that were given a value in the others.
 pub record Covers (s : PlainPool) (before later : List Event) (P : PlainPool) : Type 0 where
@@ -46,7 +63,7 @@ IsNewer [] id k P = ⊥
 IsNewer (e ∷ es) id k P =
     (volume_sector P id k ≡ volume_sector e.made id k) ⊎ ((x : Sector) × (volume_sector P id k ≡ Some x) × GivenBy e id k x) ⊎ IsNewer es id k P
 
--- In this turn a WRITE of some session came to its end, and was answered without an error.
+-- In this turn a WRITE of some session came to its end, and was answered without an error, or nothing but a FLUSH is left of it.
 pub record IsWritten {S : Type 0} (at : Sessions) (h : Happened S) : Type 0 where
   pub session : ℕ
   pub volume : ℕ
@@ -58,7 +75,9 @@ pub record IsWritten {S : Type 0} (at : Sessions) (h : Happened S) : Type 0 wher
   pub payload : List ℕ
   pub piece : List ℕ
   pub frame : IsRequest ((at session).held ++ piece) request payload
-  pub turn : h.turn ≡ Hears session piece (length piece) (simple_reply 0 request.cookie []) false
+  pub sent : List ℕ
+  pub turn : h.turn ≡ Hears session piece (length piece) sent false
+  pub is_done : (sent ≡ simple_reply 0 request.cookie []) ⊎ ((h.sessions session).phase ≡ Transmission volume size (Works manner (to_keep request)))
 
 -- a sector, where the volume has it, is this one, or newer
 abbrev pub IsThere : List Event → ℕ → ℕ → Sector → PlainPool → Type 0

@@ -88,7 +88,7 @@ module _ {D : Type 0} (view : View D) where
       (parted ≡ true) × (0 < at) × (at ≤ length piece) × HearsAnywhere n old p (take at piece) before after new p' × (has_ended new.phase ≡ false) × KeepsServing n (Some old) p (Some new) p'
       × (is_at_work new.phase ≡ true)
 
-  -- So many bytes of a piece are a READ that was answered so, by which neither the session nor the pool changed.
+  -- So many bytes of a piece are a READ, or a BLOCK_STATUS, that was answered so, by which neither the session nor the pool changed.
   abbrev pub IsRead : State → D → List ℕ → ℕ → List ℕ → Type 0
   IsRead s p piece taken sent = (0 < taken) × Advances view s p piece taken sent false s p
 

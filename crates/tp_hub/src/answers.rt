@@ -130,8 +130,8 @@ impl Answers {
         step
     }
 
-    /// Takes the READ with which a piece begins, by a shared read, whose answer goes to its place, and adds what it says: how many bytes it has. None where
-    /// the session does not answer it so, and then nothing changes.
+    /// Takes the READ or BLOCK_STATUS with which a piece begins, by a shared read or walk, whose answer goes to its place, and adds what it says: how many bytes it
+    /// has. None where the session does not answer it so, and then nothing changes.
     pub(crate) fn read_shared<V: Volumes, S: SharedReads<V>>(
         &mut self,
         session: &Session,
@@ -261,7 +261,7 @@ fn step_in<V: Walked>(
     step_at(session, pool, piece, bytes, at)
 }
 
-/// Answers a READ by a shared read, whose answer is put at a place.
+/// Answers a READ by a shared read, or a BLOCK_STATUS by a shared walk, whose answer is put at a place.
 fn read_at<V: Volumes, S: SharedReads<V>>(
     session: &Session,
     pool: &S,

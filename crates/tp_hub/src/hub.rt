@@ -6,7 +6,7 @@ ghost use Rattle.tp_model.specs.Clauses.{PoolCall};
 ghost use Rattle.tp_hub.specs.Runs.{Brings, IsPartOfNext, IsShortOfNext, Runs, incoming, session_of, taken_of};
 ghost use Rattle.tp_hub.specs.Parts.{BringIdle, IsIdle, StayIdle, is_parted_to};
 ghost use Rattle.tp_hub.specs.Places.{TakesEvent};
-ghost use Rattle.nbd_session.specs.Session.{is_at_work};
+ghost use Rattle.nbd_session.specs.Session.{is_at_work, is_to_flush, keeps_apart};
 ghost use Rattle.tp_hub.specs.Serve.{AreAllOpen, IsLeastFree};
 ghost use Rattle.tp_hub.specs.Serving.{AllLeave, Serves, sessions_of, slot_at};
 
@@ -53,7 +53,7 @@ impl<V: Volumes> Model for Hub<V> {
 
 impl<V: Volumes> Hub<V> {
     ghost use Rattle.std.specs.Prelude.{◌≡◌, ◌<◌, None, IfSome};
-    ghost use Rattle.nbd_session.specs.Session.{is_at_work};
+    ghost use Rattle.nbd_session.specs.Session.{is_at_work, is_to_flush, keeps_apart};
     ghost use Rattle.tp_hub.specs.Serve.{AreAllOpen, IsLeastFree};
     ghost use Rattle.std.specs.FinMap.{empty};
     ghost use Rattle.tp_model.specs.Clauses.{TracedCall, outline_of_traced};
@@ -88,6 +88,22 @@ impl<V: Volumes> Hub<V> {
         ensures { result ≡ is_at_work (sessions_of self.now.slots number).phase }
     {
         at_work(&self.sessions, number)
+    }
+
+    /// Whether nothing but a FLUSH is left of a session's request, which keeps what was written.
+    pub fn is_to_flush(&self, number: u8) -> bool
+        requires { number < 64 }
+        ensures { result ≡ is_to_flush (sessions_of self.now.slots number).phase }
+    {
+        to_flush(&self.sessions, number)
+    }
+
+    /// Whether a session's WRITEs with FUA are kept apart.
+    pub fn keeps_apart(&self, number: u8) -> bool
+        requires { number < 64 }
+        ensures { result ≡ keeps_apart (sessions_of self.now.slots number).phase }
+    {
+        apart(&self.sessions, number)
     }
 
     /// The mode of its pool.
@@ -152,8 +168,8 @@ impl<V: SharedVolumes> Hub<V> {
     ghost use Rattle.tp_hub.specs.Runs.{Brings};
     ghost use Rattle.tp_hub.specs.Serving.{sessions_of};
 
-    /// Takes the READs with which a piece of a session begins, one after another, as long as a shared read answers each and one longest answer more fits into
-    /// `out`. Neither the sessions nor the pool change. None where not even one was taken, and then `out` has the answers that it had.
+    /// Takes the READs and BLOCK_STATUSes with which a piece of a session begins, one after another, as long as a shared read or walk answers each and one longest
+    /// answer more fits into `out`. Neither the sessions nor the pool change. None where not even one was taken, and then `out` has the answers that it had.
     pub fn ask_shared(&self, number: u8, piece: &[u8], out: &mut Answers) -> Option<Ran>
         requires { number < 64 }
         ensures asked { IfSome result (λ ran. IsAsked (λ took answers. RunsSo V.view (sessions_of self.now.slots) self.now.pool took answers (sessions_of self.now.slots) self.now.pool)
@@ -186,7 +202,7 @@ impl<V: Managed> Hub<V> {
     /// `Open` of a session that is open is refused `SessionInUse`, `Bytes` and `Hangup` of one that is not `NoSession`. What stands
     /// in a piece behind its session's end is dropped. The parts of a long request are made one behind the other, each in a turn of its own, and no session has any
     /// left behind `Bytes`: `Parted` stops where the first one is to be made, and makes one of them where it brings no text. Text for a session that has parts left
-    /// is refused `SessionInUse`.
+    /// is refused `SessionInUse`. A WRITE that is kept apart has one such part, the FLUSH that answers it.
     ///
     /// A line that is no message is refused for its text (`UnknownMessage`, `BadSyntax` or `BadDeviceId`), and the pool is not asked; for any other line the
     /// pool is asked once, and `Done` or its refusal answers it. A status line is the pool's at its turn; that of a volume whose number is over 16777215 is
@@ -232,6 +248,30 @@ fn at_work(sessions: &[Option<Session>; SESSIONS], number: u8) -> bool
     match &sessions[usize::from(number)] {
         None => false,
         Some(session) => session.is_at_work(),
+    }
+}
+
+/// Whether nothing but a FLUSH is left of a request of the session of a number.
+fn to_flush(sessions: &[Option<Session>; SESSIONS], number: u8) -> bool
+    requires count { length sessions.now ≡ 64 }
+    requires number { number < 64 }
+    ensures { result ≡ is_to_flush (sessions_of sessions.now number).phase }
+{
+    match &sessions[usize::from(number)] {
+        None => false,
+        Some(session) => session.is_to_flush(),
+    }
+}
+
+/// Whether WRITEs with FUA of the session of a number are kept apart.
+pub(crate) fn apart(sessions: &[Option<Session>; SESSIONS], number: u8) -> bool
+    requires count { length sessions.now ≡ 64 }
+    requires number { number < 64 }
+    ensures { result ≡ keeps_apart (sessions_of sessions.now number).phase }
+{
+    match &sessions[usize::from(number)] {
+        None => false,
+        Some(session) => session.keeps_apart(),
     }
 }
 

@@ -22,7 +22,7 @@ ghost use Rattle.tp_hub.specs.Parts.{IsIdle, IsMadeWhole};
 ghost use Rattle.tp_hub.specs.Desks.{AreAsked, Exchange};
 ghost use Rattle.tp_hub.specs.Serve.{HubRuns, PlainRuns, with_pool};
 ghost use Rattle.tp_hub.specs.Serving.{HubState};
-ghost use Rattle.tp_hub.specs.Covered.{Covers, IsCovered, IsFlushed, IsKeptThere, IsNewer, IsWritten};
+ghost use Rattle.tp_hub.specs.Covered.{Covers, IsCovered, IsKeptThere, IsNewer, IsWritten, KeepsAll};
 ghost use Rattle.tp_hub.specs.Lives.{AreHubLives, ArePlainLives, HubLife};
 ghost use Rattle.tp_hub.specs.Pairs.{InTurn};
 
@@ -75,14 +75,15 @@ pub fn hub_lives_are_plain<V: Volumes>()
 
 /// CAN_MULTI_CONN in the protocol's words: a FLUSH that one client was answered covers what every client was answered before.
 ///
-/// In the turns of a life of plain volumes, which are those of the hub (`hub_lives_are_plain`), some session's FLUSH is answered without an error. What is found behind a
+/// In the turns of a life of plain volumes, which are those of the hub (`hub_lives_are_plain`), some session's FLUSH is answered without an error, its own or the one that
+/// was left of its WRITE with FUA, whose answer it is. What is found behind a
 /// stop at any moment since is the state behind that answer and some of the later events, but for sectors that were given a value in those behind these; where nothing
 /// came since, it is the state behind the answer. So a sector that an earlier request of any session wrote is found as that one left it, or as a later event
 /// left it or gave it.
 pub fn a_flush_covers_all_clients<V: Volumes>()
     ensures found { (s P : PlainPool) (before behind : List (Happened Traced)) (flush : Happened Traced) (current : Option (Happened V))
         → AreTurns outline_of_traced (TracedCall V.view.has_use) closed (traced s []) (before ++ flush ∷ behind)
-        → IsFlushed (sessions_after closed before) flush
+        → KeepsAll (sessions_after closed before) flush
         → IsFoundIn V.view s (sessions_after closed (before ++ flush ∷ behind)) (pool_after (traced s []) (before ++ flush ∷ behind)) current P
         → IsCovered V.view s flush.pool (sessions_after closed (before ++ flush ∷ behind)) (pool_after (traced s []) (before ++ flush ∷ behind)) current P }
     ensures alone { (s P : PlainPool) (events : List Event) (last : Event) → Covers s (events ++ last ∷ []) [] P → P ≡ reopened last.made }
@@ -90,12 +91,13 @@ pub fn a_flush_covers_all_clients<V: Volumes>()
         → (volume_sector P id k ≡ volume_sector write.made id k) ⊎ IsNewer (between ++ later) id k P }
 {}
 
-/// The same of one WRITE of any session, which is answered without an error in a turn before another session's, or its own, FLUSH is: each sector of it that the volume
-/// has is found behind a stop at any moment since the FLUSH was answered, or a newer one.
+/// The same of one WRITE of any session, which is answered without an error in a turn before another session's, or its own, FLUSH is, or is kept apart and was made
+/// before: each sector of it that the volume has is found behind a stop at any moment since the FLUSH was answered, or a newer one. So it is behind the answer
+/// to a WRITE with FUA, which that of its own FLUSH is.
 pub fn a_flush_keeps_what_any_client_wrote<V: Volumes>()
     ensures { (s P : PlainPool) (first between behind : List (Happened Traced)) (write flush : Happened Traced) (current : Option (Happened V))
         → AreTurns outline_of_traced (TracedCall V.view.has_use) closed (traced s []) ((first ++ write ∷ between) ++ flush ∷ behind)
-        → (w : IsWritten (sessions_after closed first) write) → IsFlushed (sessions_after closed (first ++ write ∷ between)) flush
+        → (w : IsWritten (sessions_after closed first) write) → KeepsAll (sessions_after closed (first ++ write ∷ between)) flush
         → IsFoundIn V.view s (sessions_after closed ((first ++ write ∷ between) ++ flush ∷ behind)) (pool_after (traced s []) ((first ++ write ∷ between) ++ flush ∷ behind)) current P
         → (k : ℕ) (x : Sector) → slice_get (sectors_of w.payload) k ≡ Some x
         → IsKeptThere V.view write.pool (sessions_after closed ((first ++ write ∷ between) ++ flush ∷ behind)) (pool_after (traced s []) ((first ++ write ∷ between) ++ flush ∷ behind)) current

@@ -5,15 +5,15 @@ ghost use Rattle.tp_hub.specs.Flushes.{IsHubFlushed, IsHubFlushing};
 ghost use Rattle.tp_hub.specs.Serving.{Serves};
 
 use crate::answers::Answers;
-use crate::hub::{Hub, Ran, SESSIONS};
+use crate::hub::{Hub, Ran, SESSIONS, apart};
 use crate::seat::{Seat, seat_at};
 use crate::shared::ask_place;
 use nbd_session::Session;
 use std::marker::Model;
 use tp_model::{Flushing, Refusal, SharedReads, Staged};
 
-/// A hub of which a flush was begun that no event asked for, and parts are left. For READs it is still the hub of which the flush was begun. Nobody is told the
-/// answer of such a flush: behind it the FLUSH of a client has less to wait for, or nothing.
+/// A hub of which a flush was begun that no event asked for, and parts are left. For READs and BLOCK_STATUSes it is still the hub of which the flush was begun.
+/// Nobody is told the answer of such a flush: behind it the FLUSH of a client has less to wait for, or nothing.
 #[derive(Drop)]
 pub struct MidHub<V: Staged> {
     midway: V::Midway,
@@ -49,13 +49,14 @@ impl<V: Staged> MidHub<V> {
     ghost use Rattle.std.specs.Prelude.{◌≡◌, ◌<◌, ◌≤◌, None, IfSome};
     ghost use Rattle.tp_model.specs.Clauses.{TracedCall, outline_of_traced};
     ghost use Rattle.nbd_session.specs.Clauses.{GoesWithTrace};
+    ghost use Rattle.nbd_session.specs.Session.{keeps_apart};
     ghost use Rattle.tp_hub.specs.Desks.{IsAsked, RanSo, RunsSo};
     ghost use Rattle.tp_hub.specs.Flushes.{IsHubFlushed, IsHubFlushing};
     ghost use Rattle.tp_hub.specs.Runs.{Brings};
     ghost use Rattle.tp_hub.specs.Seats.{seat_at};
     ghost use Rattle.tp_hub.specs.Serving.{sessions_of};
 
-    /// Takes READs as `Hub::ask_shared` of the hub of which the flush was begun.
+    /// Takes READs and BLOCK_STATUSes as `Hub::ask_shared` of the hub of which the flush was begun.
     pub fn ask_shared(&self, number: u8, piece: &[u8], out: &mut Answers) -> Option<Ran>
         requires { number < 64 }
         ensures asked { IfSome result (λ ran. IsAsked (λ took answers. RunsSo V.view (sessions_of self.now.slots) self.now.pool took answers (sessions_of self.now.slots) self.now.pool)
@@ -74,6 +75,14 @@ impl<V: Staged> MidHub<V> {
         ensures { result ≡ seat_at self.now.slots number }
     {
         seat_at(&self.sessions, number)
+    }
+
+    /// Whether a session's WRITEs with FUA are kept apart.
+    pub fn keeps_apart(&self, number: u8) -> bool
+        requires { number < 64 }
+        ensures { result ≡ keeps_apart (sessions_of self.now.slots number).phase }
+    {
+        apart(&self.sessions, number)
     }
 
     /// Brings to the device what the parts so far wrote, while READs are taken beside it, so that the next part has less to wait for. Nothing is promised of it.

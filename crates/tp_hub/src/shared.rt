@@ -1,4 +1,4 @@
-//! READs of one session that are answered by shared reads, while nothing else is done to the hub.
+//! READs and BLOCK_STATUSes of one session that are answered by shared reads and walks, while nothing else is done to the hub.
 
 ghost use Rattle.std.specs.Prelude.{◌≡◌, ◌<◌, ◌≤◌, None, false, length, take, IfSome};
 ghost use Rattle.nbd_session.specs.Session.{has_ended, is_at_work};
@@ -12,7 +12,8 @@ use crate::hub::{Ran, SESSIONS};
 use nbd_session::Session;
 use tp_model::{SharedReads, Volumes};
 
-/// A session hears the READs with which a piece begins, as long as a shared read answers each: how many bytes they have. Room is made before each.
+/// A session hears the READs and BLOCK_STATUSes with which a piece begins, as long as a shared read or walk answers each: how many bytes they have. Room is made
+/// before each.
 fn hear<V: Volumes, S: SharedReads<V>>(
     session: &Session,
     pool: &S,
@@ -57,7 +58,7 @@ fn ran(bytes: usize, len: usize) -> Option<Ran>
     })
 }
 
-/// The session at a place takes the READs with which a piece begins.
+/// The session at a place takes the READs and BLOCK_STATUSes with which a piece begins.
 fn ask_slot<V: Volumes, S: SharedReads<V>>(
     slot: &Option<Session>,
     pool: &S,

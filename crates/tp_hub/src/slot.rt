@@ -44,7 +44,7 @@ pub enum Heard {
     Over,
     /// There was no memory behind so many bytes.
     Stopped(usize),
-    /// A long request ended so many bytes, and its parts are left.
+    /// A request of which parts are left ended so many bytes: a long one, or a WRITE that is kept apart.
     Parted(usize),
 }
 

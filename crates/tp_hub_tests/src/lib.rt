@@ -6,7 +6,11 @@ mod carried;
 #[cfg(test)]
 mod flushes;
 #[cfg(test)]
+mod holes;
+#[cfg(test)]
 mod hubs;
+#[cfg(test)]
+mod kept;
 #[cfg(test)]
 mod lines;
 #[cfg(test)]
@@ -21,6 +25,8 @@ mod resumed;
 mod runs;
 #[cfg(test)]
 mod script;
+#[cfg(test)]
+mod statuses;
 #[cfg(test)]
 mod talk;
 #[cfg(test)]

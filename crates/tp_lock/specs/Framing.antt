@@ -2,7 +2,7 @@
 use Rattle.std.specs.Prelude.{ℕ, zero, suc, ◌+◌, ◌-◌, Bool, false, List, [], ◌∷◌, ◌++◌, length, take, drop, min, nat_lt, nat_eq, slice_index_or, ◌%◌, ◌==◌, ◌||◌, ◌&&◌, if◌then◌else◌}
 use Rattle.std.specs.Int.{w32, to_be_bytes}
 use Rattle.std.specs.List.{starts_with}
-use Rattle.nbd_session.specs.Requests.{BeginsWithRead}
+use Rattle.nbd_session.specs.Requests.{BeginsWithLook}
 use Rattle.nbd_wire.specs.declared.Kind.{Kind}
 use Rattle.nbd_wire.specs.declared.Kind.TheVariants.{Flags, Options, Requests}
 use Rattle.nbd_wire.specs.declared.TheConstants.{REQUEST_MAGIC}
@@ -125,18 +125,18 @@ begins_as_request bytes = starts_with nat_eq bytes (to_be_bytes w32 REQUEST_MAGI
 abbrev pub turn_of : List ℕ → ℕ
 turn_of bytes = if begins_as_request bytes then end_of 16 bytes else length bytes
 
--- a READ stands whole at the front of an event
-abbrev pub IsRead : Incoming → Type 0
-IsRead (Brings session piece) = BeginsWithRead piece
-IsRead (Comes session profile) = ⊥
-IsRead (Goes session) = ⊥
-IsRead (Orders line) = ⊥
-IsRead AsksLine = ⊥
-IsRead (AsksLineOf volume) = ⊥
-IsRead (AsksSizeOf volume) = ⊥
-IsRead (AsksMapOf volume from) = ⊥
-IsRead (AsksDeltaOf old new from) = ⊥
-IsRead AsksFlush = ⊥
+-- a READ or a BLOCK_STATUS stands whole at the front of an event
+abbrev pub IsLook : Incoming → Type 0
+IsLook (Brings session piece) = BeginsWithLook piece
+IsLook (Comes session profile) = ⊥
+IsLook (Goes session) = ⊥
+IsLook (Orders line) = ⊥
+IsLook AsksLine = ⊥
+IsLook (AsksLineOf volume) = ⊥
+IsLook (AsksSizeOf volume) = ⊥
+IsLook (AsksMapOf volume from) = ⊥
+IsLook (AsksDeltaOf old new from) = ⊥
+IsLook AsksFlush = ⊥
 
 -- ---- who was refused
 

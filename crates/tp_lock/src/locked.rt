@@ -8,7 +8,7 @@ ghost use Rattle.tp_hub.specs.Places.{IsWider};
 ghost use Rattle.tp_hub.specs.Serve.{HubRuns};
 ghost use Rattle.tp_hub.specs.Serving.{HubState, Slots};
 ghost use Rattle.tp_lock.specs.Census.{AreSeats};
-ghost use Rattle.tp_lock.specs.Framing.{IsRead};
+ghost use Rattle.tp_lock.specs.Framing.{IsLook};
 ghost use Rattle.tp_lock.specs.Locked.{IsFrom, MakesParts, SomeRun, SomeRuns};
 ghost use Rattle.tp_lock.specs.declared.midway.Stage.TheVariants.{Whole};
 ghost use Rattle.tp_lock.specs.Stages.{IsEnded, slots_of};
@@ -16,8 +16,8 @@ ghost use Rattle.tp_lock.specs.Stages.{IsEnded, slots_of};
 use crate::midway::{Guarded, Stage};
 use crate::order::{Order, Purpose};
 use crate::since::{Since, Start};
-use crate::turns::{is_to_keep, turn_len};
-use nbd_session::begins_with_read;
+use crate::turns::{is_to_keep, is_write, turn_len};
+use nbd_session::begins_with_look;
 use std::alloc::Global;
 use std::sync::atomic::{AtomicBool, AtomicU64, Ordering};
 use std::sync::{MutexGuard, RwLock, RwLockReadGuard, RwLockWriteGuard, Wait};
@@ -46,7 +46,8 @@ pub trait Alarm<V> {
     fn pool_failed(&self, cause: Self::Cause);
 }
 
-/// A hub behind a lock, which one ask has alone, or READs share, and an alarm of its pool. No lock is poisoned, and taking it does not fail.
+/// A hub behind a lock, which one ask has alone, or READs share, and an alarm of its pool. No lock is poisoned, and taking it does not fail. What is said here of
+/// READs holds of BLOCK_STATUSes too.
 ///
 /// Who wants the hub alone has its turn first, one behind another: READs come between two of them, and go on while the one whose turn it is waits for the
 /// device.
@@ -150,6 +151,13 @@ impl<'a, V: Staged, A: Alarm<V>, K: Start<V>> HubLock<'a, V, A, K> {
         seats_of(&hub)
     }
 
+    /// Whether a session's WRITEs with FUA are kept apart.
+    fn keeps_apart<R: Wait>(&self, rt: &R, number: u8) -> bool
+        requires { number < 64 }
+    {
+        self.shared(rt).keeps_apart(number)
+    }
+
     /// Lets READs that wait go first, as long as it takes to wake them.
     fn let_reads_go(&self) {
         let mut waiting = self.order.patience().begin();
@@ -227,10 +235,10 @@ impl<'a, V: Staged, A: Alarm<V>, K: Start<V>> HubLock<'a, V, A, K> {
 /// What asks a hub behind a lock, which is taken for one ask and let go before the answers are written. Of a piece that begins with a request at most the first
 /// 16 are asked at once, so that others have the hub between them and the next. A long request is asked part by part.
 ///
-/// READs share the lock: while nobody has it alone, any number of them are made at once, each over the same hub, which none of them changes. One that finds
-/// a metadata block neither changed nor held in memory, or whose disk fails, is asked again with the lock alone, as every other event is.
+/// READs and BLOCK_STATUSes share the lock: while nobody has it alone, any number of them are made at once, each over the same hub, which none of them changes.
+/// One that finds a metadata block neither changed nor held in memory, or whose disk fails, is asked again with the lock alone, as every other event is.
 ///
-/// Behind an ask alone that leaves the pool failed the alarm sounds, if it has not. Shared READs fail no pool.
+/// Behind an ask alone that leaves the pool failed the alarm sounds, if it has not. What is shared fails no pool.
 ///
 /// Others ask the same hub in between, so an ask is known here to be a run of some sessions over some pool, and not of which. That it is one of those by
 /// which the hub behind the lock came of the one that was put there the lock knows; which of them, no clause says.
@@ -259,6 +267,8 @@ struct Seen {
     is_failed: bool,
     /// Parts of a request of its session are left.
     is_at_work: bool,
+    /// Nothing but a FLUSH is left of it.
+    is_to_flush: bool,
 }
 
 /// Whether a session has parts of a request left behind an event that brings bytes.
@@ -268,6 +278,16 @@ fn has_work<V: Volumes, K: Start<V>>(hub: &Since<V, K>, hearer: Option<u8>) -> b
     match hearer {
         None => false,
         Some(number) => hub.is_at_work(number),
+    }
+}
+
+/// Whether nothing but a FLUSH is left of a request of that session.
+fn has_flush<V: Volumes, K: Start<V>>(hub: &Since<V, K>, hearer: Option<u8>) -> bool
+    requires { IfSome hearer (λ number. number < 64) }
+{
+    match hearer {
+        None => false,
+        Some(number) => hub.is_to_flush(number),
     }
 }
 
@@ -299,6 +319,7 @@ fn ask_and_look<V: Managed, K: Start<V>>(
         ran,
         is_failed: hub.mode() == Mode::Failed,
         is_at_work: has_work(hub, hearer),
+        is_to_flush: has_flush(hub, hearer),
     }
 }
 
@@ -334,18 +355,45 @@ fn purpose_of(event: &Event<'_>) -> Purpose {
     }
 }
 
-/// Asks a hub behind a lock alone. What was written before is kept already where the event is to keep it. The alarm sounds when the lock is let go.
-fn ask_alone<R: Wait, V: Managed + Staged, A: Alarm<V>, K: Start<V>>(
+/// The same of a piece of a session. A WRITE with FUA that is kept apart is made first, as any other, and the FLUSH that is left of it keeps it then.
+fn purpose_of_piece<R: Wait, V: Staged, A: Alarm<V>, K: Start<V>>(
+    rt: &R,
+    hub: &HubLock<'_, V, A, K>,
+    number: u8,
+    piece: &[u8],
+) -> Purpose
+    requires { number < 64 }
+{
+    if !is_to_keep(piece) {
+        return Purpose::Change;
+    }
+    if is_write(piece) && hub.keeps_apart(rt, number) {
+        return Purpose::Change;
+    }
+    Purpose::Keep
+}
+
+/// And of what is made next of a request of which parts are left.
+fn purpose_behind(seen: &Seen) -> Purpose {
+    if seen.is_to_flush {
+        Purpose::Keep
+    } else {
+        Purpose::Change
+    }
+}
+
+/// Asks a hub behind a lock alone, for this. What was written before is kept already where that is to keep it. The alarm sounds when the lock is let go.
+fn ask_for<R: Wait, V: Managed + Staged, A: Alarm<V>, K: Start<V>>(
     rt: &R,
     alloc: Global,
     hub: &HubLock<'_, V, A, K>,
+    purpose: Purpose,
     event: Event<'_>,
     out: &mut Answers,
 ) -> Seen
     requires { session_of event < 64 }
     ensures { IsAsked (λ took answers. SomeRun V.view took answers) (incoming event.entry) result.ran.events result.ran.bytes out.old out.new }
 {
-    let purpose = purpose_of(&event);
     let turn = hub.order.turn(rt, purpose);
     let device = hub.order.begin(rt, purpose, &turn);
     let mut guard = hub.alone_for(rt, device.is_some(), &turn);
@@ -358,7 +406,22 @@ fn ask_alone<R: Wait, V: Managed + Staged, A: Alarm<V>, K: Start<V>>(
     seen
 }
 
-/// Asks a hub for the READs with which an event begins, while others may do the same. None where it has to be asked alone.
+/// Asks a hub behind a lock alone, for what the event tells by its text.
+fn ask_alone<R: Wait, V: Managed + Staged, A: Alarm<V>, K: Start<V>>(
+    rt: &R,
+    alloc: Global,
+    hub: &HubLock<'_, V, A, K>,
+    event: Event<'_>,
+    out: &mut Answers,
+) -> Seen
+    requires { session_of event < 64 }
+    ensures { IsAsked (λ took answers. SomeRun V.view took answers) (incoming event.entry) result.ran.events result.ran.bytes out.old out.new }
+{
+    let purpose = purpose_of(&event);
+    ask_for(rt, alloc, hub, purpose, event, out)
+}
+
+/// Asks a hub for the READs and BLOCK_STATUSes with which an event begins, while others may do the same. None where it has to be asked alone.
 fn ask_beside_others<V: Staged, K: Start<V>>(
     hub: &Guarded<V, K>,
     event: &Event<'_>,
@@ -374,17 +437,17 @@ fn ask_beside_others<V: Staged, K: Start<V>>(
     }
 }
 
-/// Whether an event begins with a READ, by its bytes alone.
-fn is_read(event: &Event<'_>) -> bool
-    ensures { MatchBool result (IsRead (incoming event.now)) (IsRead (incoming event.now) → ⊥) }
+/// Whether an event begins with a READ or a BLOCK_STATUS, by its bytes alone.
+fn is_look(event: &Event<'_>) -> bool
+    ensures { MatchBool result (IsLook (incoming event.now)) (IsLook (incoming event.now) → ⊥) }
 {
     match *event {
-        Event::Bytes(_, piece) | Event::Parted(_, piece) => begins_with_read(piece),
+        Event::Bytes(_, piece) | Event::Parted(_, piece) => begins_with_look(piece),
         _ => false,
     }
 }
 
-/// The same of a hub behind a lock, which is shared for the time of the ask, and is not taken where the event begins with no READ.
+/// The same of a hub behind a lock, which is shared for the time of the ask, and is not taken where the event begins with none of both.
 fn ask_shared<R: Wait, V: Staged, A: Alarm<V>, K: Start<V>>(
     rt: &R,
     hub: &HubLock<'_, V, A, K>,
@@ -395,36 +458,38 @@ fn ask_shared<R: Wait, V: Staged, A: Alarm<V>, K: Start<V>>(
     ensures asked { IfSome result (λ ran. IsAsked (λ took answers. SomeRuns V.view took answers) (incoming event.now) ran.events ran.bytes out.old out.new) }
     ensures none { result ≡ None → IsWider out.old out.new }
 {
-    if !is_read(event) {
+    if !is_look(event) {
         return None;
     }
     let hub = hub.shared(rt);
     ask_beside_others(&hub, event, out)
 }
 
-/// Makes the parts of a long request of a session, where any are left, each in an ask of its own, so that others have the hub between two.
+/// Makes the parts that are left of a request of a session, where any are, each in an ask of its own, so that others have the hub between two. Before a FLUSH
+/// that is left of one the hub makes its own, while READs go on.
 fn make_parts<R: Wait, V: Managed + Staged, A: Alarm<V>, K: Start<V>>(
     rt: &R,
     alloc: Global,
     hub: &HubLock<'_, V, A, K>,
     number: u8,
-    is_at_work: bool,
+    seen: Seen,
     out: &mut Answers,
 )
     requires { number < 64 }
     ensures { MakesParts V.view number out.old out.new }
 {
-    let mut is_at_work = is_at_work;
+    let mut left = seen;
     for part in 0..MOST_PARTS {
-        if !is_at_work {
+        if !left.is_at_work {
             return;
         }
-        is_at_work = ask_alone(rt, alloc, hub, Event::Parted(number, &[]), out).is_at_work;
+        let purpose = purpose_behind(&left);
+        left = ask_for(rt, alloc, hub, purpose, Event::Parted(number, &[]), out);
     }
     ask_alone(rt, alloc, hub, Event::Bytes(number, &[]), out);
 }
 
-/// Asks the requests of a piece up to a long one, and then for its parts.
+/// Asks the requests of a piece up to one of which parts are left, and then for these.
 fn ask_parts<R: Wait, V: Managed + Staged, A: Alarm<V>, K: Start<V>>(
     rt: &R,
     alloc: Global,
@@ -436,12 +501,13 @@ fn ask_parts<R: Wait, V: Managed + Staged, A: Alarm<V>, K: Start<V>>(
     requires { number < 64 }
     ensures { IsAsked (λ took answers. SomeRuns V.view took answers) (Brings number piece.now) result.events result.bytes out.old out.new }
 {
-    let seen = ask_alone(rt, alloc, hub, Event::Parted(number, piece), out);
+    let purpose = purpose_of_piece(rt, hub, number, piece);
+    let seen = ask_for(rt, alloc, hub, purpose, Event::Parted(number, piece), out);
     let ran = seen.ran;
     if ran.events == 0 && ran.bytes == 0 {
         return ran;
     }
-    make_parts(rt, alloc, hub, number, seen.is_at_work, out);
+    make_parts(rt, alloc, hub, number, seen, out);
     ran
 }
 

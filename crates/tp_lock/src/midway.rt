@@ -12,7 +12,7 @@ use std::mem;
 use tp_hub::{Answers, Hub, MidHub, Ran, Seat};
 use tp_model::{Flushing, Staged};
 
-/// A hub in the middle of a flush that nobody asked for. The one that it is for READs came of such a start.
+/// A hub in the middle of a flush that nobody asked for. The one that it is for READs and BLOCK_STATUSes came of such a start.
 #[derive(Drop)]
 pub(crate) struct MidSince<V: Staged, K: Start<V>> {
     mid: MidHub<V>,
@@ -145,7 +145,7 @@ impl<V: Staged, K: Start<V>> MidSince<V, K> {
         Since::of(hub)
     }
 
-    /// Asks it for the READs with which a piece begins, beside others. None where it has to be asked alone.
+    /// Asks it for the READs and BLOCK_STATUSes with which a piece begins, beside others. None where it has to be asked alone.
     fn ask_shared(&self, number: u8, piece: &[u8], out: &mut Answers) -> Option<Ran>
         requires { number < 64 }
         ensures asked { IfSome result (λ ran. IsAsked (λ took answers. HubRuns V.view self.now took answers self.now) (Brings number piece.now) ran.events ran.bytes out.old out.new) }
@@ -160,6 +160,13 @@ impl<V: Staged, K: Start<V>> MidSince<V, K> {
         ensures { result ≡ seat_at self.now.slots number }
     {
         self.mid.seat(number)
+    }
+
+    /// Whether a session's WRITEs with FUA are kept apart.
+    fn keeps_apart(&self, number: u8) -> bool
+        requires { number < 64 }
+    {
+        self.mid.keeps_apart(number)
     }
 
     /// Brings to the device what parts so far wrote.
@@ -235,7 +242,7 @@ impl<V: Staged, K: Start<V>> Guarded<V, K> {
         put(&mut self.stage, Stage::Whole(since));
     }
 
-    /// Asks it for the READs with which a piece begins, beside others, also between two parts of a flush. None where it has to be asked alone.
+    /// Asks it for the READs and BLOCK_STATUSes with which a piece begins, beside others, also between two parts of a flush. None where it has to be asked alone.
     pub(crate) fn ask_shared(&self, number: u8, piece: &[u8], out: &mut Answers) -> Option<Ran>
         requires { number < 64 }
         ensures asked { IfSome result (λ ran. IsAsked (λ took answers. SomeRun V.view took answers) (Brings number piece.now) ran.events ran.bytes out.old out.new) }
@@ -256,6 +263,17 @@ impl<V: Staged, K: Start<V>> Guarded<V, K> {
         match &self.stage {
             Stage::Whole(since) => since.seat(number),
             Stage::Midway(mid) => mid.seat(number),
+            Stage::Away => unreachable!(),
+        }
+    }
+
+    /// Whether a session's WRITEs with FUA are kept apart.
+    pub(crate) fn keeps_apart(&self, number: u8) -> bool
+        requires { number < 64 }
+    {
+        match &self.stage {
+            Stage::Whole(since) => since.keeps_apart(number),
+            Stage::Midway(mid) => mid.keeps_apart(number),
             Stage::Away => unreachable!(),
         }
     }

@@ -85,6 +85,20 @@ impl<V: Volumes, K: Start<V>> Since<V, K> {
         self.hub.is_at_work(number)
     }
 
+    /// Whether nothing but a FLUSH is left of a session's request.
+    pub(crate) fn is_to_flush(&self, number: u8) -> bool
+        requires { number < 64 }
+    {
+        self.hub.is_to_flush(number)
+    }
+
+    /// Whether a session's WRITEs with FUA are kept apart.
+    pub(crate) fn keeps_apart(&self, number: u8) -> bool
+        requires { number < 64 }
+    {
+        self.hub.keeps_apart(number)
+    }
+
     /// The mode of its pool.
     pub(crate) fn mode(&self) -> Mode
         ensures { result ≡ (V.view.outline self.now.pool).mode }
@@ -130,7 +144,7 @@ impl<V: SharedVolumes, K: Start<V>> Since<V, K> {
     ghost use Rattle.tp_hub.specs.Places.{IsWider};
     ghost use Rattle.tp_hub.specs.Serve.{HubRuns};
 
-    /// Asks it for the READs with which a piece begins, beside others. None where it has to be asked alone.
+    /// Asks it for the READs and BLOCK_STATUSes with which a piece begins, beside others. None where it has to be asked alone.
     pub(crate) fn ask_shared(&self, number: u8, piece: &[u8], out: &mut Answers) -> Option<Ran>
         requires { number < 64 }
         ensures asked { IfSome result (λ ran. IsAsked (λ took answers. HubRuns V.view self.now took answers self.now) (Brings number piece.now) ran.events ran.bytes out.old out.new) }

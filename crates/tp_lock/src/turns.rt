@@ -31,6 +31,11 @@ pub(crate) fn is_to_keep(request: &[u8]) -> bool
     byte_at(request, 5) % 2 == 1 || (byte_at(request, 6) == 0 && byte_at(request, 7) == 3)
 }
 
+/// Whether a request is a WRITE, by its type.
+pub(crate) fn is_write(request: &[u8]) -> bool {
+    byte_at(request, 6) == 0 && byte_at(request, 7) == 1
+}
+
 /// How many bytes stand at the front of those behind a turn so far that belong to it too. A request that keeps what was written begins a turn, so that what
 /// was written before is brought to the device before it has the hub.
 fn more_len(at: usize, rest: &[u8]) -> usize

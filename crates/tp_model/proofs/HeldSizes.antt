@@ -70,10 +70,10 @@ let_go_copies p q volumes found i held =
 
 -- ---- what the tests say
 
-none_holds : (p : PlainPool) (id : ℕ) → hold_count p.holds id ≡ 0 → IsFree p id
+pub none_holds : (p : PlainPool) (id : ℕ) → hold_count p.holds id ≡ 0 → IsFree p id
 none_holds p id none i held same = omega (arith, held, none, ap (hold_count p.holds) same)
 
-not_there : (p : PlainPool) (id : ℕ) → FindsHeld p → exists p id ≡ false → IsFree p id
+pub not_there : (p : PlainPool) (id : ℕ) → FindsHeld p → exists p id ≡ false → IsFree p id
 not_there p id found none i held same = true≢false (sym (found i held) ∙ (ap (exists p) same ∙ none))
 
 third_passes : {A : Type 0} (a b c : Bool) (x y z : A) (tests : List (Bool × A)) → first_failed ((a, x) ∷ (b, y) ∷ (c, z) ∷ tests) ≡ None → c ≡ false
@@ -82,17 +82,17 @@ third_passes false true c x y z tests h = absurd (none-some y (sym h))
 third_passes false false true x y z tests h = absurd (none-some z (sym h))
 third_passes false false false x y z tests h = refl
 
-new_thin : (p : PlainPool) (id : ℕ) → refusal_of p (CreateThin id) ≡ None → exists p id ≡ false
+pub new_thin : (p : PlainPool) (id : ℕ) → refusal_of p (CreateThin id) ≡ None → exists p id ≡ false
 new_thin p id none =
     third_passes (is_failed p.mode) (is_read_only p.mode) (exists p id) Failed ReadOnly Exists
     ((nat_le 65536 (device_count p), TooManyDevices) ∷ (not (has_metadata_room p 512), NoMetadataSpace) ∷ []) none
 
-new_snap : (p : PlainPool) (id origin : ℕ) → refusal_of p (CreateSnap id origin) ≡ None → exists p id ≡ false
+pub new_snap : (p : PlainPool) (id origin : ℕ) → refusal_of p (CreateSnap id origin) ≡ None → exists p id ≡ false
 new_snap p id origin none =
     fourth_passes (is_failed p.mode) (is_read_only p.mode) (not (exists p origin)) (exists p id) Failed ReadOnly NoSuchDevice Exists
     ((nat_le 65536 (device_count p), TooManyDevices) ∷ (not (has_metadata_room p 512), NoMetadataSpace) ∷ []) none
 
-not_busy : (p : PlainPool) (id blocks : ℕ) → refusal_of p (Grow id blocks) ≡ None → hold_count p.holds id ≡ 0
+pub not_busy : (p : PlainPool) (id blocks : ℕ) → refusal_of p (Grow id blocks) ≡ None → hold_count p.holds id ≡ 0
 not_busy p id blocks none =
     let free = fourth_passes (is_failed p.mode) (is_read_only p.mode) (not (exists p id)) (nat_lt 0 (hold_count p.holds id)) Failed ReadOnly NoSuchDevice Busy
     ((nat_lt blocks (volume_blocks p id) || nat_lt 16777216 blocks, BadSize) ∷ (not (has_metadata_room p 512), NoMetadataSpace) ∷ []) none in

@@ -1,6 +1,7 @@
 mod Answerable
 pub mod PoolStopLaws
 pub mod Running
+pub mod Unkept
 pub mod Maps
 pub mod Sharing
 pub mod Editing

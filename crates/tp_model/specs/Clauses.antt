@@ -1,11 +1,11 @@
 -- Trusted reading: the clauses of a pool's contract: that a call is the plain pool's, and what a stop leaves, in it and after it. And the traced plain
 -- pool, on which answers, faults and stops stand together (own).
-use Rattle.std.specs.Prelude.{◌≡◌, ℕ, ◌+◌, ◌*◌, ◌^◌, ◌<◌, ◌≤◌, false, Some, List, [], ◌∷◌, ◌++◌, map, ◌⊎◌, Bool, IsSome, IsTrue, if◌then◌else◌}
+use Rattle.std.specs.Prelude.{◌≡◌, ℕ, ◌+◌, ◌*◌, ◌^◌, ◌<◌, ◌≤◌, false, None, Some, List, [], ◌∷◌, ◌++◌, map, ◌⊎◌, Bool, IsSome, IsTrue, if◌then◌else◌}
 use Rattle.tp_model.specs.Pool.{IsConsistent, PlainPool, Outline, hold_count, outline_of, volume_size}
-use Rattle.tp_model.specs.Calls.{Call, Answer, VolumeBlocks, Sized, Takes, HasCause, holds_after, is_failed, MayAnswer, Done, changes_nothing, commits, has_committed, is_flush, is_silent, is_writing, mode_after, most_flushes, refusal_of}
+use Rattle.tp_model.specs.Calls.{Call, Answer, VolumeBlocks, Sized, Makes, Takes, HasCause, holds_after, is_failed, MayAnswer, Done, changes_nothing, commits, has_committed, is_flush, is_silent, is_writing, may_reclaim, mode_after, most_flushes, refusal_of}
 use Rattle.tp_model.specs.declared.mode.Mode.TheVariants.{Writable}
 use Rattle.tp_model.specs.Geometry.{sectors_of_volume}
-use Rattle.tp_model.specs.PoolStops.{Event, Nothing, MayBeLeft, MayBeLeftSince, MayReopen, StopsWithin, reopened}
+use Rattle.tp_model.specs.PoolStops.{During, Event, Nothing, MayBeLeft, MayBeLeftSince, MayReopen, StopsWithin, reopened}
 
 -- ---- the traced plain pool
 
@@ -167,6 +167,22 @@ module _ {D : Type 0} (v : View D) where
   -- as a relation of the pool before and the pool after
   abbrev pub PoolCall : D → Call → Answer → D → Type 0
   PoolCall old call answer new = Meets old new call answer
+
+  -- A call that ends in a commit, made of a pool that works but for that: no test refused it, it is not answered yet, and a FLUSH is what is left of it. No call of the
+  -- disk failed, and none was a flush, but for a commit that frees blocks before the call. A stop leaves it or not.
+  pub record Unkept (old new : D) (call : Call) : Type 0 where
+    pub works : (v.outline old).mode ≡ Writable
+    pub outline : v.outline new ≡ v.outline old
+    pub more : (id : ℕ) → 0 < hold_count (v.outline old).holds id → v.more new id ≡ v.more old id
+    pub failures : v.failures new ≡ v.failures old
+    pub no_fewer : v.flushes old ≤ v.flushes new
+    pub most : v.flushes new ≤ v.flushes old + (if may_reclaim call then 2 else 0)
+    pub few : (s : PlainPool) → v.shows old s → (v.lacks old call → ⊥) → v.flushes new ≡ v.flushes old
+    pub time : GoesOn old new
+    pub opens : (s : PlainPool) → v.shows old s → OpensSince new (v.moment old)
+    pub meets : (s : PlainPool) → v.shows old s →
+        (made : PlainPool) × (refusal_of s call ≡ None) × Makes s call made × v.shows new made
+        × ((P : PlainPool) → found_since new (v.moment old) P → During (found_now old) (record { before = s; call = call; answer = Done; made = made }) P)
 
 -- ---- a pool and the traced plain pool
 

@@ -1,14 +1,14 @@
 //! Laws of the definitions, each the contract of a function that does nothing.
-ghost use Rattle.std.specs.Prelude.{◌≡◌, ◌≢◌, ◌⊎◌, ◌/◌, ◌<◌, ◌≤◌, ◌++◌, ◌∷◌, [], ℕ, Bool, true, List, IsSome, Some, length, slice_get, IsTrue, MatchOption};
+ghost use Rattle.std.specs.Prelude.{◌≡◌, ◌≢◌, ◌⊎◌, ◌/◌, ◌<◌, ◌≤◌, ◌++◌, ◌∷◌, [], ℕ, Bool, false, true, List, IsSome, Some, length, slice_get, IsTrue, MatchOption};
 ghost use Rattle.std.specs.Ordering.{nat_cmp};
 ghost use Rattle.std.specs.FinMap.{entries, find, get, is_sorted};
 ghost use Rattle.tp_model.specs.Sectors.{Sector};
 ghost use Rattle.tp_model.specs.Disk.{DiskState, Writes, after_read, after_flush};
 ghost use Rattle.tp_model.specs.DiskStops.{Leaves, LeavesOnly, PartlyOverlaid, StoppedSince, moment as moment_of};
 ghost use Rattle.tp_model.specs.Pool.{FindsHeld, IsExclusive, IsLawful, IsRenamed, IsShared, IsSound, PlainPool, copy_id, hold_count, slot_at, volume_sector, volume_size, volume_slots};
-ghost use Rattle.tp_model.specs.Calls.{Answer, Call, IsAllowed, Makes, Refused, ReleaseMetadataSnap, ReserveMetadataSnap, Step, Takes, volume_asked, IsOneOf, may_accept, piece_from, refusal_of, refusals};
+ghost use Rattle.tp_model.specs.Calls.{Answer, Call, Done, Flush, Gave, IsAllowed, Makes, Read, Refused, ReleaseMetadataSnap, ReserveMetadataSnap, Step, Takes, Write, ends_in_commit, is_flush, is_message, volume_asked, IsOneOf, may_accept, piece_from, refusal_of, refusals};
 ghost use Rattle.tp_model.specs.PoolStops.{Event, GivenBy, GivenIn, MayBeLeftSince, MayReopen, Nothing, keeps, reopened};
-ghost use Rattle.tp_model.specs.Clauses.{AreCalls, AreTraced, Asked, Called, Continues, HasTrace, OpensSince, Traced, found_now, traced, PoolCall};
+ghost use Rattle.tp_model.specs.Clauses.{AreCalls, AreTraced, Asked, Called, Continues, HasTrace, Meets, OpensSince, Traced, Unkept, found_now, traced, PoolCall};
 
 use crate::mode::Mode;
 use crate::refusal::Refusal;
@@ -168,4 +168,22 @@ pub fn calls_are_traced<V: Volumes>()
 pub fn kept_answers_are_found()
     ensures { (start : PlainPool) (first : List Event) (e : Event) (P : PlainPool) → keeps e.call e.answer ≡ true
         → MayBeLeftSince (λ S. ⊥) start (first ++ e ∷ []) [] P → P ≡ reopened e.made }
+{}
+
+/// A call that ends in a commit, made but for that, and the FLUSH right behind it, are together that call, answered as the FLUSH is: what is made, the cause of a fault,
+/// how often the disk is flushed, and what a stop leaves, in the two and after them.
+pub fn unkept_calls_are_flushed<V: Volumes>()
+    ensures done { (old mid new : V) (call : Call) → ends_in_commit call ≡ true → is_flush call ≡ false → Unkept V.view old mid call
+        → Meets V.view mid new Flush Done → Meets V.view old new call Done }
+    ensures refused { (old mid new : V) (call : Call) (reason : Refusal) → ends_in_commit call ≡ true → is_flush call ≡ false → Unkept V.view old mid call
+        → Meets V.view mid new Flush (Refused reason) → Meets V.view old new call (Refused reason) }
+
+    // A WRITE that was done is one with FUA, made but for its commit. That FUA makes no difference to which blocks a WRITE wants is for a pool to say.
+    ensures writes { (old mid : V) (id sector : ℕ) (sectors : List Sector)
+        → (V.view.lacks old (Write id sector sectors false) → V.view.lacks old (Write id sector sectors true))
+        → Meets V.view old mid (Write id sector sectors false) Done → Unkept V.view old mid (Write id sector sectors true) }
+
+    // A READ of a volume that is held, of what a message has made, is one of the pool before the message.
+    ensures reads { (old mid : V) (call : Call) (id sector count : ℕ) (sectors : List Sector) → is_message call ≡ true → 0 < hold_count (V.view.outline old).holds id
+        → Unkept V.view old mid call → Meets V.view mid mid (Read id sector count) (Gave sectors) → Meets V.view old old (Read id sector count) (Gave sectors) }
 {}

@@ -17,7 +17,8 @@ pub use laws::{
     Claim, calls_are_determined, calls_are_lawful, calls_are_possible, calls_are_traced,
     equal_slots_have_equal_sectors, held_sizes_stay, held_volumes_stay, kept_answers_are_found,
     kept_state_is_found, mapped_blocks_are_exclusive_or_shared, moments_of_a_disk,
-    requests_find_their_volume, stops_are_lawful, tests_may_be_answered, walks_are_exact,
+    requests_find_their_volume, stops_are_lawful, tests_may_be_answered, unkept_calls_are_flushed,
+    walks_are_exact,
 };
 pub use mode::Mode;
 pub use numbers::{DevId, Mb, Pb, Vb};

@@ -2,15 +2,17 @@
 ghost use Rattle.std.specs.Prelude.{◌≡◌, ◌/◌, ◌%◌, ◌+◌, ◌<◌, ◌≤◌, ℕ, false, length, IfOk, IsTrue, MatchResult, Some};
 ghost use Rattle.tp_model.specs.Sectors.{sectors_of};
 ghost use Rattle.tp_model.specs.Pool.{Outline, PlainPool, hold_count, hold_total, outline_of, volume_size};
-ghost use Rattle.tp_model.specs.Calls.{Done, Flush, Found, Gave, Hold, LetGo, NextId, Read, Refused, Sized, Trim, VolumeBlocks, Write, WriteZeroes, is_failed};
+ghost use Rattle.tp_model.specs.Calls.{Done, Flush, Found, Gave, Hold, LetGo, Listed, NextId, Read, Refused, Sized, Trim, VolumeBlocks, Walk, Write, WriteZeroes, is_failed};
 ghost use Rattle.tp_model.specs.PoolStops.{reopened};
 ghost use Rattle.tp_model.specs.Clauses.{EndsInVolume, Meets, View, ViewLaws};
 ghost use Rattle.tp_model.specs.Flushing.{IsFlushed, IsFlushing};
+ghost use Rattle.tp_model.specs.Slots.{listed};
 
 use crate::geometry::Geometry;
 use crate::mode::Mode;
-use crate::numbers::DevId;
+use crate::numbers::{DevId, Vb};
 use crate::refusal::Refusal;
+use crate::slots::Slots;
 
 /// The calls of a pool by which its volumes are served. Sectors are of 512 bytes.
 pub trait Volumes {
@@ -106,7 +108,7 @@ pub trait Volumes {
     ghost laws: { ViewLaws view };
 }
 
-/// Volumes that many may read at once, while nothing else is done to the pool.
+/// Volumes at which many may look at once, while nothing else is done to the pool.
 pub trait SharedVolumes: Volumes {
     /// Reads at most 2048 sectors of a volume: true where `out` has what `read` would give. False says nothing of the pool, and no call of it was made:
     /// `read` is to be asked then. `out` may hold anything behind it. The range lies in the volume.
@@ -116,15 +118,24 @@ pub trait SharedVolumes: Volumes {
         requires most { length out.old / 512 ≤ 2048 }
         ensures { IsTrue result → Meets Self.view self.now self.now (Read id sector (length out.old / 512)) (Gave (sectors_of out.new)) };
 
+    /// Lists slots of a volume with blocks from `from` on: true where `slots` has what `Walked::walk` would list. False says nothing of the pool, and no call of it was
+    /// made: `walk` is to be asked then. `slots` may hold anything behind it.
+    fn walk_shared(&self, id: DevId, from: Vb, slots: &mut Slots) -> bool
+        ensures { IsTrue result → Meets Self.view self.now self.now (Walk id from) (Listed (listed slots.new.items)) };
+
     /// Brings to the device what calls so far wrote to the disk, while others read, so that a flush behind it has less to wait for. It is no flush: nothing
     /// is promised of it, and what fails of it the next flush tells.
     fn sync_ahead(&self);
 }
 
-/// What READs are made of while nothing else is done: volumes, or such in the middle of a flush.
+/// What those look at who change nothing, while nothing else is done: volumes, or such in the middle of a flush.
 pub trait SharedReads<V: Volumes> {
-    /// The volumes whose reads these are.
+    /// The volumes at which they look.
     ghost of: { Self → V };
+
+    /// The sizes of the pool that these volumes are of.
+    fn geometry_beside(&self) -> Geometry
+        ensures { result ≡ (V.view.outline (of self.now)).geometry };
 
     /// Reads at most 2048 sectors of a volume, as `SharedVolumes::read_shared` of those volumes: true where `out` has what `read` would give. False says
     /// nothing of the pool, and no call of it was made. `out` may hold anything behind it. The range lies in the volume.
@@ -134,6 +145,11 @@ pub trait SharedReads<V: Volumes> {
         requires most { length out.old / 512 ≤ 2048 }
         ensures { IsTrue result → Meets V.view (of self.now) (of self.now) (Read id sector (length out.old / 512)) (Gave (sectors_of out.new)) };
 
+    /// Lists slots of a volume, as `SharedVolumes::walk_shared` of those volumes: true where `slots` has what `Walked::walk` would list. False says nothing of the pool, and no
+    /// call of it was made. `slots` may hold anything behind it.
+    fn walk_beside(&self, id: DevId, from: Vb, slots: &mut Slots) -> bool
+        ensures { IsTrue result → Meets V.view (of self.now) (of self.now) (Walk id from) (Listed (listed slots.new.items)) };
+
     /// Brings to the device what was written to the disk so far, while others read. It is no flush, and what fails of it the next flush tells.
     fn sync_beside(&self);
 }
@@ -141,8 +157,16 @@ pub trait SharedReads<V: Volumes> {
 impl<V: SharedVolumes> SharedReads<V> for V {
     ghost of = { λ v. v };
 
+    fn geometry_beside(&self) -> Geometry {
+        self.geometry()
+    }
+
     fn read_beside(&self, id: DevId, sector: u64, out: &mut [u8]) -> bool {
         self.read_shared(id, sector, out)
+    }
+
+    fn walk_beside(&self, id: DevId, from: Vb, slots: &mut Slots) -> bool {
+        self.walk_shared(id, from, slots)
     }
 
     fn sync_beside(&self) {
@@ -159,7 +183,7 @@ pub enum Flushing<V, M> {
     Midway(M),
 }
 
-/// Volumes of which a flush can be made in parts, between which READs go on.
+/// Volumes of which a flush can be made in parts, between which others look at them.
 pub trait Staged: SharedVolumes + Sized {
     /// Such volumes in the middle of a flush.
     type Midway: SharedReads<Self>;

@@ -74,6 +74,10 @@ impl<D: SharedDisk, M: Metadata> SharedVolumes for Pool<D, M> {
         self.read_shared(id, sector, out)
     }
 
+    fn walk_shared(&self, id: DevId, from: Vb, slots: &mut Slots) -> bool {
+        self.walk_shared(id, from, slots)
+    }
+
     fn sync_ahead(&self) {
         self.sync_ahead();
     }

@@ -5,6 +5,7 @@ ghost use Rattle.std.specs.FinMap.{empty};
 ghost use Rattle.tp_lock.specs.Locked.{CameOf};
 ghost use Rattle.tp_disk.specs.HandedOut.{IsHandedOut};
 ghost use Rattle.tp_holders.specs.Holders.{holds_of};
+ghost use Rattle.tp_served.specs.Served.{cached};
 ghost use Rattle.tp_failures.specs.Failures.{number_of};
 ghost use Rattle.tp_commands.specs.Serving.{ServesImage, ServesOn, told_of_clients};
 ghost use Rattle.tp_program.specs.Living.{ServesPool};
@@ -23,9 +24,8 @@ use tp_disk::{SharedDisk, TellsTrouble};
 use tp_failures::{Cause, Failure};
 use tp_hub::Hub;
 use tp_images::Images;
-use tp_meta::Meta;
-use tp_model::{Refusal, Staged};
-use tp_msg::Managed;
+use tp_meta::{Meta, Metadata};
+use tp_model::Refusal;
 use tp_served::Served;
 
 /// Where clients come, and where those come who send control lines.
@@ -76,21 +76,21 @@ fn refused_after(came: u8, wanted: u8, refused: u64) -> Result<(), Failure>
 }
 
 /// Serves so many clients of a listener over a hub, and beside them answers control lines where there is a listener for them. The first listener is closed behind
-/// the last client that comes, the second one when all are gone.
-fn serve_hub<R, V, A>(
+/// the last client that comes, the second one when all are gone. It is generic in the disk and the metadata, so that the prover compares no pool that is written out.
+fn serve_hub<R, D, M, A>(
     rt: &R,
     alloc: Global,
-    hub: Hub<V>,
+    hub: Hub<Served<D, M>>,
     listeners: Listeners,
     count: u8,
     alarm: &A,
-) -> tp_crowd::Served<V>
+) -> tp_crowd::Served<Served<D, M>>
 where
     R: Threads + Wait + Clock + Sync,
-    V: Managed + Staged + Send + Sync,
-    V::Midway: Send + Sync,
-    A: Alarm<V> + Sync,
-    ensures asked { CameOf V.view hub result.hub }
+    D: SharedDisk + Drop + Send + Sync,
+    M: Metadata + Drop + Send + Sync,
+    A: Alarm<Served<D, M>> + Sync,
+    ensures asked { CameOf (cached M.geometry M.stands M.marks M.room M.changed) hub result.hub }
     ensures offered { result.came ≤ count }
     ensures refused { result.refused ≤ result.came }
 {

@@ -5,6 +5,8 @@ ghost use Rattle.std.specs.FinMap.{empty};
 ghost use Rattle.nbd_session.specs.Session.{default_of, is_extended};
 ghost use Rattle.tp_disk.specs.HandedOut.{IsHandedOut};
 ghost use Rattle.tp_holders.specs.Holders.{holds_of};
+ghost use Rattle.tp_lock.specs.Locked.{CameOf};
+ghost use Rattle.tp_served.specs.Served.{cached};
 ghost use Rattle.tp_failures.specs.Failures.{number_of};
 ghost use Rattle.tp_program.specs.Living.{StaysPool};
 ghost use Rattle.tp_program.specs.Staying.{IsNoDoor, StaysImage, StaysOn, default_for, told_of_place, told_of_threads};
@@ -23,12 +25,12 @@ use std::time::Clock;
 use tp_cache::ReadCache;
 use tp_commands::closing::{behind, end_hub};
 use tp_commands::opening::open_pool;
-use tp_crowd::{Door, Stayed, serve_until_stopped};
+use tp_crowd::{Chronicle, Door, Stayed, serve_until_stopped};
 use tp_disk::{SharedDisk, TellsTrouble};
 use tp_failures::{Cause, Failure};
 use tp_hub::Hub;
 use tp_images::Images;
-use tp_meta::Meta;
+use tp_meta::{Meta, Metadata};
 use tp_model::{DevId, Refusal};
 use tp_places::{NoDoor, open_door};
 use tp_served::Served;
@@ -185,6 +187,33 @@ fn profile_of(service: &Service<'_>) -> Profile
     }
 }
 
+/// Serves clients over a hub until it is told to stop. It is generic in the disk and the metadata, so that the prover compares no pool that is written out.
+fn run_hub<R, D, M, A>(
+    rt: &R,
+    alloc: Global,
+    hub: Hub<Served<D, M>>,
+    doors: &Doors,
+    profile: Profile,
+    chronicle: &A,
+) -> Stayed<Served<D, M>>
+where
+    R: Threads + Wait + Clock + Sync,
+    D: SharedDisk + Drop + Send + Sync,
+    M: Metadata + Drop + Send + Sync,
+    A: Chronicle<Served<D, M>> + Sync,
+    ensures asked { CameOf (cached M.geometry M.stands M.marks M.room M.changed) hub result.hub }
+{
+    serve_until_stopped(
+        rt,
+        alloc,
+        hub,
+        doors.clients.as_slice(),
+        doors.control.as_ref(),
+        profile,
+        chronicle,
+    )
+}
+
 /// Serves clients over a pool until it is told to stop, closes the pool, and hands its disk back. That closing is refused is told first, and then that a thread could
 /// not be made. How the clients' sessions end is no refusal, and nothing that the control side does is. That the pool fails is told when it does, and at the end closing is
 /// refused. Who said that it is to stop is let go when the pool is closed.
@@ -202,15 +231,7 @@ where
     requires { holds_of pool.besides.holders ≡ empty }
     ensures { StaysPool pool (number_of result.1) (D.state result.0) }
 {
-    let stayed = serve_until_stopped(
-        rt,
-        alloc,
-        Hub::new(pool),
-        doors.clients.as_slice(),
-        doors.control.as_ref(),
-        profile,
-        journal,
-    );
+    let stayed = run_hub(rt, alloc, Hub::new(pool), doors, profile, journal);
     let Stayed {
         hub,
         is_manned,

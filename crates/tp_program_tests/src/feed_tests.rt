@@ -551,6 +551,90 @@ fn reads_are_answered_in_chunks_where_that_is_asked_for(rt: HostRuntime) -> Resu
     take_steps(&rt, "chunks.img", IN_CHUNKS)
 }
 
+/// Reads with DF, of the first 131072 bytes, and of as many behind block 0.
+const DF_HOLE: &[u8] =
+    b"\x25\x60\x95\x13\x00\x04\x00\x00\0\0\0\0\0\0\0\x07\0\0\0\0\0\0\0\0\0\x02\0\0";
+
+const DF_MIXED: &[u8] =
+    b"\x25\x60\x95\x13\x00\x04\x00\x00\0\0\0\0\0\0\0\x08\0\0\0\0\0\x01\0\0\0\x02\0\0";
+
+/// A client that asks for structured replies, and writes a sector of the blocks 2 and 4 each. Then it reads block 0, all of the volume, block 2, less than a block of
+/// block 0, with DF two blocks that are not there, and one that is not with block 2 behind it; and block 2 with the sector before it.
+const READS_HOLES: &[Part<'static>] = &[
+    Part::Text(FLAGS),
+    Part::Text(b"IHAVEOPT\x00\x00\x00\x08\x00\x00\x00\x00"),
+    EXPORT_NAME,
+    Part::Ask(1, 1, 131_072, 512),
+    Part::Fill(0x61, 512),
+    Part::Ask(1, 2, 262_144, 512),
+    Part::Fill(0x62, 512),
+    Part::Ask(0, 3, 0, 65_536),
+    Part::Ask(0, 4, 0, 1_048_576),
+    Part::Ask(0, 5, 131_072, 65_536),
+    Part::Ask(0, 6, 512, 65_024),
+    Part::Text(DF_HOLE),
+    Part::Text(DF_MIXED),
+    Part::Ask(0, 9, 130_560, 66_048),
+];
+
+/// What is sent to the client: a hole for each run of blocks that are not there, and data for the others, each in a chunk that says where it begins, the last of which says
+/// that it is; with DF one chunk, and one for less than a block.
+const HOLES: &[Part<'static>] = &[
+    Part::Text(GREETING),
+    Part::Told(8, 1, b""),
+    Part::Text(b"\x00\x00\x00\x00\x00\x10\x00\x00\x01\xed"),
+    Part::Reply(0, 1),
+    Part::Reply(0, 2),
+    Part::Chunk(2, 3, 12),
+    Part::Text(b"\0\0\0\0\0\0\0\0\0\x01\0\0"),
+    Part::Front(2, 4, 12),
+    Part::Text(b"\0\0\0\0\0\0\0\0\0\x02\0\0"),
+    Part::Front(1, 4, 65_544),
+    Part::Text(b"\0\0\0\0\0\x02\0\0"),
+    Part::Fill(0x61, 512),
+    Part::Fill(0, 65_024),
+    Part::Front(2, 4, 12),
+    Part::Text(b"\0\0\0\0\0\x03\0\0\0\x01\0\0"),
+    Part::Front(1, 4, 65_544),
+    Part::Text(b"\0\0\0\0\0\x04\0\0"),
+    Part::Fill(0x62, 512),
+    Part::Fill(0, 65_024),
+    Part::Chunk(2, 4, 12),
+    Part::Text(b"\0\0\0\0\0\x05\0\0\0\x0b\0\0"),
+    Part::Chunk(1, 5, 65_544),
+    Part::Text(b"\0\0\0\0\0\x02\0\0"),
+    Part::Fill(0x61, 512),
+    Part::Fill(0, 65_024),
+    Part::Chunk(1, 6, 65_032),
+    Part::Text(b"\0\0\0\0\0\0\x02\0"),
+    Part::Fill(0, 65_024),
+    Part::Chunk(2, 7, 12),
+    Part::Text(b"\0\0\0\0\0\0\0\0\0\x02\0\0"),
+    Part::Chunk(1, 8, 131_080),
+    Part::Text(b"\0\0\0\0\0\x01\0\0"),
+    Part::Fill(0, 65_536),
+    Part::Fill(0x61, 512),
+    Part::Fill(0, 65_024),
+    Part::Front(2, 9, 12),
+    Part::Text(b"\0\0\0\0\0\x01\xfe\0\0\0\x02\0"),
+    Part::Chunk(1, 9, 65_544),
+    Part::Text(b"\0\0\0\0\0\x02\0\0"),
+    Part::Fill(0x61, 512),
+    Part::Fill(0, 65_024),
+];
+
+/// Such a client of a new image.
+const WITH_HOLES: &[Step] = &[
+    Step::Calls(MADE),
+    Step::Fed(EXTENDED, READS_HOLES, HOLES),
+    Step::Calls(CLEAN),
+];
+
+#[test]
+fn holes_are_told_to_who_reads_in_chunks(rt: HostRuntime) -> Result<(), Fail> {
+    take_steps(&rt, "holes.img", WITH_HOLES)
+}
+
 /// SET_META_CONTEXT of volume 0, by the name of the context.
 const SET_CONTEXT: &[u8] =
     b"IHAVEOPT\x00\x00\x00\x0a\x00\x00\x00\x1c\0\0\0\x010\0\0\0\x01\0\0\0\x0fbase:allocation";
@@ -661,6 +745,118 @@ const WITH_ANOTHER: &[Step] = &[
 #[test]
 fn a_context_is_of_the_volume_that_was_named(rt: HostRuntime) -> Result<(), Fail> {
     take_steps(&rt, "another.img", WITH_ANOTHER)
+}
+
+/// Makes volume 1, a snapshot of volume 0.
+const SNAPPED: &[Call] = &[("message", &["create_snap 1 0"], 0, "ok\n")];
+
+/// A client that writes a sector of block 2 of volume 0, and what is sent to it.
+const WRITES: &[Part<'static>] = &[
+    Part::Text(FLAGS),
+    EXPORT_NAME,
+    Part::Ask(1, 1, 131_072, 512),
+    Part::Fill(0x61, 512),
+];
+
+const WRITTEN: &[Part<'static>] = &[
+    Part::Text(GREETING),
+    Part::Text(b"\x00\x00\x00\x00\x00\x10\x00\x00\x01\x6d"),
+    Part::Reply(0, 1),
+];
+
+/// SET_META_CONTEXT of volume 0 in both contexts, since volume 1, and in the second alone; and the name of that one, as it is told.
+const SET_BOTH: &[u8] =
+    b"IHAVEOPT\x00\x00\x00\x0a\x00\x00\x00\x30\0\0\0\x010\0\0\0\x02\0\0\0\x0fbase:allocation\0\0\0\x10thinpool:since:1";
+
+const SET_SINCE: &[u8] =
+    b"IHAVEOPT\x00\x00\x00\x0a\x00\x00\x00\x1d\0\0\0\x010\0\0\0\x01\0\0\0\x10thinpool:since:1";
+
+const SINCE: &[u8] = b"\0\0\0\x02thinpool:since:1";
+
+/// A client that lists the second context by its name, and by the front of it, asks since a volume that there is not, and asks for both. It writes a sector of block 5 of volume 0, and asks
+/// where there is data and what is other than in volume 1: in all of the volume, and with one extent alone of each.
+const ASKS_BOTH: &[Part<'static>] = &[
+    Part::Text(FLAGS),
+    Part::Text(b"IHAVEOPT\x00\x00\x00\x08\x00\x00\x00\x00"),
+    Part::Text(
+        b"IHAVEOPT\x00\x00\x00\x09\x00\x00\x00\x1d\0\0\0\x010\0\0\0\x01\0\0\0\x10thinpool:since:1",
+    ),
+    Part::Text(
+        b"IHAVEOPT\x00\x00\x00\x09\x00\x00\x00\x1c\0\0\0\x010\0\0\0\x01\0\0\0\x0fthinpool:since:",
+    ),
+    Part::Text(
+        b"IHAVEOPT\x00\x00\x00\x0a\x00\x00\x00\x1d\0\0\0\x010\0\0\0\x01\0\0\0\x10thinpool:since:7",
+    ),
+    Part::Text(SET_BOTH),
+    EXPORT_NAME,
+    Part::Ask(1, 1, 327_680, 512),
+    Part::Fill(0x62, 512),
+    Part::Ask(7, 2, 0, 1_048_576),
+    Part::Text(ONE_STATUS),
+];
+
+/// What is sent to the client: two chunks each time, of which the second says that it is the last.
+const BOTH: &[Part<'static>] = &[
+    Part::Text(GREETING),
+    Part::Told(8, 1, b""),
+    Part::Told(9, 4, b"\0\0\0\0thinpool:since:1"),
+    Part::Told(9, 1, b""),
+    Part::Told(9, 1, b""),
+    Part::Told(10, 1, b""),
+    Part::Told(10, 4, CONTEXT),
+    Part::Told(10, 4, SINCE),
+    Part::Told(10, 1, b""),
+    Part::Text(b"\x00\x00\x00\x00\x00\x10\x00\x00\x01\xed"),
+    Part::Reply(0, 1),
+    Part::Text(b"\x66\x8e\x33\xef\x00\x00\x00\x05\0\0\0\0\0\0\0\x02\0\0\0\x2c"),
+    Part::Text(
+        b"\0\0\0\x01\0\x02\0\0\0\0\0\x03\0\x01\0\0\0\0\0\0\0\x02\0\0\0\0\0\x03\0\x01\0\0\0\0\0\0\0\x0a\0\0\0\0\0\x03",
+    ),
+    Part::Chunk(5, 2, 28),
+    Part::Text(b"\0\0\0\x02\0\x05\0\0\0\0\0\0\0\x01\0\0\0\0\0\x01\0\x0a\0\0\0\0\0\0"),
+    Part::Text(b"\x66\x8e\x33\xef\x00\x00\x00\x05\0\0\0\0\0\0\0\x03\0\0\0\x0c"),
+    Part::Text(b"\0\0\0\x01\0\x01\xfe\0\0\0\0\x03"),
+    Part::Chunk(5, 3, 12),
+    Part::Text(b"\0\0\0\x02\0\x04\0\0\0\0\0\0"),
+];
+
+/// A client that asks for the second context alone, and trims block 2 of volume 0: that is other then, as block 5 is.
+const ASKS_SINCE: &[Part<'static>] = &[
+    Part::Text(FLAGS),
+    Part::Text(b"IHAVEOPT\x00\x00\x00\x08\x00\x00\x00\x00"),
+    Part::Text(SET_SINCE),
+    EXPORT_NAME,
+    Part::Ask(4, 1, 131_072, 65_536),
+    Part::Ask(7, 2, 65_536, 458_752),
+];
+
+/// What is sent to it.
+const SINCE_ALONE: &[Part<'static>] = &[
+    Part::Text(GREETING),
+    Part::Told(8, 1, b""),
+    Part::Told(10, 4, SINCE),
+    Part::Told(10, 1, b""),
+    Part::Text(b"\x00\x00\x00\x00\x00\x10\x00\x00\x01\xed"),
+    Part::Reply(0, 1),
+    Part::Chunk(5, 2, 44),
+    Part::Text(
+        b"\0\0\0\x02\0\x01\0\0\0\0\0\0\0\x01\0\0\0\0\0\x01\0\x02\0\0\0\0\0\0\0\x01\0\0\0\0\0\x01\0\x02\0\0\0\0\0\0",
+    ),
+];
+
+/// Such clients, one behind the other.
+const WITH_SINCE: &[Step] = &[
+    Step::Calls(MADE),
+    Step::Fed(EXTENDED, WRITES, WRITTEN),
+    Step::Calls(SNAPPED),
+    Step::Fed(EXTENDED, ASKS_BOTH, BOTH),
+    Step::Fed(EXTENDED, ASKS_SINCE, SINCE_ALONE),
+    Step::Calls(CLEAN),
+];
+
+#[test]
+fn what_is_other_since_a_snapshot_is_told(rt: HostRuntime) -> Result<(), Fail> {
+    take_steps(&rt, "since.img", WITH_SINCE)
 }
 
 #[test]

@@ -40,6 +40,8 @@ pub(crate) enum Part<'a> {
     Told(u32, u32, &'a [u8]),
     /// The fixed part of the last chunk of a structured reply: its type, cookie, and how many bytes follow.
     Chunk(u16, u64, u32),
+    /// The same of a chunk that others follow.
+    Front(u16, u64, u32),
 }
 
 /// These parts, one behind the other.
@@ -59,13 +61,21 @@ pub(crate) fn add(text: &mut Vec<u8>, part: Part<'_>) -> Result<(), AllocError> 
         Part::Ask(kind, cookie, offset, len) => ask(text, kind, cookie, offset, len),
         Part::Reply(error, cookie) => reply(text, error, cookie),
         Part::Told(option, kind, data) => tell(text, option, kind, data),
-        Part::Chunk(kind, cookie, len) => chunk(text, kind, cookie, len),
+        Part::Chunk(kind, cookie, len) => chunk(text, 1, kind, cookie, len),
+        Part::Front(kind, cookie, len) => chunk(text, 0, kind, cookie, len),
     }
 }
 
-/// Adds the fixed part of a chunk: its type, cookie and length.
-fn chunk(text: &mut Vec<u8>, kind: u16, cookie: u64, len: u32) -> Result<(), AllocError> {
-    text.extend_from_slice(b"\x66\x8e\x33\xef\x00\x01")?;
+/// Adds the fixed part of a chunk: its flags, type, cookie and length.
+fn chunk(
+    text: &mut Vec<u8>,
+    flags: u16,
+    kind: u16,
+    cookie: u64,
+    len: u32,
+) -> Result<(), AllocError> {
+    text.extend_from_slice(b"\x66\x8e\x33\xef")?;
+    text.extend_from_slice(&flags.to_be_bytes())?;
     text.extend_from_slice(&kind.to_be_bytes())?;
     text.extend_from_slice(&cookie.to_be_bytes())?;
     text.extend_from_slice(&len.to_be_bytes())

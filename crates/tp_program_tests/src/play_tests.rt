@@ -380,6 +380,38 @@ fn long_trims_are_played_where_they_are_offered(rt: HostRuntime) -> Result<(), F
     play_by(&rt, EXTENDED, "long.script", LONG, &LONG_DONE)
 }
 
+/// A client that asks since volume 1, which is deleted then, and asks what is other in volume 0.
+const LOST: &[Part<'static>] = &[Part::Text(
+    b"message create_snap 1 0
+open 1
+bytes 1 0000000349484156454f5054000000080000000049484156454f50540000000a0000001d000000013000000001000000107468696e706f6f6c3a73696e63653a3149484156454f5054000000010000000130
+message delete 1
+bytes 1 25609513000000070000000000000001000000000000000000100000
+",
+)];
+
+/// It is answered that this fails by 5.
+const LOST_TOLD: End<'static> = End {
+    status: Status::Done,
+    text: b"ok
+sent 1 4e42444d4147494349484156454f50540003
+sent 1 0003e889045565a9000000080000000100000000
+sent 1 0003e889045565a90000000a0000000400000014000000027468696e706f6f6c3a73696e63653a310003e889045565a90000000a0000000100000000
+sent 1 000000000010000001ed
+ok
+sent 1 668e33ef00018001000000000000000100000006000000050000
+",
+    said: b"",
+};
+
+/// The words that play it.
+const LOSES: &[&str] = &["thinpool", "play", "--extended", "mem:", "lost.script"];
+
+#[test]
+fn an_older_volume_that_is_deleted_is_no_more_told_of(rt: HostRuntime) -> Result<(), Fail> {
+    play_by(&rt, LOSES, "lost.script", LOST, &LOST_TOLD)
+}
+
 /// Lines that are none: a space too many, a session or a volume that there cannot be, leading zeros, capital or odd digits, no digits, words that are none, a
 /// carriage return.
 const BAD: &[&[u8]] = &[

@@ -78,6 +78,10 @@ impl<D: SharedDisk + Drop, M: Metadata + Drop> SharedVolumes for Served<D, M> {
         self.read_shared(id, sector, out)
     }
 
+    fn walk_shared(&self, id: DevId, from: Vb, slots: &mut Slots) -> bool {
+        self.walk_shared(id, from, slots)
+    }
+
     fn sync_ahead(&self) {
         self.sync_ahead();
     }
@@ -86,8 +90,16 @@ impl<D: SharedDisk + Drop, M: Metadata + Drop> SharedVolumes for Served<D, M> {
 impl<D: SharedDisk + Drop, M: Metadata + Drop> SharedReads<Served<D, M>> for MidServed<D, M> {
     ghost of = { λ m. m };
 
+    fn geometry_beside(&self) -> Geometry {
+        self.geometry()
+    }
+
     fn read_beside(&self, id: DevId, sector: u64, out: &mut [u8]) -> bool {
         self.read_shared(id, sector, out)
+    }
+
+    fn walk_beside(&self, id: DevId, from: Vb, slots: &mut Slots) -> bool {
+        self.walk_shared(id, from, slots)
     }
 
     fn sync_beside(&self) {

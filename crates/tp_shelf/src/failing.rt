@@ -127,6 +127,10 @@ impl SharedVolumes for FailingShelf {
         false
     }
 
+    fn walk_shared(&self, _id: DevId, _from: Vb, _slots: &mut Slots) -> bool {
+        false
+    }
+
     fn sync_ahead(&self) {}
 }
 
@@ -140,7 +144,15 @@ pub struct MidFailing {
 impl SharedReads<FailingShelf> for MidFailing {
     ghost of = { λ m. m.shelf };
 
+    fn geometry_beside(&self) -> Geometry {
+        self.shelf.geometry
+    }
+
     fn read_beside(&self, _id: DevId, _sector: u64, _out: &mut [u8]) -> bool {
+        false
+    }
+
+    fn walk_beside(&self, _id: DevId, _from: Vb, _slots: &mut Slots) -> bool {
         false
     }
 

@@ -28,7 +28,7 @@ const WIDE_BLOCKS: u32 = 64;
 
 const PAGED_BLOCKS: u32 = 300;
 
-/// How many shared reads and syncs have come, for how many each waits, and whether one waited in vain.
+/// How many shared reads, walks and syncs have come, for how many each waits, and whether one waited in vain.
 #[derive(Drop)]
 struct Company {
     wanted: u64,
@@ -113,7 +113,7 @@ impl Shelf {
         self.holders.len()
     }
 
-    /// Whether as many shared reads came as each waits for, and none waited in vain. Reads that are not shared do not count.
+    /// Whether as many shared reads and walks came as each waits for, and none waited in vain. Those that are not shared do not count.
     pub fn read_together(&self) -> bool {
         let came = self.company.came.load(Ordering::SeqCst);
         came >= self.company.wanted && !self.company.in_vain.load(Ordering::SeqCst)
@@ -130,7 +130,7 @@ impl Shelf {
         self.cleared
     }
 
-    /// How many syncs there were between parts of flushes, how many shared reads came to one, and whether one waited in vain.
+    /// How many syncs there were between parts of flushes, how many shared reads and walks came to one, and whether one waited in vain.
     pub fn synced(&self) -> (u64, u64, bool) {
         self.stages.told()
     }
@@ -141,6 +141,15 @@ impl Shelf {
             .unwrap_or(usize::MAX)
             .saturating_mul(volume_bytes(self.geometry.virtual_blocks()));
         from.saturating_add(size(sector))
+    }
+
+    /// Lists the blocks of a volume from one on, where it is there.
+    fn list(&self, id: DevId, from: Vb, slots: &mut Slots) -> bool {
+        if id.number() >= 2 {
+            return false;
+        }
+        list_blocks(slots, id, from, self.geometry.virtual_blocks());
+        true
     }
 }
 
@@ -271,6 +280,12 @@ impl SharedVolumes for Shelf {
     }
 
     /// It comes and stays as a shared read does.
+    fn walk_shared(&self, id: DevId, from: Vb, slots: &mut Slots) -> bool {
+        self.company.join();
+        self.list(id, from, slots)
+    }
+
+    /// It comes and stays as a shared read does.
     fn sync_ahead(&self) {
         self.company.join();
     }
@@ -286,10 +301,19 @@ pub struct MidShelf {
 impl SharedReads<Shelf> for MidShelf {
     ghost of = { λ m. m.shelf };
 
+    fn geometry_beside(&self) -> Geometry {
+        self.shelf.geometry
+    }
+
     fn read_beside(&self, id: DevId, sector: u64, out: &mut [u8]) -> bool {
         self.shelf.stages.read();
         copy_out(&self.shelf.bytes, self.shelf.place(id, sector), out);
         true
+    }
+
+    fn walk_beside(&self, id: DevId, from: Vb, slots: &mut Slots) -> bool {
+        self.shelf.stages.read();
+        self.shelf.list(id, from, slots)
     }
 
     fn sync_beside(&self) {
@@ -358,10 +382,9 @@ fn list_blocks(slots: &mut Slots, id: DevId, from: Vb, blocks: u32)
 impl Walked for Shelf {
     /// Each block of both volumes is listed.
     fn walk(&mut self, id: DevId, from: Vb, slots: &mut Slots) -> Result<(), Refusal> {
-        if id.number() >= 2 {
+        if !self.list(id, from, slots) {
             return Err(Refusal::NoSuchDevice);
         }
-        list_blocks(slots, id, from, self.geometry.virtual_blocks());
         Ok(())
     }
 }
@@ -474,7 +497,7 @@ pub fn paged_shelf(alloc: Global) -> Result<Shelf, Refusal>
     shelf_of(alloc, PAGED_BLOCKS, 0)
 }
 
-/// The same, whose shared reads each wait until so many have come.
+/// The same, whose shared reads and walks each wait until so many have come.
 pub fn shelf_of_readers(alloc: Global, readers: u64) -> Result<Shelf, Refusal>
     ensures { IfOk result (λ s. holds_of s.holders.items ≡ empty) }
 {
@@ -491,7 +514,7 @@ pub fn staged_shelf(alloc: Global, parts: u8, waits: bool) -> Result<Shelf, Refu
     Ok(shelf)
 }
 
-/// Two volumes of so many blocks, whose shared reads each wait until so many have come.
+/// Two volumes of so many blocks, whose shared reads and walks each wait until so many have come.
 fn shelf_of(alloc: Global, blocks: u32, readers: u64) -> Result<Shelf, Refusal>
     ensures { IfOk result (λ s. holds_of s.holders.items ≡ empty) }
 {

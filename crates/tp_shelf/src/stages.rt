@@ -8,7 +8,7 @@ use std::thread;
 pub(crate) struct Stages {
     /// How many parts a flush has before its last one: with none it is made at once.
     pub(crate) parts: u8,
-    /// Whether each sync between two parts waits for a shared read.
+    /// Whether each sync between two parts waits for a shared read or walk.
     waits: bool,
     is_syncing: AtomicBool,
     syncs: AtomicU64,
@@ -17,7 +17,7 @@ pub(crate) struct Stages {
 }
 
 impl Stages {
-    /// Flushes of so many parts and a last one. With `waits` each sync between two stays until a shared read has come to it.
+    /// Flushes of so many parts and a last one. With `waits` each sync between two stays until a shared read or walk has come to it.
     pub(crate) fn of(parts: u8, waits: bool) -> Stages {
         Stages {
             parts,
@@ -29,7 +29,7 @@ impl Stages {
         }
     }
 
-    /// How many syncs between parts there were, how many shared reads came to one, and whether one waited in vain.
+    /// How many syncs between parts there were, how many shared reads and walks came to one, and whether one waited in vain.
     pub(crate) fn told(&self) -> (u64, u64, bool) {
         (
             self.syncs.load(Ordering::SeqCst),
@@ -38,7 +38,7 @@ impl Stages {
         )
     }
 
-    /// Looks at most 2^20 times until more shared reads came than so many.
+    /// Looks at most 2^20 times until more shared reads and walks came than so many.
     fn wait(&self, reads: u64) -> bool {
         for _ in 0..1u32 << 20 {
             if self.reads.load(Ordering::SeqCst) > reads {
@@ -63,7 +63,7 @@ impl Stages {
         self.is_syncing.store(false, Ordering::SeqCst);
     }
 
-    /// A shared read between two parts, which counts where it comes to a sync.
+    /// A shared read or walk between two parts, which counts where it comes to a sync.
     pub(crate) fn read(&self) {
         if self.is_syncing.load(Ordering::SeqCst) {
             self.reads.fetch_add(1, Ordering::SeqCst);

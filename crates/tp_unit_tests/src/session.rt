@@ -234,6 +234,29 @@ fn the_default_has_the_empty_name_alone(rt: HostRuntime) {
     assert!(rt; is_sent(sent, UNKNOWN) == Ok(true));
 }
 
+/// The client flags, STRUCTURED_REPLY, and of the volume 9 SET_META_CONTEXT since 10 and since 11, LIST_META_CONTEXT since 10, and SET_META_CONTEXT since what is no id.
+const SINCE: &[u8] = b"\0\0\0\x03\
+IHAVEOPT\0\0\0\x08\0\0\0\0\
+IHAVEOPT\0\0\0\x0a\0\0\0\x1e\0\0\0\x019\0\0\0\x01\0\0\0\x11thinpool:since:10\
+IHAVEOPT\0\0\0\x0a\0\0\0\x1e\0\0\0\x019\0\0\0\x01\0\0\0\x11thinpool:since:11\
+IHAVEOPT\0\0\0\x09\0\0\0\x1e\0\0\0\x019\0\0\0\x01\0\0\0\x11thinpool:since:10\
+IHAVEOPT\0\0\0\x0a\0\0\0\x1f\0\0\0\x019\0\0\0\x01\0\0\0\x12thinpool:since:010";
+
+/// What is sent for them: the volumes 9 and 10 are there alone, and what is listed is under no number.
+const SINCE_TOLD: &[u8] = b"\0\x03\xe8\x89\x04\x55\x65\xa9\0\0\0\x08\0\0\0\x01\0\0\0\0\
+\0\x03\xe8\x89\x04\x55\x65\xa9\0\0\0\x0a\0\0\0\x04\0\0\0\x15\0\0\0\x02thinpool:since:10\
+\0\x03\xe8\x89\x04\x55\x65\xa9\0\0\0\x0a\0\0\0\x01\0\0\0\0\
+\0\x03\xe8\x89\x04\x55\x65\xa9\0\0\0\x0a\0\0\0\x01\0\0\0\0\
+\0\x03\xe8\x89\x04\x55\x65\xa9\0\0\0\x09\0\0\0\x04\0\0\0\x15\0\0\0\0thinpool:since:10\
+\0\x03\xe8\x89\x04\x55\x65\xa9\0\0\0\x09\0\0\0\x01\0\0\0\0\
+\0\x03\xe8\x89\x04\x55\x65\xa9\0\0\0\x0a\0\0\0\x01\0\0\0\0";
+
+#[test]
+fn an_older_volume_is_asked_since_where_it_is_there(rt: HostRuntime) {
+    let sent = offered(rt.alloc(), Profile::extended(None), SINCE);
+    assert!(rt; is_sent(sent, SINCE_TOLD) == Ok(true));
+}
+
 /// Whether a text begins as `UNKNOWN`, and has the flags of a strict session in the answer behind it.
 fn is_unknown_and_strict(text: &[u8]) -> bool {
     text.starts_with(UNKNOWN) && text.get(50..52) == Some(b"\0\x6f".as_slice())

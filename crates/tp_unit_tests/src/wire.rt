@@ -2,8 +2,8 @@ use nbd_wire::{
     COMMAND_READ, COMMAND_TRIM, COMMAND_WRITE_ZEROES, Frame, Kind, MAX_FRAME, OPTION_ABORT,
     OPTION_EXPORT_NAME, OPTION_GO, OPTION_LIST, ReplyType, Request, info_name, put_block_size_info,
     put_data_head, put_done_chunk, put_error_chunk, put_export_info, put_export_reply,
-    put_greeting, put_option_reply_head, put_server_reply, put_simple_reply_head, read_frame,
-    wanted,
+    put_greeting, put_hole_chunk, put_option_reply_head, put_server_reply, put_simple_reply_head,
+    read_frame, wanted,
 };
 
 const GO_FRAME: &[u8] = b"IHAVEOPT\0\0\0\x07\0\0\0\x07\0\0\0\x010\0\0";
@@ -250,7 +250,7 @@ fn chunks_are_written_in_their_place(rt: HostRuntime) {
     let mut refused = [0xffu8; 26];
     let mut done = [0xffu8; 20];
     let ends = (
-        put_data_head(&mut read, 0, 2, 512, 1024),
+        put_data_head(&mut read, 0, true, 2, 512, 1024),
         put_error_chunk(&mut refused, 0, 22, 9),
         put_done_chunk(&mut done, 0, 5),
     );
@@ -260,6 +260,30 @@ fn chunks_are_written_in_their_place(rt: HostRuntime) {
         done == *b"\x66\x8e\x33\xef\0\x01\0\0\0\0\0\0\0\0\0\x05\0\0\0\0",
     );
     assert!(rt; (ends, are_written) == ((28, 26, 20), (true, true, true)));
+}
+
+#[test]
+fn a_chunk_of_several_is_not_the_last(rt: HostRuntime) {
+    let mut data = [0xffu8; 28];
+    let mut hole = [0xffu8; 32];
+    let ends = (
+        put_data_head(&mut data, 0, false, 2, 512, 1024),
+        put_hole_chunk(&mut hole, 0, false, 3, 65_536, 131_072),
+    );
+    let are_written = (
+        data == *b"\x66\x8e\x33\xef\0\0\0\x01\0\0\0\0\0\0\0\x02\0\0\x04\x08\0\0\0\0\0\0\x02\0",
+        hole == *b"\x66\x8e\x33\xef\0\0\0\x02\0\0\0\0\0\0\0\x03\0\0\0\x0c\0\0\0\0\0\x01\0\0\0\x02\0\0",
+    );
+    assert!(rt; (ends, are_written) == ((28, 32), (true, true)));
+}
+
+#[test]
+fn a_hole_is_written_in_its_place(rt: HostRuntime) {
+    let mut out = [0xffu8; 34];
+    let end = put_hole_chunk(&mut out, 1, true, 3, 65_536, 131_072);
+    let is_written = out
+        == *b"\xff\x66\x8e\x33\xef\0\x01\0\x02\0\0\0\0\0\0\0\x03\0\0\0\x0c\0\0\0\0\0\x01\0\0\0\x02\0\0\xff";
+    assert!(rt; (end, is_written) == (33, true));
 }
 
 #[test]

@@ -1,4 +1,4 @@
-use Rattle.std.proofs.Common.{◌≡◌, ◌+◌, ◌-◌, ◌/◌, length, refl, arith}
+use Rattle.std.proofs.Common.{◌≡◌, ◌+◌, ◌-◌, ◌/◌, length, true, refl, arith}
 use Rattle.nbd_wire.specs.Chunks.{data_chunk}
 use Rattle.nbd_session.specs.Session.{chunk_to}
 use Rattle.nbd_session.proofs.Serving.{middle, read_gave, read_refused, room_is}
@@ -9,7 +9,7 @@ returns-in-Ok-clause-answer g c =
     let r = c.args.request.now in
     let long = room_is 28 r.len c.args.out.now (omega (arith, c.requires.form.most, c.requires.room)) in
     let data_long : length c.read.new.out ≡ r.len = omega (arith, c.read.auto.out, long) in
-    read_gave g.V.Volumes.view (chunk_to r) (data_chunk r.cookie r.offset) (λ sectors. refl) c.args.pool.now c.read.new.self c.args.volume (r.offset / 512) r.len _ c.read.new.out _ _
+    read_gave g.V.Volumes.view (chunk_to r) (data_chunk true r.cookie r.offset) (λ sectors. refl) c.args.pool.now c.read.new.self c.args.volume (r.offset / 512) r.len _ c.read.new.out _ _
     c.requires.form.len long data_long c.in-Ok.ensures c.put_read_chunk_head.ensures.reply
     (middle 28 (28 + r.len - 28) r.len c.args.out.now c.read.new.out (omega (arith, c.requires.room)) data_long)
 

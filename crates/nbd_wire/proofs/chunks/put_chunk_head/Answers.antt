@@ -8,7 +8,7 @@ returns-clause-bytes c =
     puts_then _ _ _ _ _ _ _ _
     (puts_then _ _ _ _ _ _ _ _
     (puts_then _ _ _ _ _ _ _ _
-    (puts_then _ _ _ _ _ _ _ _ (c.put_u32-after_magic.ensures.bytes) c.put_u16-after_flags.ensures.bytes)
+    (puts_then _ _ _ _ _ _ _ _ (c.put_u32-after_magic.ensures.bytes) (rw c.done_flag.ensures at c.put_u16-after_flags.ensures.bytes))
     (rw c.code.ensures at c.put_u16-after_type.ensures.bytes))
     c.put_u64-after_cookie.ensures.bytes)
     c.put_u32.ensures.bytes

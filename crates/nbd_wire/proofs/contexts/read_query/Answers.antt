@@ -14,15 +14,15 @@ returns-in_err-count-clause-none c =
     no_count c.args.payload.now (omega (arith, ap length c.in_ok-name.ensures.2, c.in_err-count.ensures)) in
     search (rules, none)
 
-pub returns-in_err-asks-clause-none : goal.returns-in_err-asks-clause-none
-returns-in_err-asks-clause-none c =
+pub returns-in_err-said-clause-none : goal.returns-in_err-said-clause-none
+returns-in_err-said-clause-none c =
     let none : (name : List ℕ) (queries : List (List ℕ)) → IsQuery c.args.payload.now name queries → ⊥ =
     no_queries c.args.payload.now c.in_ok-name.rest.now c.in_ok-count.text.now c.in_ok-count.count c.in_ok-name.ensures.2 c.in_ok-count.ensures.1 c.in_ok-count.ensures.2
-    (sym c.in_err-asks.ensures) in
+    (sym c.in_err-said.ensures) in
     search (rules, none)
 
 pub returns-clause-found : goal.returns-clause-found
 returns-clause-found c =
-    query_found c.args.payload.now c.in_ok-name.name.now c.in_ok-name.rest.now c.in_ok-count.text.now c.in_ok-count.count c.in_ok-asks.asks c.in_ok-asks.all
+    query_found c.args.payload.now c.in_ok-name.name.now c.in_ok-name.rest.now c.in_ok-count.text.now c.in_ok-count.count c.in_ok-said.said.asks c.in_ok-said.said.all c.in_ok-said.said.since.now
     (λ i. omega (arith, c.type_inv.payload i)) c.in_ok-name.ensures.0 c.in_ok-name.ensures.1 c.in_ok-name.ensures.2 c.in_ok-count.ensures.0 c.in_ok-count.ensures.1
-    c.in_ok-count.ensures.2 (sym c.in_ok-asks.ensures)
+    c.in_ok-count.ensures.2 (sym c.in_ok-said.ensures)

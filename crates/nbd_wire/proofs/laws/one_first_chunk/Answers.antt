@@ -1,4 +1,4 @@
-use Rattle.nbd_wire.proofs.Chunking.{one_chunk, no_simple_reply, data_is_chunk, one_status, status_is_chunk, error_is_chunk, done_is_chunk}
+use Rattle.nbd_wire.proofs.Chunking.{one_chunk, no_simple_reply, data_is_chunk, hole_is_chunk, one_status, status_is_chunk, error_is_chunk, done_is_chunk}
 use Rattle.nbd_wire.proofs.laws.one_first_chunk.Goals as goal
 
 pub returns-clause-chunks : goal.returns-clause-chunks
@@ -9,6 +9,9 @@ returns-clause-simple c = no_simple_reply
 
 pub returns-clause-reads : goal.returns-clause-reads
 returns-clause-reads c = data_is_chunk
+
+pub returns-clause-holes : goal.returns-clause-holes
+returns-clause-holes c = hole_is_chunk
 
 pub returns-clause-statuses : goal.returns-clause-statuses
 returns-clause-statuses c = one_status

@@ -6,7 +6,7 @@ loop-part-init g c = parts_none g.V.Volumes.view c.args.number c.args.out.now
 
 pub loop-part-preserved : goal.loop-part-preserved
 loop-part-preserved g c =
-    let did = c.ask_alone-is_at_work in
+    let did = c.ask_for-left in
     parts_more g.V.Volumes.view c.args.number did.result.ran.events did.result.ran.bytes c.args.out.now c.loop-part.out did.new.out c.loop-part.invariant did.ensures
 
 pub returns : goal.returns

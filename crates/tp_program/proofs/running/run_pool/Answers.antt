@@ -8,7 +8,7 @@ use Rattle.tp_program.proofs.running.run_pool.Goals as goal
 
 pub returns : goal.returns
 returns g c =
-    let stayed = c.serve_until_stopped-stayed in
+    let stayed = c.run_hub-stayed in
     let asks = stayed.ensures.asked.0 in
     let closing = number_of c.end_hub-disk.result.1 in (
       asks,

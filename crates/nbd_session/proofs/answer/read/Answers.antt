@@ -1,0 +1,8 @@
+use Rattle.nbd_session.proofs.Serving.{matched, unmatched}
+use Rattle.nbd_session.proofs.answer.read.Goals as goal
+
+pub returns-then-manner-clause-answer : goal.returns-then-manner-clause-answer
+returns-then-manner-clause-answer g c = matched _ _ _ c.if-manner.true c.read_in_chunks.ensures.answer
+
+pub returns-else-manner-clause-answer : goal.returns-else-manner-clause-answer
+returns-else-manner-clause-answer g c = unmatched _ _ _ c.if-manner.false c.read_simply.ensures.answer
