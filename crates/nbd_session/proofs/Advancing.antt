@@ -1,5 +1,5 @@
 -- A step over a pool is, from each state that the pool may have, a step over the plain pool.
-use Rattle.std.proofs.Common.{◌≡◌, ℕ, ◌+◌, ◌*◌, ◌/◌, ◌<◌, ◌≤◌, ◌⊎◌, Bool, true, false, List, [], ◌∷◌, length, take, Option, Some, None, refl, sym, ap, subst, ◌∙◌, arith, inl, inr, true≢false}
+use Rattle.std.proofs.Common.{◌≡◌, ℕ, zero, suc, ◌+◌, ◌*◌, ◌/◌, ◌<◌, ◌≤◌, ◌⊎◌, Bool, true, false, List, [], ◌∷◌, length, take, Option, Some, None, refl, sym, ap, subst, ◌∙◌, arith, inl, inr, true≢false}
 use Rattle.std.specs.Prelude.{IfSome, MatchOption, MatchBool, ◌==◌, if◌then◌else◌, nat_le, nat_lt}
 use Rattle.std.specs.List.{concat}
 use Rattle.std.specs.Ordering.{nat_cmp}
@@ -10,7 +10,7 @@ use Rattle.tp_model.specs.Requests.{form_error, is_flush, is_read, is_trim, is_w
 use Rattle.tp_model.specs.Geometry.{Geometry, sectors_of_volume}
 use Rattle.tp_model.specs.Sectors.{sectors_of}
 use Rattle.tp_model.specs.Pool.{PlainPool, Outline, hold_count, hold_total}
-use Rattle.tp_model.specs.Calls.{Call, Answer, Done, Gave, Line, Found, Refused, Sized, Listed, Hold, LetGo, NextId, Read, VolumeBlocks, Walk, Write, is_failed, holds_after}
+use Rattle.tp_model.specs.Calls.{Call, Answer, CreateSnap, Delete, Done, Gave, Line, Found, Refused, Sized, Listed, Hold, LetGo, NextId, Read, VolumeBlocks, Walk, Write, is_failed, holds_after}
 use Rattle.nbd_wire.specs.declared.Kind.{Kind}
 use Rattle.nbd_wire.specs.declared.Request.{Request}
 use Rattle.nbd_wire.specs.declared.TheConstants.{COMMAND_DISC, OPTION_ABORT, OPTION_EXPORT_NAME, OPTION_GO, OPTION_INFO, OPTION_LIST, OPTION_LIST_META_CONTEXT, OPTION_SET_META_CONTEXT, OPTION_STRUCTURED_REPLY}
@@ -33,10 +33,10 @@ use Rattle.nbd_wire.specs.Contexts.{asks_for, lists, since_of}
 use Rattle.nbd_session.specs.Buffers.{IsSound}
 use Rattle.nbd_session.specs.Holes.{has_blank}
 use Rattle.nbd_session.specs.Status.{IsAllocation, first_block, unit_of}
-use Rattle.nbd_session.specs.Session.{State, state, has_ended, Outcome, outcome, option_error, VolumeOption, export_name, go, info, in_chunks, in_context, is_there, is_at_work, is_extended, kind_of, left_in, list_context, manner_of, set_context, structures, terms_of, transmission_flags, without_context, chunk_to, reply_to, LetsGo, Begins, Ends, Tells, Serves, IsMade, MakesPart, IsDeaf, IsSized, Sizes, IsHeld, Holds, Enters, Finds, AsksFor, LooksFor, IsInvalid, IsValid, Informs, Exports, Finding, IsEnough, IsLast, IsRefused, Lists, NamesAll, NamesNone, Answers, Waits, TakesFrame, Steps, Compares, Extends, IsDescribed, IsNoQuery, IsQueried, Queries, Seeks, SeeksFor, Walks, Chooses, IsGiven, Performs, ReadsLong, SeeksHoles}
+use Rattle.nbd_session.specs.Session.{State, state, has_ended, Outcome, outcome, option_error, VolumeOption, clone_context, clone_manner, export_name, go, has_clones, info, in_chunks, in_context, is_of_failure, is_of_none, is_there, is_at_work, is_extended, kind_of, left_in, limit_of, list_context, manner_in, manner_of, of_clone, uncloned, set_context, structures, terms_of, transmission_flags, without_context, chunk_to, reply_to, Clones, FindsNone, GivesUp, IsCloneHeld, IsCloneSized, IsCloned, Passes, Snaps, LetsGo, Begins, Ends, Tells, Serves, IsMade, MakesPart, IsDeaf, IsSized, Sizes, IsHeld, Holds, Enters, Finds, AsksFor, LooksFor, IsInvalid, IsValid, Informs, Exports, Finding, IsEnough, IsLast, IsRefused, Lists, NamesAll, NamesNone, Answers, Waits, TakesFrame, Steps, Compares, Extends, IsDescribed, IsNoQuery, IsQueried, Queries, Seeks, SeeksFor, Walks, Chooses, IsGiven, Performs, ReadsLong, SeeksHoles}
 use Rattle.tp_model.specs.Clauses.{Continues, HasTrace, PoolCall, Traced, TracedCall, View, ViewLaws, outline_of_traced}
 use Rattle.tp_model.proofs.Running.{call_traced, goes_on, stays}
-use Rattle.nbd_session.specs.Clauses.{IsReady, Follows, GoesBeyond, HoldsFollow, KeepsSizes, PlainCall, Advances, Leaves, IsCalm, holds_between, manner_in}
+use Rattle.nbd_session.specs.Clauses.{IsReady, Follows, GoesBeyond, HoldsFollow, KeepsSizes, PlainCall, Advances, Leaves, IsCalm, holds_between}
 use Rattle.nbd_session.proofs.Counting.{one_more, still_held}
 use Rattle.nbd_session.proofs.Following.{steps_likewise, lets_go_likewise}
 use Rattle.nbd_session.proofs.Stepping.{calm_state, wanted_at_start}
@@ -178,17 +178,38 @@ module _ {D : Type 0} (view : View D) (laws : ViewLaws view) where
   to_end : (old new : D) (z : Terms) → new ≡ old → Moves old new (Options z) Ended
   to_end old new z e = rests old new (Options z) Ended e (inl refl) tt tt
 
+  -- a clone is let go and deleted, of which the second changes nothing of who holds what
+  back : (old new : D) → (view.outline new).holds ≡ (view.outline old).holds → (i : ℕ) → 0 < hold_count (view.outline new).holds i → 0 < hold_count (view.outline old).holds i
+  back old new e i some = let P : FinMap nat_cmp ℕ → Type 0 = λ m. 0 < hold_count m i in subst P e some
+
+  over_back : (old mid new : D) → KeepsSizes view old mid → KeepsSizes view mid new → ((i : ℕ) → 0 < hold_count (view.outline new).holds i → 0 < hold_count (view.outline mid).holds i) → KeepsSizes view old new
+  over_back old mid new first then_ there i before after = then_ i (there i after) after ∙ first i before (there i after)
+
+  given_up : (old new : D) (v : ℕ) → GivesUp view.outline (PoolCall view) v old new
+      → ((view.outline new).geometry ≡ (view.outline old).geometry) × ((view.outline new).holds ≡ holds_after (view.outline old).holds (LetGo v) Done) × KeepsSizes view old new
+  given_up old new v h =
+      (h.deletes.geometry ∙ h.lets_go.geometry, h.deletes.holds ∙ h.lets_go.holds, over_back old h.let_go new h.lets_go.more h.deletes.more (back h.let_go new h.deletes.holds))
+
+  let_go_moves : (b : Bool) (old new : D) (v n : ℕ) (c : Course) → MatchBool b (GivesUp view.outline (PoolCall view) v old new) (PoolCall view old (LetGo v) Done new) → Moves old new (Transmission v n c) Ended
+  let_go_moves true old new v n c h = let m = given_up old new v h in record { geometry = m.0; holds = m.1; follows = tt; more = m.2; knows = tt }
+  let_go_moves false old new v n c h = called old new (Transmission v n c) Ended (LetGo v) Done h refl tt tt
+
+  let_go_holds : (b : Bool) (old new : D) (v : ℕ) → MatchBool b (GivesUp view.outline (PoolCall view) v old new) (PoolCall view old (LetGo v) Done new)
+      → (view.outline new).holds ≡ holds_after (view.outline old).holds (LetGo v) Done
+  let_go_holds true old new v h = (given_up old new v h).1
+  let_go_holds false old new v h = h.holds
+
   lets_go_moves : (old new : D) (phase : Phase) → LetsGo view.outline (PoolCall view) phase old new → Moves old new phase Ended
   lets_go_moves old new (Flags a) h = rests old new (Flags a) Ended h refl tt tt
   lets_go_moves old new (Options z) h = to_end old new z h
-  lets_go_moves old new (Transmission v n c) h = called old new (Transmission v n c) Ended (LetGo v) Done h refl tt tt
+  lets_go_moves old new (Transmission v n c) h = let_go_moves (manner_in c).is_clone old new v n c h
   lets_go_moves old new Ended h = rests old new Ended Ended h refl tt tt
 
   -- an end alone holds nothing before it
   lets_go_holds : (old new : D) (phase : Phase) → LetsGo view.outline (PoolCall view) phase old new → (view.outline new).holds ≡ holds_between phase Ended (view.outline old).holds
   lets_go_holds old new (Flags a) h = ap (λ (d : D). (view.outline d).holds) h
   lets_go_holds old new (Options z) h = ap (λ (d : D). (view.outline d).holds) h
-  lets_go_holds old new (Transmission v n c) h = h.holds
+  lets_go_holds old new (Transmission v n c) h = let_go_holds (manner_in c).is_clone old new v h
   lets_go_holds old new Ended h = ap (λ (d : D). (view.outline d).holds) h
 
   ends_move : (old new : D) (last : List ℕ) (phase next : Phase) (sent : List ℕ) → Ends view.outline (PoolCall view) last phase old sent next new → Moves old new phase next
@@ -369,28 +390,89 @@ module _ {D : Type 0} (view : View D) (laws : ViewLaws view) where
   LeadsTo z true id size next = next ≡ Transmission id size (Listens (manner_of z id))
   LeadsTo z false id size next = (y : Terms) × (next ≡ Options y) × GoesBeyond z y
 
+  -- the same of a clone
+  abbrev LeadsToClone : Terms → Bool → ℕ → ℕ → ℕ → Phase → Type 0
+  LeadsToClone z true origin id size next = next ≡ Transmission id size (Listens (clone_manner z origin))
+  LeadsToClone z false origin id size next = (y : Terms) × (next ≡ Options y) × GoesBeyond z y
+
   -- Where an option goes that looks for a volume.
   record Lands (z : Terms) (o : VolumeOption) : Type 0 where
+    clones : o.clones ≡ has_clones z.profile
     found : (id size flags : ℕ) → LeadsTo z o.holds id size (o.found id size flags).next
+    cloned : (origin id size flags : ℕ) → LeadsToClone z o.holds origin id size (o.cloned origin id size flags).next
     missing : (old new : D) → new ≡ old → Moves old new (Options z) o.missing.next
+    refused : (old new : D) → new ≡ old → Moves old new (Options z) o.refused.next
 
   go_lands : (z : Terms) → Lands z (go z)
-  go_lands z = record { found = λ id size flags. refl; missing = λ old new e. to_options old new z e }
+  go_lands z = record {
+    clones = refl;
+    found = λ id size flags. refl;
+    cloned = λ origin id size flags. refl;
+    missing = λ old new e. to_options old new z e;
+    refused = λ old new e. to_options old new z e;
+  }
 
   info_lands : (z : Terms) → Lands z (info z)
-  info_lands z = record { found = λ id size flags. (z, refl, stays_so z); missing = λ old new e. to_options old new z e }
+  info_lands z = record {
+    clones = refl;
+    found = λ id size flags. (z, refl, stays_so z);
+    cloned = λ origin id size flags. (z, refl, stays_so z);
+    missing = λ old new e. to_options old new z e;
+    refused = λ old new e. to_options old new z e;
+  }
 
   list_lands : (z : Terms) (b : Bool) (since : ℕ) → Lands z (list_context z b since)
-  list_lands z b since = record { found = λ id size flags. (z, refl, stays_so z); missing = λ old new e. to_options old new z e }
+  list_lands z b since = record {
+    clones = refl;
+    found = λ id size flags. (z, refl, stays_so z);
+    cloned = λ origin id size flags. (z, refl, stays_so z);
+    missing = λ old new e. to_options old new z e;
+    refused = λ old new e. to_options old new z e;
+  }
 
   set_lands : (z : Terms) → is_extended z.profile ≡ true → (b : Bool) (since : ℕ) → Lands z (set_context z b since)
   set_lands z ext b since = record {
+    clones = refl;
     found = λ id size flags. (in_context z id b since, refl, asks_of z id b since ext);
+    cloned = λ origin id size flags. (in_context z (clone_context origin) b since, refl, asks_of z (clone_context origin) b since ext);
     missing = λ old new e. to_terms old new z (without_context z) (asks_of z 16777216 false 16777216 ext) e;
+    refused = λ old new e. to_terms old new z (without_context z) (asks_of z 16777216 false 16777216 ext) e;
   }
 
   export_lands : (z : Terms) → Lands z (export_name z)
-  export_lands z = record { found = λ id size flags. refl; missing = λ old new e. to_end old new z e }
+  export_lands z = record {
+    clones = refl;
+    found = λ id size flags. refl;
+    cloned = λ origin id size flags. refl;
+    missing = λ old new e. to_end old new z e;
+    refused = λ old new e. to_end old new z e;
+  }
+
+  -- one that holds nothing, of a clone
+  clone_lands : (z : Terms) (o : VolumeOption) → Lands z o → o.holds ≡ false → (origin : ℕ) → Lands z (of_clone o origin)
+  clone_lands z o lands is origin = record {
+    clones = lands.clones;
+    found = λ id size flags.
+        subst (λ (x : Bool). LeadsTo z x id size (o.cloned origin id size flags).next) (sym is)
+        (subst (λ (x : Bool). LeadsToClone z x origin id size (o.cloned origin id size flags).next) is (lands.cloned origin id size flags));
+    cloned = lands.cloned;
+    missing = lands.missing;
+    refused = lands.refused;
+  }
+
+  -- snapshots that are asked for change nothing of who holds what
+  snap_stays : (old new : D) (id origin : ℕ) (answer : Answer) → PoolCall view old (CreateSnap id origin) answer new → Stays old new
+  snap_stays old new id origin answer h = record { geometry = h.geometry; holds = h.holds; more = h.more }
+
+  delete_stays : (old new : D) (id : ℕ) (answer : Answer) → PoolCall view old (Delete id) answer new → Stays old new
+  delete_stays old new id answer h = record { geometry = h.geometry; holds = h.holds; more = h.more }
+
+  passes_stay : (origin id n : ℕ) (old new : D) → Passes view.outline (PoolCall view) origin id n old new → Stays old new
+  passes_stay origin id zero old new h = still old new h
+  passes_stay origin id (suc n) old new h = both_stay old h.1 new (snap_stays old h.1 id origin h.0 h.3) (passes_stay origin (id + 1) n h.1 new h.4)
+
+  snaps_stay : (origin id : ℕ) (answer : Answer) (old new : D) → Snaps view.outline (PoolCall view) origin id answer old new → Stays old new
+  snaps_stay origin id answer old new h = both_stay old h.tried new (passes_stay origin 8388608 h.passed old h.tried h.passes) (snap_stays h.tried new id origin answer h.calls)
 
   module _ (z : Terms) (o : VolumeOption) (lands : Lands z o) (g : Geometry) (flags : ℕ) where
     abbrev found_so : ℕ → ℕ → Outcome
@@ -398,6 +480,14 @@ module _ {D : Type 0} (view : View D) (laws : ViewLaws view) where
 
     found_next : (b : Bool) (id blocks : ℕ) → o.holds ≡ b → LeadsTo z b id (bytes_of_blocks g blocks) (found_so id blocks).next
     found_next b id blocks is = subst (λ (x : Bool). LeadsTo z x id (bytes_of_blocks g blocks) (found_so id blocks).next) is (lands.found id (bytes_of_blocks g blocks) flags)
+
+    -- of a clone
+    abbrev cloned_so : ℕ → ℕ → ℕ → Outcome
+    cloned_so origin id blocks = o.cloned origin id (bytes_of_blocks g blocks) flags
+
+    cloned_next : (b : Bool) (origin id blocks : ℕ) → o.holds ≡ b → LeadsToClone z b origin id (bytes_of_blocks g blocks) (cloned_so origin id blocks).next
+    cloned_next b origin id blocks is =
+        subst (λ (x : Bool). LeadsToClone z x origin id (bytes_of_blocks g blocks) (cloned_so origin id blocks).next) is (lands.cloned origin id (bytes_of_blocks g blocks) flags)
 
     -- of a volume that is not held
     told_moves : (old asked new : D) (id : ℕ) (answer : Answer) (sent : List ℕ) (next : Phase) → o.holds ≡ false → PoolCall view old (VolumeBlocks id) answer asked
@@ -440,7 +530,7 @@ module _ {D : Type 0} (view : View D) (laws : ViewLaws view) where
           moves_to old new (Options z) next to (h.1 ∙ found_next true id blocks is) (subst P (sym h.2) (record {
             geometry = call.geometry ∙ hold.geometry;
             holds = call.holds ∙ hold.holds;
-            follows = refl;
+            follows = inl refl;
             more = over old held asked hold.more call.more stays_held;
             knows = known asked blocks call;
           }))
@@ -458,6 +548,33 @@ module _ {D : Type 0} (view : View D) (laws : ViewLaws view) where
       sized_moves asked new (Found least) sent next is call h = absurd h
       sized_moves asked new (Listed slots) sent next is call h = absurd h
 
+      clone_sized_moves : (asked new : D) (origin : ℕ) (answer : Answer) (sent : List ℕ) (next : Phase) → o.holds ≡ true → o.clones ≡ true → 8388608 ≤ id → id < 8388672
+          → PoolCall view held (VolumeBlocks id) answer asked → IsCloneSized view.outline (PoolCall view) (cloned_so origin id) id answer asked sent next new → Moves old new (Options z) next
+      clone_sized_moves asked new origin (Sized blocks) sent next is on low high call h =
+          let to : Phase = Transmission id (bytes_of_blocks g blocks) (Listens (clone_manner z origin)) in
+          let P : D → Type 0 = λ d. Moves old d (Options z) to in
+          moves_to old new (Options z) next to (h.1 ∙ cloned_next true origin id blocks is) (subst P (sym h.2) (record {
+            geometry = call.geometry ∙ hold.geometry;
+            holds = call.holds ∙ hold.holds;
+            follows = inr (origin, sym lands.clones ∙ on, low, high, refl);
+            more = over old held asked hold.more call.more stays_held;
+            knows = known asked blocks call;
+          }))
+      clone_sized_moves asked new origin (Refused reason) sent next is on low high call h =
+          let gone = given_up asked new id h.2 in
+          moves_to old new (Options z) next Ended h.1 (record {
+            geometry = gone.0 ∙ (call.geometry ∙ hold.geometry);
+            holds = inr (id, gone.1 ∙ ap (λ (m : FinMap nat_cmp ℕ). holds_after m (LetGo id) Done) (call.holds ∙ hold.holds));
+            follows = tt;
+            more = over old held new hold.more (over held asked new call.more gone.2 (as_held held asked call.holds)) stays_held;
+            knows = tt;
+          })
+      clone_sized_moves asked new origin Done sent next is on low high call h = absurd h
+      clone_sized_moves asked new origin (Gave sectors) sent next is on low high call h = absurd h
+      clone_sized_moves asked new origin (Line bytes) sent next is on low high call h = absurd h
+      clone_sized_moves asked new origin (Found least) sent next is on low high call h = absurd h
+      clone_sized_moves asked new origin (Listed slots) sent next is on low high call h = absurd h
+
     held_moves : (old held new : D) (id : ℕ) (answer : Answer) (sent : List ℕ) (next : Phase) → g ≡ (view.outline old).geometry → o.holds ≡ true → PoolCall view old (Hold id) answer held
         → IsHeld view.outline (PoolCall view) (found_so id) id answer held sent next new → Moves old new (Options z) next
     held_moves old held new id Done sent next same is call h = sized_moves old held id same call h.asked new h.answer sent next is h.calls h.is_sized
@@ -468,6 +585,36 @@ module _ {D : Type 0} (view : View D) (laws : ViewLaws view) where
     held_moves old held new id (Found least) sent next same is call h = absurd h
     held_moves old held new id (Sized blocks) sent next same is call h = absurd h
     held_moves old held new id (Listed slots) sent next same is call h = absurd h
+
+    -- of a clone that was made, or was not
+    clone_held_moves : (old held new : D) (origin id : ℕ) (answer : Answer) (sent : List ℕ) (next : Phase) → g ≡ (view.outline old).geometry → o.holds ≡ true → o.clones ≡ true → 8388608 ≤ id → id < 8388672
+        → PoolCall view old (Hold id) answer held → IsCloneHeld view.outline (PoolCall view) (cloned_so origin id) id answer held sent next new → Moves old new (Options z) next
+    clone_held_moves old held new origin id Done sent next same is on low high call h = clone_sized_moves old held id same call h.asked new origin h.answer sent next is on low high h.calls h.is_sized
+    clone_held_moves old held new origin id (Refused reason) sent next same is on low high call h =
+        let m = delete_stays held new id h.answer h.calls in
+        behind old held new z next (record { geometry = call.geometry; holds = call.holds; more = call.more })
+        (moves_to held new (Options z) next Ended h.next_is (record { geometry = m.geometry; holds = inl m.holds; follows = tt; more = m.more; knows = tt }))
+    clone_held_moves old held new origin id (Gave sectors) sent next same is on low high call h = absurd h
+    clone_held_moves old held new origin id (Line bytes) sent next same is on low high call h = absurd h
+    clone_held_moves old held new origin id (Found least) sent next same is on low high call h = absurd h
+    clone_held_moves old held new origin id (Sized blocks) sent next same is on low high call h = absurd h
+    clone_held_moves old held new origin id (Listed slots) sent next same is on low high call h = absurd h
+
+    uncloned_moves : (none failure : Bool) (old new : D) → new ≡ old → Moves old new (Options z) (if none then o.missing else (if failure then outcome [] Ended else o.refused)).next
+    uncloned_moves true failure old new e = lands.missing old new e
+    uncloned_moves false true old new e = to_end old new z e
+    uncloned_moves false false old new e = lands.refused old new e
+
+    cloned_moves : (old new : D) (origin id : ℕ) (answer : Answer) (sent : List ℕ) (next : Phase) → g ≡ (view.outline old).geometry → o.holds ≡ true → o.clones ≡ true → 8388608 ≤ id → id < 8388672
+        → IsCloned view.outline (PoolCall view) o (cloned_so origin id) id answer old sent next new → Moves old new (Options z) next
+    cloned_moves old new origin id Done sent next same is on low high h = clone_held_moves old h.held new origin id h.answer sent next same is on low high h.calls h.is_held
+    cloned_moves old new origin id (Refused reason) sent next same is on low high h =
+        tells_move old new (Options z) (uncloned o reason) sent next h (uncloned_moves (is_of_none reason) (is_of_failure reason) old new h.2)
+    cloned_moves old new origin id (Gave sectors) sent next same is on low high h = absurd h
+    cloned_moves old new origin id (Line bytes) sent next same is on low high h = absurd h
+    cloned_moves old new origin id (Found least) sent next same is on low high h = absurd h
+    cloned_moves old new origin id (Sized blocks) sent next same is on low high h = absurd h
+    cloned_moves old new origin id (Listed slots) sent next same is on low high h = absurd h
 
     enters_moves : (b : Bool) (old new : D) (id : ℕ) (sent : List ℕ) (next : Phase) → g ≡ (view.outline old).geometry → o.holds ≡ b
         → MatchBool b (Holds view.outline (PoolCall view) (found_so id) id old sent next new) (Sizes view.outline (PoolCall view) false (found_so id) id old sent next new) → Moves old new (Options z) next
@@ -496,9 +643,25 @@ module _ {D : Type 0} (view : View D) (laws : ViewLaws view) where
         let before = asked old h.looked id h.answer h.calls in
         behind old h.looked new z next before (finds_moves z o lands (view.outline old).geometry (transmission_flags (view.outline old)) h.looked new id h.answer sent next (sym h.calls.geometry) h.finds)
 
+    clones_move : (origin : ℕ) (sent : List ℕ) (next : Phase) → o.holds ≡ true → o.clones ≡ true → Clones view.outline (PoolCall view) o origin old sent next new → Moves old new (Options z) next
+    clones_move origin sent next is on h =
+        let before = snaps_stay origin h.id h.answer old h.made h.snaps in
+        let at = h.snaps.id_is in
+        let few = h.snaps.few in
+        behind old h.made new z next before
+        (cloned_moves z o lands (view.outline old).geometry (transmission_flags (view.outline old)) h.made new origin h.id h.answer sent next (sym before.geometry) is on (omega (arith, at)) (omega (arith, at, few)) h.is_cloned)
+
+  -- a name that means a clone, by whether that is to be held
+  clone_moves : (b : Bool) (old new : D) (z : Terms) (o : VolumeOption) → Lands z o → (origin : ℕ) (sent : List ℕ) (next : Phase) → o.holds ≡ b → o.clones ≡ true
+      → MatchBool b (Clones view.outline (PoolCall view) o origin old sent next new) (AsksFor view.outline (PoolCall view) (of_clone o origin) origin old sent next new) → Moves old new (Options z) next
+  clone_moves true old new z o lands origin sent next is on h = clones_move old new z o lands origin sent next is on h
+  clone_moves false old new z o lands origin sent next is on h = asks_move old new z (of_clone o origin) (clone_lands z o lands is origin) origin sent next h
+
+  module _ (old new : D) (z : Terms) (o : VolumeOption) (lands : Lands z o) where
     looks_move : (name sent : List ℕ) (next : Phase) → LooksFor view.outline (PoolCall view) o name old sent next new → Moves old new (Options z) next
     looks_move name sent next (inl h) = tells_move old new (Options z) o.missing sent next h.tells (lands.missing old new h.tells.2)
-    looks_move name sent next (inr h) = asks_move h.id sent next h.asks
+    looks_move name sent next (inr (inl h)) = asks_move old new z o lands h.id sent next h.asks
+    looks_move name sent next (inr (inr h)) = clone_moves o.holds old new z o lands h.origin sent next refl h.name_is.0 h.asks
 
     informs_move : (b : Bool) (option : ℕ) (payload sent : List ℕ) (next : Phase)
         → MatchBool b (Ends view.outline (PoolCall view) [] (Options z) old sent next new)
@@ -543,15 +706,16 @@ module _ {D : Type 0} (view : View D) (laws : ViewLaws view) where
       let rest = finding_stays End ends (id + 1) ids h.0 new h.2 in
       record { geometry = rest.geometry ∙ one.geometry; holds = rest.holds ∙ one.holds; more = over old h.0 new one.more rest.more (as_held old h.0 one.holds) }
 
-  last_stays : (b : Bool) (from : ℕ) (old new : D) → MatchBool b (PoolCall view old (NextId from) (Found None) new) (new ≡ old) → Stays old new
-  last_stays true from old new h = asked old new from (Found None) h
-  last_stays false from old new h = still old new h
+  last_stays : (b : Bool) (limit from : ℕ) (old new : D) → MatchBool b (FindsNone view.outline (PoolCall view) limit from old new) (new ≡ old) → Stays old new
+  last_stays true limit from old new h = asked old new from (Found h.found) h.calls
+  last_stays false limit from old new h = still old new h
 
   names_move : (old new : D) (b : Bool) (z : Terms) (sent : List ℕ) (next : Phase)
       → MatchBool b (NamesAll view.outline (PoolCall view) z old sent next new ⊎ NamesNone view.outline (PoolCall view) old sent next new) (Tells view.outline (PoolCall view) (option_error OPTION_LIST Invalid z) old sent next new)
       → Moves old new (Options z) next
   names_move old new true z sent next (inl h) =
-      let m = finding_stays (IsLast view.outline (PoolCall view)) (λ from d d' e. last_stays (nat_lt from 16777216) from d d' e) 0 h.ids old new h.finding in
+      let limit : ℕ = limit_of z.profile in
+      let m = finding_stays (IsLast view.outline (PoolCall view) limit) (λ from d d' e. last_stays (nat_lt from limit) limit from d d' e) 0 h.ids old new h.finding in
       moves_to old new (Options z) next (Options z) h.next_is (record { geometry = m.geometry; holds = m.holds; follows = stays_so z; more = m.more; knows = tt })
   names_move old new true z sent next (inr h) = none h.finding where
     goes : Stays old new → Moves old new (Options z) next
@@ -644,7 +808,8 @@ module _ {D : Type 0} (view : View D) (laws : ViewLaws view) where
   sound_by z (Flags a) f = tt
   sound_by z (Options y) f = tt
   sound_by z (Transmission v n (Listens x)) f = tt
-  sound_by z (Transmission v n (Works x r)) f = absurd cc
+  sound_by z (Transmission v n (Works x r)) (inl e) = absurd cc
+  sound_by z (Transmission v n (Works x r)) (inr (origin, on, low, high, e)) = absurd cc
   sound_by z Ended f = tt
 
   -- no option begins a long request
@@ -763,7 +928,9 @@ module _ {D : Type 0} (view : View D) (laws : ViewLaws view) where
   options_idle : (z : Terms) (next : Phase) → Follows (Options z) next → is_at_work next ≡ true → ⊥
   options_idle z (Flags a) f w = f
   options_idle z (Options y) f w = absurd cc
-  options_idle z (Transmission v n c) f w = elsewhere (Transmission v n c) (Transmission v n (Listens (manner_of z v))) (ap (λ (d : Course). Transmission v n d) f) refl w
+  options_idle z (Transmission v n c) (inl e) w = elsewhere (Transmission v n c) (Transmission v n (Listens (manner_of z v))) (ap (λ (d : Course). Transmission v n d) e) refl w
+  options_idle z (Transmission v n c) (inr (origin, on, low, high, e)) w =
+      elsewhere (Transmission v n c) (Transmission v n (Listens (clone_manner z origin))) (ap (λ (d : Course). Transmission v n d) e) refl w
   options_idle z Ended f w = absurd cc
 
   answers_quiet : (old new : D) (phase next : Phase) (m : Message) (sent : List ℕ) → Answers view.outline (PoolCall view) phase m old sent next new → is_at_work next ≡ true → sent ≡ []

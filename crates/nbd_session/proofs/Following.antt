@@ -1,11 +1,11 @@
 -- What follows the calls of a pool follows the steps of a session over it.
-use Rattle.std.proofs.Common.{◌≡◌, ℕ, ◌+◌, ◌/◌, ◌⊎◌, Bool, true, false, List, [], ◌∷◌, length, Option, Some, None, refl, sym, ap, subst, inl, inr}
+use Rattle.std.proofs.Common.{◌≡◌, ℕ, zero, suc, ◌+◌, ◌/◌, ◌⊎◌, Bool, true, false, List, [], ◌∷◌, length, Option, Some, None, refl, sym, ap, subst, inl, inr}
 use Rattle.std.specs.Prelude.{MatchOption, MatchBool, ◌==◌, if◌then◌else◌, nat_le, nat_lt}
 use Rattle.std.specs.List.{concat}
 use Rattle.tp_model.specs.declared.mode.Mode.{Mode}
 use Rattle.tp_model.specs.Geometry.{Geometry}
 use Rattle.tp_model.specs.Pool.{Outline}
-use Rattle.tp_model.specs.Calls.{Call, Answer, Done, Found, Gave, Hold, LetGo, Line, NextId, Read, Refused, Sized, Listed, VolumeBlocks, Walk, is_failed, is_read_only}
+use Rattle.tp_model.specs.Calls.{Call, Answer, CreateSnap, Delete, Done, Found, Gave, Hold, LetGo, Line, NextId, Read, Refused, Sized, Listed, VolumeBlocks, Walk, is_failed, is_read_only}
 use Rattle.nbd_wire.specs.declared.Kind.{Kind}
 use Rattle.nbd_wire.specs.declared.Request.{Request}
 use Rattle.nbd_wire.specs.declared.TheConstants.{OPTION_ABORT, OPTION_EXPORT_NAME, OPTION_GO, OPTION_INFO, OPTION_LIST, OPTION_LIST_META_CONTEXT, OPTION_SET_META_CONTEXT, OPTION_STRUCTURED_REPLY}
@@ -26,7 +26,7 @@ use Rattle.nbd_wire.specs.Chunks.{data_chunk, error_chunk}
 use Rattle.nbd_wire.specs.Contexts.{asks_for, lists, since_of}
 use Rattle.nbd_session.specs.Holes.{has_blank}
 use Rattle.nbd_session.specs.Status.{IsAllocation, first_block, unit_of}
-use Rattle.nbd_session.specs.Session.{State, Outcome, outcome, option_error, VolumeOption, export_name, go, info, is_extended, kind_of, list_context, set_context, structures, transmission_flags, terms_of, without_context, chunk_to, reply_to, LetsGo, Begins, Ends, Tells, Performs, Serves, IsMade, MakesPart, IsDeaf, IsSized, Sizes, IsHeld, Holds, Enters, Finds, AsksFor, LooksFor, is_there, IsInvalid, IsValid, Informs, Exports, Finding, IsEnough, IsLast, IsRefused, Lists, NamesAll, NamesNone, Answers, Waits, TakesFrame, Steps, Describes, Extends, Compares, IsDescribed, IsNoQuery, IsQueried, Queries, Seeks, SeeksFor, Walks, IsGiven, ReadsLong, SeeksHoles}
+use Rattle.nbd_session.specs.Session.{State, Outcome, outcome, option_error, uncloned, VolumeOption, export_name, go, info, is_extended, kind_of, limit_of, list_context, manner_in, of_clone, set_context, structures, transmission_flags, terms_of, without_context, chunk_to, reply_to, Clones, Deletes, FindsNone, GivesUp, HoldsClone, IsCloneHeld, IsCloneSized, IsCloned, Passes, SizesClone, Snaps, LetsGo, Begins, Ends, Tells, Performs, Serves, IsMade, MakesPart, IsDeaf, IsSized, Sizes, IsHeld, Holds, Enters, Finds, AsksFor, LooksFor, is_there, IsInvalid, IsValid, Informs, Exports, Finding, IsEnough, IsLast, IsRefused, Lists, NamesAll, NamesNone, Answers, Waits, TakesFrame, Steps, Describes, Extends, Compares, IsDescribed, IsNoQuery, IsQueried, Queries, Seeks, SeeksFor, Walks, IsGiven, ReadsLong, SeeksHoles}
 
 -- Calls of one kind of pool, and Calls' of another. R: what stands between them, and goes on from call to call.
 module _ {D B : Type 0} (outline : D → Outline) (Calls : D → Call → Answer → D → Type 0) (outline' : B → Outline) (Calls' : B → Call → Answer → B → Type 0) (R : D → B → Type 0)
@@ -53,13 +53,15 @@ module _ {D B : Type 0} (outline : D → Outline) (Calls : D → Call → Answer
       let n = finding_likewise End End' ends (id + 1) ids h.0 new m.0 m.2 h.2 in
       (n.0, (m.0, m.1, n.1), n.2)
 
-  last_by : (b : Bool) (from : ℕ) (old new : D) (s : B) → R old s → MatchBool b (Calls old (NextId from) (Found None) new) (new ≡ old)
-      → Likewise (λ s'. MatchBool b (Calls' s (NextId from) (Found None) s') (s' ≡ s)) new
-  last_by true from old new s r h = call_follows old new s (NextId from) (Found None) r h
-  last_by false from old new s r h = resting (λ s'. s' ≡ s) old new s h r refl
+  last_by : (b : Bool) (limit from : ℕ) (old new : D) (s : B) → R old s → MatchBool b (FindsNone outline Calls limit from old new) (new ≡ old)
+      → Likewise (λ s'. MatchBool b (FindsNone outline' Calls' limit from s s') (s' ≡ s)) new
+  last_by true limit from old new s r h =
+      let m = call_follows old new s (NextId from) (Found h.found) r h.calls in
+      (m.0, record { found = h.found; behind = h.behind; calls = m.1 }, m.2)
+  last_by false limit from old new s r h = resting (λ s'. s' ≡ s) old new s h r refl
 
-  last_likewise : EndLikewise (IsLast outline Calls) (IsLast outline' Calls')
-  last_likewise from old new s r h = last_by (nat_lt from 16777216) from old new s r h
+  last_likewise : (limit : ℕ) → EndLikewise (IsLast outline Calls limit) (IsLast outline' Calls' limit)
+  last_likewise limit from old new s r h = last_by (nat_lt from limit) limit from old new s r h
 
   refused_likewise : EndLikewise (IsRefused outline Calls) (IsRefused outline' Calls')
   refused_likewise from old new s r h = let m = call_follows old new s (NextId from) (Refused h.0) r h.1 in (m.0, (h.0, m.1), m.2)
@@ -147,9 +149,110 @@ module _ {D B : Type 0} (outline : D → Outline) (Calls : D → Call → Answer
         n.2,
       )
 
+  -- ---- a clone that is made
+
+  gives_likewise : (id : ℕ) (old new : D) (s : B) → R old s → GivesUp outline Calls id old new → Likewise (GivesUp outline' Calls' id s) new
+  gives_likewise id old new s r h =
+      let m = call_follows old h.let_go s (LetGo id) Done r h.lets_go in
+      let n = call_follows h.let_go new m.0 (Delete id) h.answer m.2 h.deletes in
+      (n.0, record { let_go = m.0; lets_go = m.1; answer = h.answer; deletes = n.1 }, n.2)
+
+  clone_sized_likewise : (found : ℕ → Outcome) (id : ℕ) (answer : Answer) (old new : D) (s : B) (sent : List ℕ) (next : Phase) → R old s
+      → IsCloneSized outline Calls found id answer old sent next new → Likewise (IsCloneSized outline' Calls' found id answer s sent next) new
+  clone_sized_likewise found id (Sized blocks) old new s sent next r h = told_likewise (found blocks) old new s sent next r h
+  clone_sized_likewise found id (Refused reason) old new s sent next r h = let m = gives_likewise id old new s r h.2 in (m.0, (h.0, h.1, m.1), m.2)
+  clone_sized_likewise found id Done old new s sent next r h = absurd h
+  clone_sized_likewise found id (Gave sectors) old new s sent next r h = absurd h
+  clone_sized_likewise found id (Line bytes) old new s sent next r h = absurd h
+  clone_sized_likewise found id (Found least) old new s sent next r h = absurd h
+  clone_sized_likewise found id (Listed slots) old new s sent next r h = absurd h
+
+  clone_sizes_likewise : (found : ℕ → Outcome) (id : ℕ) (old new : D) (s : B) (sent : List ℕ) (next : Phase) → R old s
+      → SizesClone outline Calls found id old sent next new → Likewise (SizesClone outline' Calls' found id s sent next) new
+  clone_sizes_likewise found id old new s sent next r h =
+      let m = call_follows old h.asked s (VolumeBlocks id) h.answer r h.calls in
+      let n = clone_sized_likewise found id h.answer h.asked new m.0 sent next m.2 h.is_sized in
+      (n.0, record { answer = h.answer; asked = m.0; calls = m.1; is_sized = n.1 }, n.2)
+
+  deletes_likewise : (id : ℕ) (old new : D) (s : B) (sent : List ℕ) (next : Phase) → R old s → Deletes outline Calls id old sent next new → Likewise (Deletes outline' Calls' id s sent next) new
+  deletes_likewise id old new s sent next r h =
+      let m = call_follows old new s (Delete id) h.answer r h.calls in
+      (m.0, record { answer = h.answer; calls = m.1; sent_is = h.sent_is; next_is = h.next_is }, m.2)
+
+  clone_held_likewise : (found : ℕ → Outcome) (id : ℕ) (answer : Answer) (old new : D) (s : B) (sent : List ℕ) (next : Phase) → R old s
+      → IsCloneHeld outline Calls found id answer old sent next new → Likewise (IsCloneHeld outline' Calls' found id answer s sent next) new
+  clone_held_likewise found id Done old new s sent next r h = clone_sizes_likewise found id old new s sent next r h
+  clone_held_likewise found id (Refused reason) old new s sent next r h = deletes_likewise id old new s sent next r h
+  clone_held_likewise found id (Gave sectors) old new s sent next r h = absurd h
+  clone_held_likewise found id (Line bytes) old new s sent next r h = absurd h
+  clone_held_likewise found id (Found least) old new s sent next r h = absurd h
+  clone_held_likewise found id (Sized blocks) old new s sent next r h = absurd h
+  clone_held_likewise found id (Listed slots) old new s sent next r h = absurd h
+
+  clone_holds_likewise : (found : ℕ → Outcome) (id : ℕ) (old new : D) (s : B) (sent : List ℕ) (next : Phase) → R old s
+      → HoldsClone outline Calls found id old sent next new → Likewise (HoldsClone outline' Calls' found id s sent next) new
+  clone_holds_likewise found id old new s sent next r h =
+      let m = call_follows old h.held s (Hold id) h.answer r h.calls in
+      let n = clone_held_likewise found id h.answer h.held new m.0 sent next m.2 h.is_held in
+      (n.0, record { answer = h.answer; held = m.0; calls = m.1; is_held = n.1 }, n.2)
+
+  cloned_likewise : (o : VolumeOption) (found : ℕ → Outcome) (id : ℕ) (answer : Answer) (old new : D) (s : B) (sent : List ℕ) (next : Phase) → R old s
+      → IsCloned outline Calls o found id answer old sent next new → Likewise (IsCloned outline' Calls' o found id answer s sent next) new
+  cloned_likewise o found id Done old new s sent next r h = clone_holds_likewise found id old new s sent next r h
+  cloned_likewise o found id (Refused reason) old new s sent next r h = told_likewise (uncloned o reason) old new s sent next r h
+  cloned_likewise o found id (Gave sectors) old new s sent next r h = absurd h
+  cloned_likewise o found id (Line bytes) old new s sent next r h = absurd h
+  cloned_likewise o found id (Found least) old new s sent next r h = absurd h
+  cloned_likewise o found id (Sized blocks) old new s sent next r h = absurd h
+  cloned_likewise o found id (Listed slots) old new s sent next r h = absurd h
+
+  passes_likewise : (origin id n : ℕ) (old new : D) (s : B) → R old s → Passes outline Calls origin id n old new → Likewise (Passes outline' Calls' origin id n s) new
+  passes_likewise origin id zero old new s r h = resting (λ s'. s' ≡ s) old new s h r refl
+  passes_likewise origin id (suc n) old new s r h =
+      let m = call_follows old h.1 s (CreateSnap id origin) h.0 r h.3 in
+      let k = passes_likewise origin (id + 1) n h.1 new m.0 m.2 h.4 in
+      (k.0, (h.0, m.0, h.2, m.1, k.1), k.2)
+
+  snaps_likewise : (origin id : ℕ) (answer : Answer) (old new : D) (s : B) → R old s → Snaps outline Calls origin id answer old new → Likewise (Snaps outline' Calls' origin id answer s) new
+  snaps_likewise origin id answer old new s r h =
+      let m = passes_likewise origin 8388608 h.passed old h.tried s r h.passes in
+      let n = call_follows h.tried new m.0 (CreateSnap id origin) answer m.2 h.calls in
+      (n.0, record { passed = h.passed; few = h.few; id_is = h.id_is; tried = m.0; passes = m.1; calls = n.1; all = h.all }, n.2)
+
+  clones_likewise : (o : VolumeOption) (origin : ℕ) (old new : D) (s : B) (sent : List ℕ) (next : Phase) → R old s → Clones outline Calls o origin old sent next new → Likewise (Clones outline' Calls' o origin s sent next) new
+  clones_likewise o origin old new s sent next r h =
+      let seen : outline' s ≡ outline old = same old s r in
+      let m = snaps_likewise origin h.id h.answer old h.made s r h.snaps in
+      let n = cloned_likewise o (λ blocks. o.cloned origin h.id (bytes_of_blocks (outline old).geometry blocks) (transmission_flags (outline old))) h.id h.answer h.made new m.0 sent next m.2 h.is_cloned in
+      let P : Geometry → Type 0 = λ g. IsCloned outline' Calls' o (λ blocks. o.cloned origin h.id (bytes_of_blocks g blocks) (transmission_flags (outline' s))) h.id h.answer m.0 sent next n.0 in
+      let Q : Mode → Type 0 = λ k. IsCloned outline' Calls' o (λ blocks. o.cloned origin h.id (bytes_of_blocks (outline old).geometry blocks) (if is_read_only k then 0x6f else 0x6d)) h.id h.answer m.0 sent next n.0 in (
+        n.0,
+        record {
+          id = h.id;
+          answer = h.answer;
+          made = m.0;
+          snaps = m.1;
+          is_cloned = subst P (sym (ap (λ (p : Outline). p.geometry) seen)) (subst Q (sym (ap (λ (p : Outline). p.mode) seen)) n.1);
+        },
+        n.2,
+      )
+
+  clone_by : (b : Bool) (o : VolumeOption) (origin : ℕ) (old new : D) (s : B) (sent : List ℕ) (next : Phase) → R old s
+      → MatchBool b (Clones outline Calls o origin old sent next new) (AsksFor outline Calls (of_clone o origin) origin old sent next new)
+      → Likewise (λ s'. MatchBool b (Clones outline' Calls' o origin s sent next s') (AsksFor outline' Calls' (of_clone o origin) origin s sent next s')) new
+  clone_by true o origin old new s sent next r h = clones_likewise o origin old new s sent next r h
+  clone_by false o origin old new s sent next r h = asks_likewise (of_clone o origin) origin old new s sent next r h
+
   looks_likewise : (o : VolumeOption) (name : List ℕ) (old new : D) (s : B) (sent : List ℕ) (next : Phase) → R old s → LooksFor outline Calls o name old sent next new → Likewise (LooksFor outline' Calls' o name s sent next) new
-  looks_likewise o name old new s sent next r (inl h) = let m = told_likewise o.missing old new s sent next r h.tells in (m.0, inl (record { no_id = h.no_id; tells = m.1 }), m.2)
-  looks_likewise o name old new s sent next r (inr h) = let m = asks_likewise o h.id old new s sent next r h.asks in (m.0, inr (record { id = h.id; name_is = h.name_is; asks = m.1 }), m.2)
+  looks_likewise o name old new s sent next r (inl h) =
+      let m = told_likewise o.missing old new s sent next r h.tells in
+      (m.0, inl (record { no_id = h.no_id; no_clone = h.no_clone; tells = m.1 }), m.2)
+  looks_likewise o name old new s sent next r (inr (inl h)) =
+      let m = asks_likewise o h.id old new s sent next r h.asks in
+      (m.0, inr (inl (record { id = h.id; name_is = h.name_is; asks = m.1 })), m.2)
+  looks_likewise o name old new s sent next r (inr (inr h)) =
+      let m = clone_by o.holds o h.origin old new s sent next r h.asks in
+      (m.0, inr (inr (record { origin = h.origin; name_is = h.name_is; asks = m.1 })), m.2)
 
   -- and an older one before it
   sought_likewise : (o : ℕ → VolumeOption) (name : List ℕ) (id : ℕ) (answer : Answer) (old new : D) (s : B) (sent : List ℕ) (next : Phase) → R old s
@@ -168,7 +271,7 @@ module _ {D B : Type 0} (outline : D → Outline) (Calls : D → Call → Answer
   seeks_likewise o text name old new s sent next r (inr h) =
       let m = call_follows old h.looked s (NextId h.id) h.answer r h.calls in
       let n = sought_likewise o name h.id h.answer h.looked new m.0 sent next m.2 h.seeks in
-      (n.0, inr (record { id = h.id; text_is = h.text_is; answer = h.answer; looked = m.0; calls = m.1; seeks = n.1 }), n.2)
+      (n.0, inr (record { id = h.id; text_is = h.text_is; below = h.below; answer = h.answer; looked = m.0; calls = m.1; seeks = n.1 }), n.2)
 
   -- ---- what is told of a volume
 
@@ -238,10 +341,15 @@ module _ {D B : Type 0} (outline : D → Outline) (Calls : D → Call → Answer
     call_likewise : (call : Call) (answer : Answer) → Calls old call answer new → Likewise (Calls' s call answer) new
     call_likewise call answer h = call_follows old new s call answer is_shown h
 
+    let_go_by : (b : Bool) (v : ℕ) → MatchBool b (GivesUp outline Calls v old new) (Calls old (LetGo v) Done new)
+        → Likewise (λ s'. MatchBool b (GivesUp outline' Calls' v s s') (Calls' s (LetGo v) Done s')) new
+    let_go_by true v h = gives_likewise v old new s is_shown h
+    let_go_by false v h = call_likewise (LetGo v) Done h
+
     pub lets_go_likewise : (phase : Phase) → LetsGo outline Calls phase old new → Likewise (LetsGo outline' Calls' phase s) new
     lets_go_likewise (Flags a) h = resting _ old new s h is_shown refl
     lets_go_likewise (Options z) h = resting _ old new s h is_shown refl
-    lets_go_likewise (Transmission v n c) h = call_likewise (LetGo v) Done h
+    lets_go_likewise (Transmission v n c) h = let_go_by (manner_in c).is_clone v h
     lets_go_likewise Ended h = resting _ old new s h is_shown refl
 
     ends_likewise : (last : List ℕ) (phase next : Phase) (sent : List ℕ) → Ends outline Calls last phase old sent next new → Likewise (Ends outline' Calls' last phase s sent next) new
@@ -349,8 +457,9 @@ module _ {D B : Type 0} (outline : D → Outline) (Calls : D → Call → Answer
         → MatchBool b (NamesAll outline Calls z old sent next new ⊎ NamesNone outline Calls old sent next new) (Tells outline Calls (option_error OPTION_LIST Invalid z) old sent next new)
         → Likewise (λ s'. MatchBool b (NamesAll outline' Calls' z s sent next s' ⊎ NamesNone outline' Calls' s sent next s') (Tells outline' Calls' (option_error OPTION_LIST Invalid z) s sent next s')) new
     names_by true z sent next (inl h) =
-        let m = finding_likewise (IsLast outline Calls) (IsLast outline' Calls') last_likewise 0 h.ids old new s is_shown h.finding in
-        (m.0, inl (record { ids = h.ids; few = h.few; finding = m.1; sent_is = h.sent_is; next_is = h.next_is }), m.2)
+        let limit : ℕ = limit_of z.profile in
+        let m = finding_likewise (IsLast outline Calls limit) (IsLast outline' Calls' limit) (last_likewise limit) 0 h.ids old new s is_shown h.finding in
+        (m.0, inl (record { ids = h.ids; few = h.few; below = h.below; finding = m.1; sent_is = h.sent_is; next_is = h.next_is }), m.2)
     names_by true z sent next (inr h) = none h.finding where
       none : Finding outline Calls (IsRefused outline Calls) 0 h.ids old new ⊎ ((length h.ids ≡ 65537) × Finding outline Calls (IsEnough outline Calls) 0 h.ids old new)
           → Likewise (λ s'. NamesAll outline' Calls' z s sent next s' ⊎ NamesNone outline' Calls' s sent next s') new

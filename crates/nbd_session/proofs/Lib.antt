@@ -6,6 +6,7 @@ pub mod Stepping
 pub mod Following
 pub mod Counting
 pub mod Looking
+pub mod Cloning
 pub mod Advancing
 pub mod Talking
 pub mod Pieces

@@ -1,5 +1,5 @@
 -- What an option does that holds the volume it looks for, and one that asks since an older one, by what the calls for it told.
-use Rattle.std.proofs.Common.{◌≡◌, ℕ, Bool, true, false, List, inl, inr, sym, subst}
+use Rattle.std.proofs.Common.{◌≡◌, ℕ, ◌<◌, Bool, true, false, List, inl, inr, sym, subst}
 use Rattle.std.specs.Prelude.{Ok, Err, MatchBool, Some, if◌then◌else◌}
 use Rattle.tp_model.specs.declared.refusal.Refusal.{Refusal}
 use Rattle.tp_model.specs.Geometry.{Geometry}
@@ -43,16 +43,19 @@ module _ {S : Type 0} (outline : S → Outline) (Calls : S → Call → Answer �
         is_found o sent next looks (enters_held o.holds _ sent next h (takes (λ n. o.found id n (transmission_flags (outline p))) sent next out))
 
   -- an older volume that is asked since: what a query said names none, or one that is there, or one that is not; or it was refused to look for it
-  pub unsought : (text : List ℕ) (p : S) → ((id : ℕ) → IsNameOf text id → ⊥) → Sought outline Calls text (Ok 16777216) p p
-  unsought text p none o name sent next q looks = inl (record { no_id = none; looks = looks })
+  pub unsought : (limit : ℕ) (text : List ℕ) (p : S) → ((id : ℕ) → IsNameOf text id → id < limit → ⊥) → Sought outline Calls limit text (Ok 16777216) p p
+  unsought limit text p none o name sent next q same looks = inl (record { no_id = λ id named small. none id named (subst (λ (n : ℕ). id < n) same small); looks = looks })
 
-  pub sought : (there : Bool) (text : List ℕ) (id : ℕ) (p p' : S) → IsNameOf text id → LooksUp outline Calls id (Ok there) p p' → Sought outline Calls text (Ok (if there then id else 16777216)) p p'
-  sought there text id p p' is (least, found, calls) o name sent next q looks =
+  pub sought : (there : Bool) (limit : ℕ) (text : List ℕ) (id : ℕ) (p p' : S) → IsNameOf text id × (id < limit) → LooksUp outline Calls id (Ok there) p p'
+      → Sought outline Calls limit text (Ok (if there then id else 16777216)) p p'
+  sought there limit text id p p' is (least, found, calls) o name sent next q same looks =
       let P : Bool → Type 0 = λ b. LooksFor outline Calls (o (if b then id else 16777216)) name p' sent next q in
-      inr (record { id = id; text_is = is; answer = Found least; looked = p'; calls = calls; seeks = subst P found looks })
+      inr (record { id = id; text_is = is.0; below = subst (λ (n : ℕ). id < n) (sym same) is.1; answer = Found least; looked = p'; calls = calls; seeks = subst P found looks })
 
-  pub sought_refused : (text : List ℕ) (id : ℕ) (p p' : S) (reason : Refusal) → IsNameOf text id → LooksUp outline Calls id (Err reason) p p' → Sought outline Calls text (Err reason) p p'
-  sought_refused text id p p' reason is calls o name sent next q tells = inr (record { id = id; text_is = is; answer = Refused reason; looked = p'; calls = calls; seeks = tells })
+  pub sought_refused : (limit : ℕ) (text : List ℕ) (id : ℕ) (p p' : S) (reason : Refusal) → IsNameOf text id × (id < limit) → LooksUp outline Calls id (Err reason) p p'
+      → Sought outline Calls limit text (Err reason) p p'
+  sought_refused limit text id p p' reason is calls o name sent next q same tells =
+      inr (record { id = id; text_is = is.0; below = subst (λ (n : ℕ). id < n) (sym same) is.1; answer = Refused reason; looked = p'; calls = calls; seeks = tells })
 
   -- an option with queries, by what was read of them
   pub queried : (asks : List (List ℕ) → Bool) (o : Bool → ℕ → VolumeOption) (payload name text : List ℕ) (b : Bool) (queries : List (List ℕ)) (p p' : S) (sent : List ℕ) (next : Phase)

@@ -8,12 +8,11 @@ use Rattle.tp_model.specs.Clauses.{Continues, HasTrace, PoolCall, Traced, Traced
 use Rattle.nbd_wire.specs.Grammar.{Message, client_flags, client_option, command, malformed, payload_len, IsPartial}
 use Rattle.nbd_session.specs.declared.phase.Course.{Course}
 use Rattle.nbd_session.specs.declared.phase.Course.TheVariants.{Listens, Works}
-use Rattle.nbd_session.specs.declared.phase.Manner.{Manner}
 use Rattle.nbd_session.specs.declared.phase.Phase.{Phase}
 use Rattle.nbd_session.specs.declared.phase.Phase.TheVariants.{Flags, Options, Transmission, Ended}
 use Rattle.nbd_session.specs.declared.phase.Terms.{Terms}
 use Rattle.nbd_session.specs.Requests.{known_bytes}
-use Rattle.nbd_session.specs.Session.{State, kind_of, has_ended, is_at_work, is_extended, left_in, manner_of, terms_of, LetsGo, Steps}
+use Rattle.nbd_session.specs.Session.{State, clone_manner, kind_of, has_clones, has_ended, is_at_work, is_extended, left_in, manner_in, manner_of, terms_of, LetsGo, Steps}
 use Rattle.nbd_session.specs.Talk.{Converses}
 
 -- a frame that may come in the phase
@@ -51,11 +50,6 @@ abbrev pub held_beside : Phase → FinMap nat_cmp ℕ → ℕ → ℕ
 held_beside (Transmission volume size course) holds id = if volume == id then hold_count holds id - 1 else hold_count holds id
 held_beside phase holds id = hold_count holds id
 
--- how it takes and answers requests
-abbrev pub manner_in : Course → Manner
-manner_in (Listens manner) = manner
-manner_in (Works manner rest) = manner
-
 -- Options of an extended session may change what is asked for beside the volume, and nothing else; structured replies stay asked for. Those of a strict one
 -- change nothing.
 pub record GoesBeyond (old new : Terms) : Type 0 where
@@ -64,12 +58,18 @@ pub record GoesBeyond (old new : Terms) : Type 0 where
   pub strict : is_extended old.profile ≡ false → new ≡ old
   pub structured : old.is_structured ≡ true → new.is_structured ≡ true
 
+-- Transmission begins with a volume, or, where there are clones, with a clone of one. Its id is one of the 64 that clones have, and no name.
+abbrev pub BeginsWith : Terms → ℕ → Course → Type 0
+BeginsWith terms volume course =
+    (course ≡ Listens (manner_of terms volume))
+    ⊎ ((origin : ℕ) × (has_clones terms.profile ≡ true) × (8388608 ≤ volume) × (volume < 8388672) × (course ≡ Listens (clone_manner terms origin)))
+
 -- Where a session may go by one frame, or one part of a request: it keeps its profile and its flags, and its volume with its size and its manner.
 abbrev pub Follows : Phase → Phase → Type 0
 Follows (Flags profile) (Flags same) = profile ≡ same
 Follows (Flags profile) (Options terms) = terms ≡ terms_of profile terms.no_zeroes
 Follows (Options terms) (Options same) = GoesBeyond terms same
-Follows (Options terms) (Transmission volume size course) = course ≡ Listens (manner_of terms volume)
+Follows (Options terms) (Transmission volume size course) = BeginsWith terms volume course
 Follows (Transmission volume size course) (Transmission same also next) = (volume ≡ same) × (size ≡ also) × (manner_in course ≡ manner_in next)
 Follows phase Ended = Unit {0}
 Follows phase _ = ⊥
@@ -100,9 +100,10 @@ module _ {D : Type 0} (view : View D) where
     pub more : (id : ℕ) → 0 < held_beside old (view.outline pool).holds id → view.more after id ≡ view.more pool id
 
   -- One step. What is sent is the answer to the frame that ends in what was taken, as the pool answered the calls that the frame makes of it:
-  -- those of NextId for LIST, one of NextId, Hold and VolumeBlocks each at most for another option (two of NextId where it names an older volume), two of Walk at most
-  -- for BLOCK_STATUS, one at most for another frame, and Walk behind Read for a long READ in chunks. One of LetGo may be the last, where the session ends. A session that has
-  -- parts of a request left makes one, and takes nothing.
+  -- those of NextId for LIST, one of NextId, Hold and VolumeBlocks each at most for another option (two of NextId where it names an older volume; for one that makes a clone up to
+  -- 64 of CreateSnap in the place of NextId), two of Walk at most
+  -- for BLOCK_STATUS, one at most for another frame, and Walk behind Read for a long READ in chunks. One of LetGo may be the last, where the session ends, and behind that one of Delete
+  -- where it had a clone. A session that has parts of a request left makes one, and takes nothing.
   pub record Advances (old : State) (pool : D) (piece : List ℕ) (taken : ℕ) (sent : List ℕ) (ended : Bool) (new : State) (after : D) : Type 0 where
     pub steps : Steps view.outline (PoolCall view) old pool piece taken sent ended new after
     pub traced : GoesWithTrace pool after (λ t t'. Steps outline_of_traced (TracedCall view.has_use) old t piece taken sent ended new t')
@@ -119,7 +120,7 @@ module _ {D : Type 0} (view : View D) where
     pub geometry : (view.outline after).geometry ≡ (view.outline pool).geometry
     pub more : KeepsSizes pool after
 
-  -- A session ends in some phase: its volume is let go, and nothing else is done.
+  -- A session ends in some phase: its volume is let go, deleted where it is a clone, and nothing else is done.
   pub record Leaves (phase : Phase) (pool : D) (after : D) : Type 0 where
     pub lets_go : LetsGo view.outline (PoolCall view) phase pool after
     pub traced : GoesWithTrace pool after (λ t t'. LetsGo outline_of_traced (TracedCall view.has_use) phase t t')

@@ -1,14 +1,14 @@
--- Internal: what the calls that look for a volume told.
-use Rattle.std.specs.Prelude.{◌≡◌, ℕ, Bool, true, List, [], Option, Result, MatchResult}
+-- Internal: what the calls that look for a volume told, or make a clone.
+use Rattle.std.specs.Prelude.{◌≡◌, ℕ, ◌+◌, Bool, true, List, [], Option, Result, MatchResult}
 use Rattle.std.specs.Option.{option_map_or}
 use Rattle.tp_model.specs.declared.refusal.Refusal.{Refusal}
 use Rattle.tp_model.specs.Geometry.{Geometry}
 use Rattle.tp_model.specs.Pool.{Outline}
-use Rattle.tp_model.specs.Calls.{Answer, Call, Found, NextId, Refused, Sized, VolumeBlocks}
+use Rattle.tp_model.specs.Calls.{Answer, Call, CreateSnap, Done, Found, NextId, Refused, Sized, VolumeBlocks}
 use Rattle.nbd_session.specs.declared.phase.Phase.{Phase}
 use Rattle.nbd_session.specs.declared.phase.Phase.TheVariants.{Ended}
 use Rattle.nbd_session.specs.Requests.{bytes_of_blocks}
-use Rattle.nbd_session.specs.Session.{AsksFor, Holds, IsOutcome, LooksFor, Outcome, SeeksFor, Sizes, Tells, VolumeOption, is_there, outcome, transmission_flags}
+use Rattle.nbd_session.specs.Session.{AsksFor, Holds, HoldsClone, IsOutcome, LooksFor, Outcome, SeeksFor, Sizes, SizesClone, Tells, VolumeOption, is_there, outcome, transmission_flags}
 
 -- what is done where a size was told, and where it was refused
 abbrev pub AnswersSize : (ℕ → Outcome) → Result ℕ Refusal → List ℕ → Phase → Type 0
@@ -41,6 +41,25 @@ module _ {S : Type 0} (outline : S → Outline) (Calls : S → Call → Answer �
       (found : ℕ → Outcome) (sent : List ℕ) (next : Phase) → AnswersSize found result sent next
       → Holds outline Calls (λ blocks. found (bytes_of_blocks g blocks)) id p sent next p'
 
+  -- the same of a clone that is held, and given up where that is refused
+  abbrev pub TakesClone : Geometry → ℕ → Result ℕ Refusal → S → S → Type 0
+  TakesClone g id result p p' =
+      (found : ℕ → Outcome) (sent : List ℕ) (next : Phase) → AnswersSize found result sent next
+      → SizesClone outline Calls (λ blocks. found (bytes_of_blocks g blocks)) id p sent next p'
+
+  -- the same of one that was made, and is held from now on
+  abbrev pub TakesHoldOfClone : Geometry → ℕ → Result ℕ Refusal → S → S → Type 0
+  TakesHoldOfClone g id result p p' =
+      (found : ℕ → Outcome) (sent : List ℕ) (next : Phase) → AnswersSize found result sent next
+      → HoldsClone outline Calls (λ blocks. found (bytes_of_blocks g blocks)) id p sent next p'
+
+  -- A snapshot of a volume was asked for under the id that comes so many behind the first one of clones.
+  abbrev pub Tries : ℕ → ℕ → Result ℕ Refusal → S → S → Type 0
+  Tries origin passed result p p' =
+      MatchResult result
+      (λ id. (id ≡ 8388608 + passed) × Calls p (CreateSnap (8388608 + passed) origin) Done p')
+      (λ reason. Calls p (CreateSnap (8388608 + passed) origin) (Refused reason) p')
+
   -- Whether the volume is there, and its size, as what an option does that holds it, or that does not.
   abbrev pub Learns : Bool → ℕ → Result (Option ℕ) Refusal → S → S → Type 0
   Learns holds id result p p' =
@@ -51,8 +70,8 @@ module _ {S : Type 0} (outline : S → Outline) (Calls : S → Call → Answer �
       → AsksFor outline Calls o id p sent next p'
 
   -- Whether the older volume that a query names is there: its id then, and else a number that is none, as what an option does that asks since it.
-  abbrev pub Sought : List ℕ → Result ℕ Refusal → S → S → Type 0
-  Sought text result p p' =
-      (o : ℕ → VolumeOption) (name sent : List ℕ) (next : Phase) (q : S)
+  abbrev pub Sought : ℕ → List ℕ → Result ℕ Refusal → S → S → Type 0
+  Sought limit text result p p' =
+      (o : ℕ → VolumeOption) (name sent : List ℕ) (next : Phase) (q : S) → (o 16777216).limit ≡ limit
       → MatchResult result (λ since. LooksFor outline Calls (o since) name p' sent next q) (λ reason. Tells outline Calls (outcome [] Ended) p' sent next q)
       → SeeksFor outline Calls o text name p sent next q

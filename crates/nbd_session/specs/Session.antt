@@ -1,32 +1,34 @@
 -- Trusted reading: what a session answers to one frame, and to one piece of what its client sends (NBD's proto.md, "Option types",
 -- "Request types", "Terminating the transmission phase"; the choices that it leaves are own).
-use Rattle.std.specs.Prelude.{◌≡◌, ℕ, ◌/◌, ◌<◌, ◌≤◌, Bool, true, false, ◌&&◌, List, [], ◌∷◌, ◌+◌, ◌++◌, length, take, nat_le, nat_lt, Option, Some, None, MatchOption, MatchBool, ◌==◌, if◌then◌else◌, ◌⊎◌}
+use Rattle.std.specs.Prelude.{◌≡◌, ℕ, zero, suc, ◌/◌, ◌<◌, ◌≤◌, Bool, true, false, ◌&&◌, List, [], ◌∷◌, ◌+◌, ◌++◌, All, bytes_eq, codes, length, take, drop, nat_le, nat_lt, Option, Some, None, MatchOption, MatchBool, ◌==◌, if◌then◌else◌, ◌⊎◌}
 use Rattle.std.specs.List.{concat, flat_map}
 use Rattle.std.specs.Fmt.{decimal}
 use Rattle.tp_model.specs.declared.refusal.NbdError.{NbdError}
 use Rattle.tp_model.specs.declared.refusal.NbdError.TheVariants as errors
 use Rattle.tp_model.specs.declared.refusal.Refusal.{Refusal}
+use Rattle.tp_model.specs.declared.refusal.Refusal.TheVariants as refusals
 use Rattle.tp_model.specs.Refusals.{nbd_code, nbd_error}
 use Rattle.tp_model.specs.Requests.{is_flush}
 use Rattle.tp_model.specs.Sectors.{sectors_of}
 use Rattle.tp_model.specs.Pool.{Outline}
-use Rattle.tp_model.specs.Calls.{Call, Answer, Done, Gave, Line, Found, Refused, Sized, Listed, Hold, LetGo, NextId, VolumeBlocks, Read, Write, Trim, Walk, WriteZeroes, Flush, is_failed, is_read_only}
+use Rattle.tp_model.specs.Calls.{Call, Answer, Done, Gave, Line, Found, Refused, Sized, Listed, CreateSnap, Delete, Hold, LetGo, NextId, VolumeBlocks, Read, Write, Trim, Walk, WriteZeroes, Flush, is_failed, is_read_only}
 use Rattle.nbd_wire.specs.declared.Kind.{Kind}
 use Rattle.nbd_wire.specs.declared.Kind.TheVariants as kinds
 use Rattle.nbd_wire.specs.declared.Request.{Request}
 use Rattle.nbd_wire.specs.declared.TheConstants.{OPTION_ABORT, OPTION_EXPORT_NAME, OPTION_GO, OPTION_INFO, OPTION_LIST, OPTION_LIST_META_CONTEXT, OPTION_SET_META_CONTEXT, OPTION_STRUCTURED_REPLY, ALLOCATION_CONTEXT, SINCE_CONTEXT}
 use Rattle.nbd_wire.specs.declared.writing.ReplyType.{ReplyType}
-use Rattle.nbd_wire.specs.declared.writing.ReplyType.TheVariants.{Acknowledged, Context, Server, Information, Unsupported, Invalid, Unknown}
+use Rattle.nbd_wire.specs.declared.writing.ReplyType.TheVariants.{Acknowledged, Context, Server, Information, Unsupported, Policy, Invalid, Unknown}
 use Rattle.nbd_wire.specs.Chunks.{data_chunk, done_chunk, error_chunk}
 use Rattle.nbd_wire.specs.Contexts.{IsQuery, allocation, asks_for, context_data, lists, since_name, since_of}
 use Rattle.nbd_wire.specs.Grammar.{Message, client_flags, client_option, command, malformed, IsFrame, IsPartial}
 use Rattle.nbd_wire.specs.Replies.{simple_reply, option_reply, export_info, export_reply, block_size_info, server_data, IsInfo}
+use Rattle.nbd_session.specs.declared.phase.Course.{Course}
 use Rattle.nbd_session.specs.declared.phase.Course.TheVariants.{Listens, Works}
 use Rattle.nbd_session.specs.declared.phase.Manner.{Manner}
 use Rattle.nbd_session.specs.declared.phase.Phase.{Phase}
 use Rattle.nbd_session.specs.declared.phase.Phase.TheVariants.{Flags, Options, Transmission, Ended}
 use Rattle.nbd_session.specs.declared.phase.Profile.{Profile}
-use Rattle.nbd_session.specs.declared.phase.Profile.TheVariants.{Strict, Extended, WithDefault}
+use Rattle.nbd_session.specs.declared.phase.Profile.TheVariants.{Strict, Extended, WithDefault, Cloning}
 use Rattle.nbd_session.specs.declared.phase.Terms.{Terms}
 use Rattle.nbd_session.specs.declared.request.Verdict.{Verdict}
 use Rattle.nbd_session.specs.declared.request.Verdict.TheVariants as verdicts
@@ -88,6 +90,11 @@ left_in (Transmission volume size (Listens manner)) = 0
 left_in (Transmission volume size (Works manner rest)) = rest.len
 left_in Ended = 0
 
+-- how it takes and answers requests
+abbrev pub manner_in : Course → Manner
+manner_in (Listens manner) = manner
+manner_in (Works manner rest) = manner
+
 -- ---- what is offered
 
 abbrev pub terms_of : Profile → Bool → Terms
@@ -110,32 +117,73 @@ abbrev pub is_extended : Profile → Bool
 is_extended Strict = false
 is_extended Extended = true
 is_extended (WithDefault volume) = true
+is_extended (Cloning volume) = true
+
+-- a client may have a clone of a volume
+abbrev pub has_clones : Profile → Bool
+has_clones Strict = false
+has_clones Extended = false
+has_clones (WithDefault volume) = false
+has_clones (Cloning volume) = true
+
+-- The first number that names no volume. Where there are clones, ids from 8388608 on are theirs, and nobody names or lists one.
+abbrev pub limit_of : Profile → ℕ
+limit_of Strict = 16777216
+limit_of Extended = 16777216
+limit_of (WithDefault volume) = 16777216
+limit_of (Cloning volume) = 8388608
+
+-- a number, if there is one and it is below the limit
+abbrev pub below : ℕ → Option ℕ → Option ℕ
+below limit None = None
+below limit (Some id) = if nat_lt id limit then Some id else None
 
 -- the volume of the empty name, if there is one
 abbrev pub default_of : Profile → Option ℕ
 default_of Strict = None
 default_of Extended = None
 default_of (WithDefault volume) = if nat_lt volume 16777216 then Some volume else None
+default_of (Cloning volume) = if nat_lt volume 8388608 then Some volume else None
 
 -- A session that is extended tells CAN_MULTI_CONN too, and one that answers READs in chunks SEND_DF.
 abbrev pub flags_in : Terms → ℕ → ℕ
 flags_in terms flags = (if is_extended terms.profile then 0x100 else 0) + ((if terms.is_structured then 0x80 else 0) + flags)
 
--- the contexts that were asked for are those of this volume
+-- A clone is that of one connection, so of one CAN_MULTI_CONN is not told.
+abbrev pub clone_flags : Terms → ℕ → ℕ
+clone_flags terms flags = (if terms.is_structured then 0x80 else 0) + flags
+
+-- the contexts that were asked for are those of this number
 abbrev pub is_told_of : Terms → ℕ → Bool
 is_told_of terms id = terms.is_structured && terms.context == id
 
-abbrev pub manner_of : Terms → ℕ → Manner
-manner_of terms id = record {
+-- how requests are taken and answered of a volume, or a clone, of which contexts are asked for by this number
+abbrev pub manner_by : Terms → ℕ → Bool → Manner
+manner_by terms number is_clone = record {
   is_extended = is_extended terms.profile;
   is_structured = terms.is_structured;
-  tells_blocks = is_told_of terms id && terms.tells_blocks;
-  since = if is_told_of terms id then terms.since else 16777216;
+  tells_blocks = is_told_of terms number && terms.tells_blocks;
+  since = if is_told_of terms number then terms.since else 16777216;
+  is_clone = is_clone;
 }
 
--- transmission begins so
+abbrev pub manner_of : Terms → ℕ → Manner
+manner_of terms id = manner_by terms id false
+
+-- the number by which contexts are asked for of the clones of a volume: that of none
+abbrev pub clone_context : ℕ → ℕ
+clone_context origin = 16777217 + origin
+
+-- that of a clone of a volume
+abbrev pub clone_manner : Terms → ℕ → Manner
+clone_manner terms origin = manner_by terms (clone_context origin) true
+
+-- transmission begins so, and so that of a clone
 abbrev pub begun : Terms → ℕ → ℕ → Phase
 begun terms id size = Transmission id size (Listens (manner_of terms id))
+
+abbrev pub begun_clone : Terms → ℕ → ℕ → ℕ → Phase
+begun_clone terms origin id size = Transmission id size (Listens (clone_manner terms origin))
 
 -- ---- what is sent
 
@@ -184,9 +232,16 @@ list_reply ids = flat_map name_reply ids ++ option_reply OPTION_LIST Acknowledge
 abbrev pub IsNameOf : List ℕ → ℕ → Type 0
 IsNameOf name id = (id < 16777216) × (name ≡ decimal id)
 
--- A name means the volume of an id: it is that id, or it is empty, and the id is the default.
-abbrev pub Means : Option ℕ → List ℕ → ℕ → Type 0
-Means default name id = IsNameOf name id ⊎ ((name ≡ []) × (default ≡ Some id))
+-- A name means the volume of an id: it is that id, which is below the limit, or it is empty, and the id is the default.
+abbrev pub Means : Option ℕ → ℕ → List ℕ → ℕ → Type 0
+Means default limit name id = (IsNameOf name id × (id < limit)) ⊎ ((name ≡ []) × (default ≡ Some id))
+
+-- It means a clone of a volume, where there are clones: behind "clone:" it is the id of that volume, which is none itself.
+abbrev pub clone_prefix : List ℕ
+clone_prefix = codes "clone:"
+
+abbrev pub MeansClone : Bool → List ℕ → ℕ → Type 0
+MeansClone clones name origin = (clones ≡ true) × (bytes_eq (take 6 name) clone_prefix ≡ true) × IsNameOf (drop 6 name) origin × (origin < 8388608)
 
 -- whether a volume is there, by the least id of a volume from its own on
 abbrev pub is_there : ℕ → Option ℕ → Bool
@@ -217,26 +272,57 @@ structures terms payload =
 -- what an option does that looks for a volume
 pub record VolumeOption : Type 0 where
   pub default : Option ℕ  -- the volume of the empty name
+  pub limit : ℕ  -- the first number that names none
+  pub clones : Bool  -- whether names may mean clones
   pub holds : Bool  -- whether the volume is to be held where it is there
   pub found : ℕ → ℕ → ℕ → Outcome  -- what is done then, by its id, its size in bytes and the transmission flags
+  pub cloned : ℕ → ℕ → ℕ → ℕ → Outcome  -- what is done of a clone, by the id of its origin, its own id, its size in bytes and the transmission flags
   pub missing : Outcome  -- what is done where it is not there, or the name means none
+  pub refused : Outcome  -- what is done where it is there, and no clone of it is made
+
+-- Of a clone that is not made an option does what it does of the volume itself, but that it tells of a clone.
+abbrev pub of_clone : VolumeOption → ℕ → VolumeOption
+of_clone o origin = record o { found = o.cloned origin }
+
+-- why no clone was made: there is no such volume, or the pool or its disk has failed
+abbrev pub is_of_none : Refusal → Bool
+is_of_none refusals.NoSuchDevice = true
+is_of_none reason = false
+
+abbrev pub is_of_failure : Refusal → Bool
+is_of_failure refusals.Failed = true
+is_of_failure refusals.Fault = true
+is_of_failure refusals.Damaged = true
+is_of_failure reason = false
+
+-- what is done then: for any other reason a clone is not allowed
+abbrev pub uncloned : VolumeOption → Refusal → Outcome
+uncloned o reason = if is_of_none reason then o.missing else (if is_of_failure reason then outcome [] Ended else o.refused)
 
 -- GO holds the volume, tells of it and enters transmission.
 abbrev pub go : Terms → VolumeOption
 go terms = record {
   default = default_of terms.profile;
+  limit = limit_of terms.profile;
+  clones = has_clones terms.profile;
   holds = true;
   found = λ id size flags. outcome (info_reply OPTION_GO size (flags_in terms flags)) (begun terms id size);
+  cloned = λ origin id size flags. outcome (info_reply OPTION_GO size (clone_flags terms flags)) (begun_clone terms origin id size);
   missing = option_error OPTION_GO Unknown terms;
+  refused = option_error OPTION_GO Policy terms;
 }
 
 -- INFO tells the same and holds nothing. Other options may follow it.
 abbrev pub info : Terms → VolumeOption
 info terms = record {
   default = default_of terms.profile;
+  limit = limit_of terms.profile;
+  clones = has_clones terms.profile;
   holds = false;
   found = λ id size flags. outcome (info_reply OPTION_INFO size (flags_in terms flags)) (Options terms);
+  cloned = λ origin id size flags. outcome (info_reply OPTION_INFO size (clone_flags terms flags)) (Options terms);
   missing = option_error OPTION_INFO Unknown terms;
+  refused = option_error OPTION_INFO Policy terms;
 }
 
 -- the reply that tells base:allocation under a number, where it is asked for, and the one that tells since which older volume, where that is an id
@@ -254,18 +340,27 @@ context_reply option first second is_asked since = allocation_reply option first
 abbrev pub list_context : Terms → Bool → ℕ → VolumeOption
 list_context terms is_listed since = record {
   default = default_of terms.profile;
+  limit = limit_of terms.profile;
+  clones = has_clones terms.profile;
   holds = false;
   found = λ id size flags. outcome (context_reply OPTION_LIST_META_CONTEXT 0 0 is_listed since) (Options terms);
+  cloned = λ origin id size flags. outcome (context_reply OPTION_LIST_META_CONTEXT 0 0 is_listed since) (Options terms);
   missing = option_error OPTION_LIST_META_CONTEXT Unknown terms;
+  refused = option_error OPTION_LIST_META_CONTEXT Policy terms;
 }
 
 -- SET_META_CONTEXT has the volume told of in the contexts that are asked for by their names, in place of what was asked for before: also where it fails.
 abbrev pub set_context : Terms → Bool → ℕ → VolumeOption
 set_context terms is_asked since = record {
   default = default_of terms.profile;
+  limit = limit_of terms.profile;
+  clones = has_clones terms.profile;
   holds = false;
   found = λ id size flags. outcome (context_reply OPTION_SET_META_CONTEXT ALLOCATION_CONTEXT SINCE_CONTEXT is_asked since) (Options (in_context terms id is_asked since));
+  cloned = λ origin id size flags.
+      outcome (context_reply OPTION_SET_META_CONTEXT ALLOCATION_CONTEXT SINCE_CONTEXT is_asked since) (Options (in_context terms (clone_context origin) is_asked since));
   missing = option_error OPTION_SET_META_CONTEXT Unknown (without_context terms);
+  refused = option_error OPTION_SET_META_CONTEXT Policy (without_context terms);
 }
 
 -- EXPORT_NAME holds the volume, tells its size and the flags, and enters transmission. It has no errors: a name that is
@@ -273,9 +368,13 @@ set_context terms is_asked since = record {
 abbrev pub export_name : Terms → VolumeOption
 export_name terms = record {
   default = default_of terms.profile;
+  limit = limit_of terms.profile;
+  clones = has_clones terms.profile;
   holds = true;
   found = λ id size flags. outcome (export_reply size (flags_in terms flags) terms.no_zeroes) (begun terms id size);
+  cloned = λ origin id size flags. outcome (export_reply size (clone_flags terms flags) terms.no_zeroes) (begun_clone terms origin id size);
   missing = outcome [] Ended;
+  refused = outcome [] Ended;
 }
 
 -- The next part of a request was made, and answered so: where that part is done and others are left, the session goes on with these, and else the
@@ -292,6 +391,20 @@ IsCompared manner unit r slots (Listed old) sent = TellsSince manner.tells_block
 IsCompared manner unit r slots (Refused reason) sent = sent ≡ error_chunk (nbd_code (nbd_error reason)) r.cookie
 IsCompared manner unit r slots answer sent = ⊥
 
+-- a volume has the id under which a snapshot was asked for
+abbrev pub is_of_other : Refusal → Bool
+is_of_other refusals.Exists = true
+is_of_other reason = false
+
+abbrev pub is_taken : Answer → Bool
+is_taken (Refused reason) = is_of_other reason
+is_taken answer = false
+
+-- no volume was found below this number
+abbrev pub IsBehind : ℕ → Option ℕ → Type 0
+IsBehind limit None = Unit {0}
+IsBehind limit (Some id) = limit ≤ id
+
 -- what a walk over a volume told for the bytes of a READ: where it is refused, they are sent as they are
 abbrev pub IsReadWith : ℕ → Request → List ℕ → Answer → List ℕ → Type 0
 IsReadWith unit r given (Listed slots) sent = IsHoled unit r given slots sent
@@ -304,11 +417,18 @@ module _ {S : Type 0} (outline : S → Outline) (Calls : S → Call → Answer �
   abbrev pub Tells : Outcome → S → List ℕ → Phase → S → Type 0
   Tells o p sent next p' = (sent ≡ o.sent) × (next ≡ o.next) × (p' ≡ p)
 
-  -- the end of a session lets its volume go
+  -- A clone is let go, and then the pool is asked to delete it. Nobody is told what it answers.
+  pub record GivesUp (id : ℕ) (p p' : S) : Type 0 where
+    pub let_go : S
+    pub lets_go : Calls p (LetGo id) Done let_go
+    pub answer : Answer
+    pub deletes : Calls let_go (Delete id) answer p'
+
+  -- the end of a session lets its volume go; where that is a clone it is deleted too
   abbrev pub LetsGo : Phase → S → S → Type 0
   LetsGo (Flags profile) p p' = p' ≡ p
   LetsGo (Options terms) p p' = p' ≡ p
-  LetsGo (Transmission volume size course) p p' = Calls p (LetGo volume) Done p'
+  LetsGo (Transmission volume size course) p p' = MatchBool (manner_in course).is_clone (GivesUp volume p p') (Calls p (LetGo volume) Done p')
   LetsGo Ended p p' = p' ≡ p
 
   -- the session ends, and these are its last bytes
@@ -454,20 +574,90 @@ module _ {S : Type 0} (outline : S → Outline) (Calls : S → Call → Answer �
     pub calls : Calls p (NextId id) answer looked
     pub finds : Finds o (λ blocks. o.found id (bytes_of_blocks (outline p).geometry blocks) (transmission_flags (outline p))) id answer looked sent next p'
 
-  -- an option with a name that means no volume
+  -- ---- a clone that is made
+
+  -- The pool was asked how many blocks a clone has that is held. A refusal ends the session, and the clone is given up.
+  abbrev pub IsCloneSized : (ℕ → Outcome) → ℕ → Answer → S → List ℕ → Phase → S → Type 0
+  IsCloneSized found id (Sized blocks) p sent next p' = Tells (found blocks) p sent next p'
+  IsCloneSized found id (Refused reason) p sent next p' = (sent ≡ []) × (next ≡ Ended) × GivesUp id p p'
+  IsCloneSized found id answer p sent next p' = ⊥
+
+  -- its size is to be told
+  pub record SizesClone (found : ℕ → Outcome) (id : ℕ) (p : S) (sent : List ℕ) (next : Phase) (p' : S) : Type 0 where
+    pub answer : Answer
+    pub asked : S
+    pub calls : Calls p (VolumeBlocks id) answer asked
+    pub is_sized : IsCloneSized found id answer asked sent next p'
+
+  -- it cannot be held: it is deleted, and the session ends
+  pub record Deletes (id : ℕ) (p : S) (sent : List ℕ) (next : Phase) (p' : S) : Type 0 where
+    pub answer : Answer
+    pub calls : Calls p (Delete id) answer p'
+    pub sent_is : sent ≡ []
+    pub next_is : next ≡ Ended
+
+  abbrev pub IsCloneHeld : (ℕ → Outcome) → ℕ → Answer → S → List ℕ → Phase → S → Type 0
+  IsCloneHeld found id Done p sent next p' = SizesClone found id p sent next p'
+  IsCloneHeld found id (Refused reason) p sent next p' = Deletes id p sent next p'
+  IsCloneHeld found id answer p sent next p' = ⊥
+
+  -- a clone that was made is held
+  pub record HoldsClone (found : ℕ → Outcome) (id : ℕ) (p : S) (sent : List ℕ) (next : Phase) (p' : S) : Type 0 where
+    pub answer : Answer
+    pub held : S
+    pub calls : Calls p (Hold id) answer held
+    pub is_held : IsCloneHeld found id answer held sent next p'
+
+  -- The pool was asked for a snapshot under this id, and answered so.
+  abbrev pub IsCloned : VolumeOption → (ℕ → Outcome) → ℕ → Answer → S → List ℕ → Phase → S → Type 0
+  IsCloned o found id Done p sent next p' = HoldsClone found id p sent next p'
+  IsCloned o found id (Refused reason) p sent next p' = Tells (uncloned o reason) p sent next p'
+  IsCloned o found id answer p sent next p' = ⊥
+
+  -- Volumes have so many ids from this one on: the pool was asked for a snapshot under each, one behind the other, and answered so.
+  abbrev pub Passes : ℕ → ℕ → ℕ → S → S → Type 0
+  Passes origin id zero p p' = p' ≡ p
+  Passes origin id (suc n) p p' = (answer : Answer) × (q : S) × (is_taken answer ≡ true) × Calls p (CreateSnap id origin) answer q × Passes origin (id + 1) n q p'
+
+  -- The pool was asked for a snapshot of a volume under the least id from 8388608 on that no volume has, and answered so. 64 are tried, since no more sessions have a clone.
+  pub record Snaps (origin id : ℕ) (answer : Answer) (p p' : S) : Type 0 where
+    pub passed : ℕ
+    pub few : passed < 64
+    pub id_is : id ≡ 8388608 + passed
+    pub tried : S
+    pub passes : Passes origin 8388608 passed p tried
+    pub calls : Calls tried (CreateSnap id origin) answer p'
+    pub all : is_taken answer ≡ true → passed ≡ 63
+
+  -- a clone of a volume is to be made
+  pub record Clones (o : VolumeOption) (origin : ℕ) (p : S) (sent : List ℕ) (next : Phase) (p' : S) : Type 0 where
+    pub id : ℕ
+    pub answer : Answer
+    pub made : S
+    pub snaps : Snaps origin id answer p made
+    pub is_cloned : IsCloned o (λ blocks. o.cloned origin id (bytes_of_blocks (outline p).geometry blocks) (transmission_flags (outline p))) id answer made sent next p'
+
+  -- an option with a name that means no volume, and no clone of one
   pub record IsNameless (o : VolumeOption) (name : List ℕ) (p : S) (sent : List ℕ) (next : Phase) (p' : S) : Type 0 where
-    pub no_id : (id : ℕ) → Means o.default name id → ⊥
+    pub no_id : (id : ℕ) → Means o.default o.limit name id → ⊥
+    pub no_clone : (origin : ℕ) → MeansClone o.clones name origin → ⊥
     pub tells : Tells o.missing p sent next p'
 
   -- an option with a name that means one
   pub record IsNamed (o : VolumeOption) (name : List ℕ) (p : S) (sent : List ℕ) (next : Phase) (p' : S) : Type 0 where
     pub id : ℕ
-    pub name_is : Means o.default name id
+    pub name_is : Means o.default o.limit name id
     pub asks : AsksFor o id p sent next p'
+
+  -- An option with a name that means a clone of one: where that is to be held it is made, and else the volume itself is looked for.
+  pub record IsCloneNamed (o : VolumeOption) (name : List ℕ) (p : S) (sent : List ℕ) (next : Phase) (p' : S) : Type 0 where
+    pub origin : ℕ
+    pub name_is : MeansClone o.clones name origin
+    pub asks : MatchBool o.holds (Clones o origin p sent next p') (AsksFor (of_clone o origin) origin p sent next p')
 
   -- an option that looks for the volume of a name
   abbrev pub LooksFor : VolumeOption → List ℕ → S → List ℕ → Phase → S → Type 0
-  LooksFor o name p sent next p' = IsNameless o name p sent next p' ⊎ IsNamed o name p sent next p'
+  LooksFor o name p sent next p' = IsNameless o name p sent next p' ⊎ (IsNamed o name p sent next p' ⊎ IsCloneNamed o name p sent next p')
 
   -- an option whose data is no name with a list of types
   pub record IsInvalid (option : ℕ) (terms : Terms) (payload : List ℕ) (p : S) (sent : List ℕ) (next : Phase) (p' : S) : Type 0 where
@@ -500,9 +690,15 @@ module _ {S : Type 0} (outline : S → Outline) (Calls : S → Call → Answer �
   Finding End from [] p p' = End from p p'
   Finding End from (id ∷ ids) p p' = (q : S) × Calls p (NextId from) (Found (Some id)) q × Finding End (id + 1) ids q p'
 
-  -- no volume is left, and none is asked for behind the greatest id
-  abbrev pub IsLast : ℕ → S → S → Type 0
-  IsLast from p p' = MatchBool (nat_lt from 16777216) (Calls p (NextId from) (Found None) p') (p' ≡ p)
+  -- the least id from this one on is none below the limit
+  pub record FindsNone (limit from : ℕ) (p p' : S) : Type 0 where
+    pub found : Option ℕ
+    pub behind : IsBehind limit found
+    pub calls : Calls p (NextId from) (Found found) p'
+
+  -- no volume is left below the limit, and none is asked for behind it
+  abbrev pub IsLast : ℕ → ℕ → S → S → Type 0
+  IsLast limit from p p' = MatchBool (nat_lt from limit) (FindsNone limit from p p') (p' ≡ p)
 
   -- the pool refuses to look for another
   abbrev pub IsRefused : ℕ → S → S → Type 0
@@ -512,11 +708,12 @@ module _ {S : Type 0} (outline : S → Outline) (Calls : S → Call → Answer �
   abbrev pub IsEnough : ℕ → S → S → Type 0
   IsEnough from p p' = p' ≡ p
 
-  -- all volumes were found, and are named
+  -- all volumes were found whose ids are names, and are named
   pub record NamesAll (terms : Terms) (p : S) (sent : List ℕ) (next : Phase) (p' : S) : Type 0 where
     pub ids : List ℕ
     pub few : length ids ≤ 65536
-    pub finding : Finding IsLast 0 ids p p'
+    pub below : All (λ id. id < limit_of terms.profile) ids
+    pub finding : Finding (IsLast (limit_of terms.profile)) 0 ids p p'
     pub sent_is : sent ≡ list_reply ids
     pub next_is : next ≡ Options terms
 
@@ -528,7 +725,7 @@ module _ {S : Type 0} (outline : S → Outline) (Calls : S → Call → Answer �
     pub sent_is : sent ≡ []
     pub next_is : next ≡ Ended
 
-  -- LIST, which has no data, names each volume in the order of the ids. In a failed pool it ends the session, whatever its data.
+  -- LIST, which has no data, names each volume that a name may mean, in the order of the ids. In a failed pool it ends the session, whatever its data.
   abbrev pub Lists : Terms → List ℕ → S → List ℕ → Phase → S → Type 0
   Lists terms payload p sent next p' =
       MatchBool (is_failed (outline p).mode)
@@ -549,15 +746,16 @@ module _ {S : Type 0} (outline : S → Outline) (Calls : S → Call → Answer �
   Seeks o name id (Refused reason) p sent next p' = Tells (outcome [] Ended) p sent next p'
   Seeks o name id answer p sent next p' = ⊥
 
-  -- what a query said is no older volume's name
+  -- what a query said is the id of no volume that a name may mean
   pub record IsUnsought (o : ℕ → VolumeOption) (text name : List ℕ) (p : S) (sent : List ℕ) (next : Phase) (p' : S) : Type 0 where
-    pub no_id : (id : ℕ) → IsNameOf text id → ⊥
+    pub no_id : (id : ℕ) → IsNameOf text id → id < (o 16777216).limit → ⊥
     pub looks : LooksFor (o 16777216) name p sent next p'
 
-  -- it is one, which is looked for before the volume itself is
+  -- it is that of one, an older volume, which is looked for before the volume itself is
   pub record IsSought (o : ℕ → VolumeOption) (text name : List ℕ) (p : S) (sent : List ℕ) (next : Phase) (p' : S) : Type 0 where
     pub id : ℕ
     pub text_is : IsNameOf text id
+    pub below : id < (o 16777216).limit
     pub answer : Answer
     pub looked : S
     pub calls : Calls p (NextId id) answer looked

@@ -13,7 +13,7 @@ use crate::gather::gather;
 use crate::parts::make_part;
 use crate::phase::{Course, Manner, Phase};
 use nbd_wire::{Kind, MAX_FRAME, Request, read_frame, wanted};
-use tp_model::{DevId, Volumes, Walked};
+use tp_model::{Cloned, DevId, Volumes};
 
 fn kind_of(phase: &Phase) -> Option<Kind>
     ensures { result ≡ kind_in phase.now }
@@ -40,7 +40,7 @@ pub fn has_ended_in(phase: Phase) -> bool
 }
 
 /// The answer to a text that is one whole frame, or a fixed part that ends the connection.
-fn answer_text<V: Walked>(
+fn answer_text<V: Cloned>(
     phase: Phase,
     kind: Kind,
     text: &[u8],
@@ -133,7 +133,7 @@ fn go_on<V: Volumes>(phase: Phase, out: &mut [u8], pool: &mut V, piece: &[u8]) -
 
 /// Takes bytes up to the end of one frame. What is sent stands at the front of `out`. A frame that stands whole in the
 /// piece is not copied.
-fn take_frame<V: Walked>(
+fn take_frame<V: Cloned>(
     phase: Phase,
     filled: usize,
     input: &mut [u8],
@@ -193,7 +193,7 @@ fn take_frame<V: Walked>(
 }
 
 /// Takes bytes up to the end of one frame, and answers it at the front of `out`.
-pub fn advance<V: Walked>(
+pub fn advance<V: Cloned>(
     phase: Phase,
     filled: usize,
     input: &mut [u8],

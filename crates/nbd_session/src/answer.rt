@@ -1,30 +1,31 @@
 //! The answer to one frame.
 
-ghost use Rattle.std.specs.Prelude.{◌≡◌, ◌≤◌, ◌<◌, ◌+◌, ◌/◌, [], true, false, length, take, drop};
+ghost use Rattle.std.specs.Prelude.{◌≡◌, ◌≤◌, ◌<◌, ◌+◌, ◌/◌, [], true, false, length, take, drop, MatchBool};
 ghost use Rattle.tp_model.specs.Sectors.{sectors_of};
 ghost use Rattle.tp_model.specs.Pool.{hold_count};
-ghost use Rattle.tp_model.specs.Calls.{Refused, Read, Write, Trim, WriteZeroes, Flush};
+ghost use Rattle.tp_model.specs.Calls.{Done, LetGo, Refused, Read, Write, Trim, WriteZeroes, Flush};
 ghost use Rattle.tp_model.specs.Refusals.{nbd_code, nbd_error};
 ghost use Rattle.nbd_wire.specs.Chunks.{data_chunk, error_chunk};
 ghost use Rattle.nbd_wire.specs.Grammar.{payload_len};
 ghost use Rattle.nbd_wire.specs.Reading.{message_of};
 ghost use Rattle.nbd_wire.specs.Replies.{simple_reply};
 ghost use Rattle.nbd_session.specs.Requests.{IsWhole, has_fua, has_no_hole, is_kept_apart, known_bytes, to_keep, verdict_in};
-ghost use Rattle.nbd_session.specs.Session.{Answers, AnswersRead, Begins, LetsGo, Performs, ReadsInChunks, Serves, chunk_to, empty_reply, error_reply, reply_to, terms_of};
+ghost use Rattle.nbd_session.specs.Session.{Answers, AnswersRead, Begins, GivesUp, LetsGo, Performs, ReadsInChunks, Serves, chunk_to, empty_reply, error_reply, manner_in, reply_to, terms_of};
 ghost use Rattle.nbd_session.specs.Buffers.{IsSound};
 ghost use Rattle.tp_model.specs.Clauses.{PoolCall};
 ghost use Rattle.nbd_session.specs.Clauses.{IsOf, IsReady};
 
+use crate::clones::give_up;
 use crate::holes::{may_have_holes, read_long};
 use crate::options::choose;
-use crate::phase::{Course, Manner, NO_VOLUME, Phase, Profile, Terms};
+use crate::phase::{Course, Manner, NO_VOLUME, Phase, Profile, Terms, is_of_clone};
 use crate::request::{Verdict, is_chunked, judge_in};
 use crate::status::describe;
 use nbd_wire::{
     COMMAND_FLUSH, Frame, Request, put_data_head, put_done_chunk, put_error_chunk,
     put_simple_reply_head,
 };
-use tp_model::{DevId, NbdError, Refusal, Volumes, Walked};
+use tp_model::{Cloned, DevId, NbdError, Refusal, Volumes, Walked};
 
 /// The longest answer, to LIST, in bytes.
 pub const MAX_ANSWER: usize = 2_097_172;
@@ -372,14 +373,27 @@ fn flush<V: Volumes>(pool: &mut V, cookie: u64, out: &mut [u8]) -> usize
     }
 }
 
-/// The end of a session, which lets its volume go.
-pub fn end<V: Volumes>(phase: Phase, pool: &mut V) -> Phase
+/// Lets a volume go that is held, and deletes it where it is a clone.
+fn part_with<V: Cloned>(pool: &mut V, volume: DevId, course: Course)
+    requires { 0 < hold_count (V.view.outline pool.old).holds volume }
+    ensures { MatchBool (manner_in course).is_clone (GivesUp V.view.outline (PoolCall V.view) volume pool.old pool.new)
+        (PoolCall V.view pool.old (LetGo volume) Done pool.new) }
+{
+    if is_of_clone(course) {
+        give_up(pool, volume);
+        return;
+    }
+    pool.let_go(volume);
+}
+
+/// The end of a session, which lets its volume go, and deletes it where it is a clone.
+pub fn end<V: Cloned>(phase: Phase, pool: &mut V) -> Phase
     requires { IsReady phase (V.view.outline pool.old) (V.view.more pool.old) }
     ensures lets_go { LetsGo V.view.outline (PoolCall V.view) phase pool.old pool.new }
     ensures ended { result ≡ Phase.Ended }
 {
-    if let Phase::Transmission { volume, .. } = phase {
-        pool.let_go(volume);
+    if let Phase::Transmission { volume, course, .. } = phase {
+        part_with(pool, volume, course);
     }
     Phase::Ended
 }
@@ -396,7 +410,7 @@ pub(crate) fn at_work(volume: DevId, size: u64, manner: Manner, rest: Request) -
 }
 
 /// The answer to one request of a volume of so many bytes.
-fn serve<V: Walked>(
+fn serve<V: Cloned>(
     pool: &mut V,
     volume: DevId,
     size: u64,
@@ -451,7 +465,7 @@ fn agree(profile: Profile, no_zeroes: bool) -> Phase
 }
 
 /// The answer to one frame, which stands at the front of `out`, and the next phase.
-pub fn answer<V: Walked>(
+pub fn answer<V: Cloned>(
     phase: Phase,
     frame: Frame<'_>,
     out: &mut [u8],

@@ -6,13 +6,13 @@ ghost use Rattle.nbd_session.specs.Session.{is_at_work};
 
 use crate::session::Session;
 use std::alloc::AllocError;
-use tp_model::Walked;
+use tp_model::Cloned;
 
 /// Takes steps to the end of a piece, until no parts of a request are left, and adds what they send to `out`. What is sent for pieces fed one after another is an answer to
 /// their text, of whose cutting nothing is said in it.
 ///
 /// `Err` where there is no memory to add an answer: the piece is taken up to some place, and the end of what was sent up to there is lost.
-pub fn feed<V: Walked>(
+pub fn feed<V: Cloned>(
     session: &mut Session,
     pool: &mut V,
     piece: &[u8],

@@ -7,6 +7,7 @@
 
 mod advance;
 mod answer;
+mod clones;
 mod feeding;
 mod gather;
 mod holes;
@@ -29,6 +30,6 @@ pub use laws::{
     statuses_are_exact, turns_are_traced,
 };
 pub use name::id_of;
-pub use phase::{Course, Manner, Phase, Profile, Terms};
+pub use phase::{Course, Manner, Phase, Profile, Terms, has_clones};
 pub use session::{Answered, Session, Step};
 pub use shared::begins_with_look;

@@ -6,19 +6,17 @@ ghost use Rattle.tp_model.specs.Clauses.{PoolCall};
 ghost use Rattle.nbd_wire.specs.Replies.{option_reply};
 ghost use Rattle.nbd_wire.specs.declared.TheConstants.{OPTION_LIST};
 ghost use Rattle.nbd_wire.specs.declared.writing.ReplyType.TheVariants.{Acknowledged};
-ghost use Rattle.nbd_session.specs.Session.{IsLast, Lists, NamesAll, NamesNone, name_reply};
+ghost use Rattle.nbd_session.specs.Session.{IsLast, Lists, NamesAll, NamesNone, limit_of, name_reply};
 
+use crate::name::below;
 use crate::options::{answer_error, has_failed};
-use crate::phase::{Phase, Terms};
+use crate::phase::{Phase, Profile, Terms, limit_of};
 use itoa::Buffer;
 use nbd_wire::{OPTION_LIST, ReplyType, put_option_reply_head, put_server_reply};
 use tp_model::{DevId, Refusal, Volumes};
 
 /// As many volumes as a pool may have.
 const MOST_VOLUMES: u32 = 65536;
-
-/// The first number that is no id.
-const IDS: u32 = 16_777_216;
 
 /// The reply that names a volume, at a place.
 fn put_name(out: &mut [u8], at: usize, volume: DevId) -> usize
@@ -42,20 +40,29 @@ fn put_end(out: &mut [u8], at: usize) -> usize
     put_option_reply_head(out, at, OPTION_LIST, ReplyType::Acknowledged, 0)
 }
 
-/// The least id of a volume that is `from` or more, if there is one.
-fn next_from<V: Volumes>(pool: &mut V, from: u32) -> Result<Option<DevId>, Refusal>
+/// The least id of a volume that is `from` or more and that a name may mean, if there is one.
+fn next_from<V: Volumes>(
+    pool: &mut V,
+    profile: Profile,
+    from: u32,
+) -> Result<Option<DevId>, Refusal>
     ensures { MatchResult result
-        (λ found. MatchOption found (IsLast V.view.outline (PoolCall V.view) from pool.old pool.new)
-        (λ id. (id < 16777216) × PoolCall V.view pool.old (NextId from) (Found (Some id)) pool.new))
+        (λ found. MatchOption found (IsLast V.view.outline (PoolCall V.view) (limit_of profile) from pool.old pool.new)
+        (λ id. (id < limit_of profile) × PoolCall V.view pool.old (NextId from) (Found (Some id)) pool.new))
         (λ reason. PoolCall V.view pool.old (NextId from) (Refused reason) pool.new) }
 {
-    if from >= IDS {
+    let limit = limit_of(profile);
+    if from >= limit {
         return Ok(None);
     }
-    pool.next_id(DevId::new(from))
+    match pool.next_id(DevId::new(from)) {
+        Ok(None) => Ok(None),
+        Ok(Some(volume)) => Ok(below(limit, volume)),
+        Err(refusal) => Err(refusal),
+    }
 }
 
-/// The names of all volumes in one answer. Where the pool refuses to look for one, or finds more than it may have, the session ends.
+/// The names of all volumes that a name may mean in one answer. Where the pool refuses to look for one, or finds more than it may have, the session ends.
 fn name_all<V: Volumes>(terms: Terms, out: &mut [u8], pool: &mut V) -> (Phase, usize)
     requires room { 2097172 ≤ length out.old }
     ensures answer { NamesAll V.view.outline (PoolCall V.view) terms pool.old (take result.1 out.new) result.0 pool.new
@@ -67,7 +74,7 @@ fn name_all<V: Volumes>(terms: Terms, out: &mut [u8], pool: &mut V) -> (Phase, u
     let mut from = 0;
     let mut named = 0;
     while named < MOST_VOLUMES {
-        match next_from(pool, from) {
+        match next_from(pool, terms.profile, from) {
             Ok(Some(volume)) => {
                 at = put_name(out, at, volume);
                 from = volume.number() + 1;
@@ -77,7 +84,7 @@ fn name_all<V: Volumes>(terms: Terms, out: &mut [u8], pool: &mut V) -> (Phase, u
             Err(_) => return (Phase::Ended, 0),
         }
     }
-    match next_from(pool, from) {
+    match next_from(pool, terms.profile, from) {
         Ok(None) => (Phase::Options { terms }, put_end(out, at)),
         Ok(Some(_)) => (Phase::Ended, 0),
         Err(_) => (Phase::Ended, 0),

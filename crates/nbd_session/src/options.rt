@@ -9,11 +9,12 @@ ghost use Rattle.nbd_wire.specs.Contexts.{asks_for, context_data, lists, since_n
 ghost use Rattle.nbd_wire.specs.Replies.{option_reply};
 ghost use Rattle.nbd_session.specs.Requests.{bytes_of_blocks};
 ghost use Rattle.nbd_session.specs.Looking.{IsTold, Learns, LooksUp, Sought, TakesHold, TakesOn};
-ghost use Rattle.nbd_session.specs.Session.{AsksFor, Chooses, Exports, Extends, Informs, IsOutcome, LooksFor, Queries, SeeksFor, allocation_reply, begun, context_reply, export_name, flags_in, go, in_context, info, info_reply, is_told_of, list_context, manner_of, option_error, set_context, since_reply, structures, without_context};
+ghost use Rattle.nbd_session.specs.Session.{AsksFor, Chooses, Exports, Extends, Informs, IsOutcome, LooksFor, Queries, SeeksFor, allocation_reply, begun, context_reply, export_name, flags_in, go, in_context, info, info_reply, is_told_of, limit_of, list_context, manner_by, manner_of, option_error, set_context, since_reply, structures, without_context};
 
+use crate::clones::{enter_clone, export_clone, set_clone, tell_clone};
 use crate::listing::list;
-use crate::name::{id_of, meant};
-use crate::phase::{Course, Manner, NO_VOLUME, Phase, Terms, is_extended};
+use crate::name::{meant, named_in, origin_in};
+use crate::phase::{Course, Manner, NO_VOLUME, Phase, Profile, Terms, is_extended};
 use itoa::Buffer;
 use nbd_wire::{
     ALLOCATION_CONTEXT, OPTION_ABORT, OPTION_EXPORT_NAME, OPTION_GO, OPTION_INFO, OPTION_LIST,
@@ -21,7 +22,7 @@ use nbd_wire::{
     SINCE_CONTEXT, info_name, put_block_size_info, put_context_reply, put_export_info,
     put_export_reply, put_option_reply_head, put_since_reply, read_query,
 };
-use tp_model::{DevId, Geometry, Mode, Refusal, Volumes};
+use tp_model::{Cloned, DevId, Geometry, Mode, Refusal, Volumes};
 
 /// The transmission flags HAS_FLAGS, SEND_FLUSH, SEND_FUA, SEND_TRIM and SEND_WRITE_ZEROES.
 const FLAGS: u16 = 0x6d;
@@ -63,7 +64,7 @@ pub(crate) fn answer_error(
 
 /// The answer to an option that tells of a volume, at the front: the size in bytes, the flags, the block sizes, and ACK.
 #[tactic(auto, unfolding(crate::specs::Session::info_reply))]
-fn put_info_reply(out: &mut [u8], option: u32, size: u64, flags: u16) -> usize
+pub(crate) fn put_info_reply(out: &mut [u8], option: u32, size: u64, flags: u16) -> usize
     requires { 86 ≤ length out.old }
     ensures reply { take result out.new ≡ info_reply option size flags }
     ensures fits { result ≤ length out.new }
@@ -77,7 +78,7 @@ fn put_info_reply(out: &mut [u8], option: u32, size: u64, flags: u16) -> usize
 }
 
 /// The transmission flags of a pool.
-fn flags_of(mode: Mode) -> u16
+pub(crate) fn flags_of(mode: Mode) -> u16
     ensures { result ≡ (if is_read_only mode then 0x6f else 0x6d) }
 {
     match mode {
@@ -101,11 +102,11 @@ fn flags_in(terms: Terms, flags: u16) -> u16
     multi_conn + (send_df + flags)
 }
 
-/// Whether the contexts that were asked for are those of this volume.
-fn is_told_of(terms: Terms, volume: DevId) -> bool
-    ensures { result ≡ is_told_of terms volume }
+/// Whether the contexts that were asked for are those of this number.
+fn is_told_of(terms: Terms, number: u32) -> bool
+    ensures { result ≡ is_told_of terms number }
 {
-    terms.is_structured && terms.context == volume.number()
+    terms.is_structured && terms.context == number
 }
 
 /// Since which older volume is to be told, where anything is.
@@ -115,21 +116,29 @@ fn since_where(is_told: bool, since: u32) -> u32
     if is_told { since } else { NO_VOLUME }
 }
 
-/// How requests are taken and answered once transmission begins.
-fn manner_of(terms: Terms, volume: DevId) -> Manner
-    ensures { result ≡ manner_of terms volume }
+/// How requests are taken and answered once transmission begins, of a volume or a clone of which contexts are asked for by this number.
+pub(crate) fn manner_by(terms: Terms, number: u32, is_clone: bool) -> Manner
+    ensures { result ≡ manner_by terms number is_clone }
 {
-    let is_told = is_told_of(terms, volume);
+    let is_told = is_told_of(terms, number);
     Manner {
         is_extended: is_extended(terms.profile),
         is_structured: terms.is_structured,
         tells_blocks: is_told && terms.tells_blocks,
         since: since_where(is_told, terms.since),
+        is_clone,
     }
 }
 
+/// That of a volume.
+fn manner_of(terms: Terms, volume: DevId) -> Manner
+    ensures { result ≡ manner_of terms volume }
+{
+    manner_by(terms, volume.number(), false)
+}
+
 /// The same terms with other contexts.
-fn in_context(terms: Terms, context: u32, tells_blocks: bool, since: u32) -> Terms
+pub(crate) fn in_context(terms: Terms, context: u32, tells_blocks: bool, since: u32) -> Terms
     ensures { result ≡ in_context terms context tells_blocks since }
 {
     Terms {
@@ -141,7 +150,7 @@ fn in_context(terms: Terms, context: u32, tells_blocks: bool, since: u32) -> Ter
 }
 
 /// The same terms with no context.
-fn without_context(terms: Terms) -> Terms
+pub(crate) fn without_context(terms: Terms) -> Terms
     ensures { result ≡ without_context terms }
 {
     in_context(terms, NO_VOLUME, false, NO_VOLUME)
@@ -188,7 +197,7 @@ fn put_since_id(out: &mut [u8], at: usize, option: u32, code: u32, since: u32) -
 
 /// The answer to an option that looks for contexts, at the front: a reply for each that is asked for, under its number, and ACK.
 #[tactic(auto, unfolding(crate::specs::Session::context_reply))]
-fn put_contexts(
+pub(crate) fn put_contexts(
     out: &mut [u8],
     option: u32,
     first: u32,
@@ -206,11 +215,11 @@ fn put_contexts(
     put_option_reply_head(out, behind_second, option, ReplyType::Acknowledged, 0)
 }
 
-/// The id of the older volume that a query names, where it is there, and else a number that is none.
-fn seek<V: Volumes>(pool: &mut V, text: &[u8]) -> Result<u32, Refusal>
-    ensures { Sought V.view.outline (PoolCall V.view) text.now result pool.old pool.new }
+/// The id of the older volume that a query names, where it is there, and else a number that is none. It is one that a name may mean.
+fn seek<V: Volumes>(pool: &mut V, profile: Profile, text: &[u8]) -> Result<u32, Refusal>
+    ensures { Sought V.view.outline (PoolCall V.view) (limit_of profile) text.now result pool.old pool.new }
 {
-    let Some(id) = id_of(text) else {
+    let Some(id) = named_in(profile, text) else {
         return Ok(NO_VOLUME);
     };
     match look_up(pool, id) {
@@ -244,7 +253,7 @@ fn tell_list<V: Volumes>(
     }
 }
 
-/// LIST_META_CONTEXT of the volume that a name means.
+/// LIST_META_CONTEXT of the volume that a name means, or of which it means a clone.
 fn list_of<V: Volumes>(
     terms: Terms,
     name: &[u8],
@@ -259,8 +268,11 @@ fn list_of<V: Volumes>(
     ensures len { length out.new ≡ length out.old }
 {
     match meant(terms.profile, name) {
-        None => answer_error(terms, OPTION_LIST_META_CONTEXT, ReplyType::Unknown, out),
         Some(volume) => tell_list(terms, volume, is_listed, since, out, pool),
+        None => match origin_in(terms.profile, name) {
+            Some(origin) => tell_list(terms, origin, is_listed, since, out, pool),
+            None => answer_error(terms, OPTION_LIST_META_CONTEXT, ReplyType::Unknown, out),
+        },
     }
 }
 
@@ -299,7 +311,7 @@ fn tell_set<V: Volumes>(
     }
 }
 
-/// SET_META_CONTEXT of the volume that a name means.
+/// SET_META_CONTEXT of the volume that a name means, or of the clones of one.
 fn set_of<V: Volumes>(
     terms: Terms,
     name: &[u8],
@@ -314,11 +326,14 @@ fn set_of<V: Volumes>(
     ensures len { length out.new ≡ length out.old }
 {
     match meant(terms.profile, name) {
-        None => {
-            let terms = without_context(terms);
-            answer_error(terms, OPTION_SET_META_CONTEXT, ReplyType::Unknown, out)
-        }
         Some(volume) => tell_set(terms, volume, is_asked, since, out, pool),
+        None => match origin_in(terms.profile, name) {
+            Some(origin) => set_clone(terms, origin, is_asked, since, out, pool),
+            None => {
+                let terms = without_context(terms);
+                answer_error(terms, OPTION_SET_META_CONTEXT, ReplyType::Unknown, out)
+            }
+        },
     }
 }
 
@@ -336,7 +351,7 @@ fn list_by<V: Volumes>(
     ensures fits { result.1 ≤ length out.new }
     ensures len { length out.new ≡ length out.old }
 {
-    match seek(pool, text) {
+    match seek(pool, terms.profile, text) {
         Ok(since) => list_of(terms, name, is_listed, since, out, pool),
         Err(_) => (Phase::Ended, 0),
     }
@@ -356,7 +371,7 @@ fn set_by<V: Volumes>(
     ensures fits { result.1 ≤ length out.new }
     ensures len { length out.new ≡ length out.old }
 {
-    match seek(pool, text) {
+    match seek(pool, terms.profile, text) {
         Ok(since) => set_of(terms, name, is_asked, since, out, pool),
         Err(_) => (Phase::Ended, 0),
     }
@@ -493,7 +508,11 @@ fn look_up<V: Volumes>(pool: &mut V, volume: DevId) -> Result<bool, Refusal>
 }
 
 /// How many bytes a volume has.
-fn size_of<V: Volumes>(pool: &mut V, geometry: &Geometry, volume: DevId) -> Result<u64, Refusal>
+pub(crate) fn size_of<V: Volumes>(
+    pool: &mut V,
+    geometry: &Geometry,
+    volume: DevId,
+) -> Result<u64, Refusal>
     ensures told { IsTold V.view.outline (PoolCall V.view) geometry.now volume result pool.old pool.new }
     ensures holds { (V.view.outline pool.new).holds ≡ (V.view.outline pool.old).holds }
 {
@@ -545,7 +564,7 @@ fn find_and_hold<V: Volumes>(pool: &mut V, volume: DevId) -> Result<Option<u64>,
 }
 
 /// How many bytes a volume has, if it is there. It is not held.
-fn find<V: Volumes>(pool: &mut V, volume: DevId) -> Result<Option<u64>, Refusal>
+pub(crate) fn find<V: Volumes>(pool: &mut V, volume: DevId) -> Result<Option<u64>, Refusal>
     ensures { Learns V.view.outline (PoolCall V.view) false volume result pool.old pool.new }
 {
     let geometry = pool.geometry();
@@ -578,8 +597,25 @@ fn enter<V: Volumes>(terms: Terms, volume: DevId, out: &mut [u8], pool: &mut V) 
     }
 }
 
+/// GO of the volume that a name means, or of a clone of one.
+fn go_by<V: Cloned>(terms: Terms, name: &[u8], out: &mut [u8], pool: &mut V) -> (Phase, usize)
+    requires ready { hold_total (V.view.outline pool.old).holds < 64 }
+    requires room { 86 ≤ length out.old }
+    ensures answer { LooksFor V.view.outline (PoolCall V.view) (go terms) name.now pool.old (take result.1 out.new) result.0 pool.new }
+    ensures fits { result.1 ≤ length out.new }
+    ensures len { length out.new ≡ length out.old }
+{
+    match meant(terms.profile, name) {
+        Some(volume) => enter(terms, volume, out, pool),
+        None => match origin_in(terms.profile, name) {
+            Some(origin) => enter_clone(terms, origin, out, pool),
+            None => answer_error(terms, OPTION_GO, ReplyType::Unknown, out),
+        },
+    }
+}
+
 /// The answer to GO.
-fn go<V: Volumes>(terms: Terms, payload: &[u8], out: &mut [u8], pool: &mut V) -> (Phase, usize)
+fn go<V: Cloned>(terms: Terms, payload: &[u8], out: &mut [u8], pool: &mut V) -> (Phase, usize)
     requires ready { hold_total (V.view.outline pool.old).holds < 64 }
     requires room { 86 ≤ length out.old }
     ensures answer { Informs V.view.outline (PoolCall V.view) OPTION_GO (go terms) terms payload.now pool.old (take result.1 out.new) result.0 pool.new }
@@ -592,10 +628,7 @@ fn go<V: Volumes>(terms: Terms, payload: &[u8], out: &mut [u8], pool: &mut V) ->
     let Some(name) = info_name(payload) else {
         return answer_error(terms, OPTION_GO, ReplyType::Invalid, out);
     };
-    match meant(terms.profile, name) {
-        None => answer_error(terms, OPTION_GO, ReplyType::Unknown, out),
-        Some(volume) => enter(terms, volume, out, pool),
-    }
+    go_by(terms, name, out, pool)
 }
 
 /// INFO of a volume, which is not held.
@@ -616,6 +649,22 @@ fn tell<V: Volumes>(terms: Terms, volume: DevId, out: &mut [u8], pool: &mut V) -
     }
 }
 
+/// INFO of the volume that a name means, or of a clone of one.
+fn info_by<V: Volumes>(terms: Terms, name: &[u8], out: &mut [u8], pool: &mut V) -> (Phase, usize)
+    requires room { 86 ≤ length out.old }
+    ensures answer { LooksFor V.view.outline (PoolCall V.view) (info terms) name.now pool.old (take result.1 out.new) result.0 pool.new }
+    ensures fits { result.1 ≤ length out.new }
+    ensures len { length out.new ≡ length out.old }
+{
+    match meant(terms.profile, name) {
+        Some(volume) => tell(terms, volume, out, pool),
+        None => match origin_in(terms.profile, name) {
+            Some(origin) => tell_clone(terms, origin, out, pool),
+            None => answer_error(terms, OPTION_INFO, ReplyType::Unknown, out),
+        },
+    }
+}
+
 /// The answer to INFO.
 fn info<V: Volumes>(terms: Terms, payload: &[u8], out: &mut [u8], pool: &mut V) -> (Phase, usize)
     requires room { 86 ≤ length out.old }
@@ -629,10 +678,7 @@ fn info<V: Volumes>(terms: Terms, payload: &[u8], out: &mut [u8], pool: &mut V) 
     let Some(name) = info_name(payload) else {
         return answer_error(terms, OPTION_INFO, ReplyType::Invalid, out);
     };
-    match meant(terms.profile, name) {
-        None => answer_error(terms, OPTION_INFO, ReplyType::Unknown, out),
-        Some(volume) => tell(terms, volume, out, pool),
-    }
+    info_by(terms, name, out, pool)
 }
 
 /// EXPORT_NAME of a volume, which is held from now on.
@@ -653,13 +699,25 @@ fn export<V: Volumes>(terms: Terms, volume: DevId, out: &mut [u8], pool: &mut V)
     }
 }
 
+/// EXPORT_NAME of the volume that a name means, or of a clone of one.
+fn export_by<V: Cloned>(terms: Terms, name: &[u8], out: &mut [u8], pool: &mut V) -> (Phase, usize)
+    requires ready { hold_total (V.view.outline pool.old).holds < 64 }
+    requires room { 134 ≤ length out.old }
+    ensures answer { LooksFor V.view.outline (PoolCall V.view) (export_name terms) name.now pool.old (take result.1 out.new) result.0 pool.new }
+    ensures fits { result.1 ≤ length out.new }
+    ensures len { length out.new ≡ length out.old }
+{
+    match meant(terms.profile, name) {
+        Some(volume) => export(terms, volume, out, pool),
+        None => match origin_in(terms.profile, name) {
+            Some(origin) => export_clone(terms, origin, out, pool),
+            None => (Phase::Ended, 0),
+        },
+    }
+}
+
 /// The answer to EXPORT_NAME.
-fn export_name<V: Volumes>(
-    terms: Terms,
-    name: &[u8],
-    out: &mut [u8],
-    pool: &mut V,
-) -> (Phase, usize)
+fn export_name<V: Cloned>(terms: Terms, name: &[u8], out: &mut [u8], pool: &mut V) -> (Phase, usize)
     requires ready { hold_total (V.view.outline pool.old).holds < 64 }
     requires room { 134 ≤ length out.old }
     ensures answer { Exports V.view.outline (PoolCall V.view) (export_name terms) terms name.now pool.old (take result.1 out.new) result.0 pool.new }
@@ -669,14 +727,11 @@ fn export_name<V: Volumes>(
     if has_failed(pool.mode()) {
         return (Phase::Ended, 0);
     }
-    match meant(terms.profile, name) {
-        None => (Phase::Ended, 0),
-        Some(volume) => export(terms, volume, out, pool),
-    }
+    export_by(terms, name, out, pool)
 }
 
 /// The answer to one option.
-pub fn choose<V: Volumes>(
+pub fn choose<V: Cloned>(
     terms: Terms,
     option: u32,
     payload: &[u8],

@@ -1,7 +1,7 @@
 //! Where a session stands.
 
-ghost use Rattle.std.specs.Prelude.{◌≡◌};
-ghost use Rattle.nbd_session.specs.Session.{is_at_work, is_extended, is_to_flush, keeps_apart};
+ghost use Rattle.std.specs.Prelude.{◌≡◌, ◌≤◌};
+ghost use Rattle.nbd_session.specs.Session.{has_clones, is_at_work, is_extended, is_to_flush, keeps_apart, limit_of, manner_in};
 
 use nbd_wire::{COMMAND_FLUSH, Request};
 use tp_model::DevId;
@@ -16,15 +16,19 @@ pub enum Profile {
     Extended,
     /// The same, and this volume for the empty name; none where the number is over 16777215.
     WithDefault { volume: u32 },
+    /// The same, none where the number is over 8388607; and to each connection that asks for it a clone of a volume, which goes with it. Ids from 8388608 on are
+    /// those of clones then, and no names.
+    Cloning { volume: u32 },
 }
 
 impl Profile {
-    ghost use Rattle.std.specs.Prelude.{◌≡◌, true};
-    ghost use Rattle.nbd_session.specs.Session.{default_of, is_extended};
+    ghost use Rattle.std.specs.Prelude.{◌≡◌, false, true};
+    ghost use Rattle.nbd_session.specs.Session.{below, default_of, has_clones, is_extended};
 
     /// That of an extended session, with a volume for the empty name, if there is to be one.
     pub fn extended(default: Option<DevId>) -> Profile
         ensures extended { is_extended result ≡ true }
+        ensures clones { has_clones result ≡ false }
         ensures default { default_of result ≡ default }
     {
         match default {
@@ -34,10 +38,27 @@ impl Profile {
             },
         }
     }
+
+    /// That of an extended session which has clones, with a volume for the empty name, if there is to be one and it is none of a clone.
+    pub fn cloning(default: Option<DevId>) -> Profile
+        ensures extended { is_extended result ≡ true }
+        ensures clones { has_clones result ≡ true }
+        ensures default { default_of result ≡ below 8388608 default }
+    {
+        match default {
+            None => Profile::Cloning { volume: NO_VOLUME },
+            Some(volume) => Profile::Cloning {
+                volume: volume.number(),
+            },
+        }
+    }
 }
 
 /// The least number that is the id of no volume.
 pub(crate) const NO_VOLUME: u32 = 16_777_216;
+
+/// The least id that a clone may have, where there are clones.
+pub(crate) const FIRST_CLONE: u32 = 8_388_608;
 
 /// What a session and its client have agreed on so far.
 #[derive(Clone, Copy, Debug, PartialEq, Eq)]
@@ -48,7 +69,8 @@ pub struct Terms {
     pub profile: Profile,
     /// Whether READs are to be answered in chunks, as the client has asked for.
     pub is_structured: bool,
-    /// The volume of which the client wants to be told; none where the number is over 16777215.
+    /// The volume of which the client wants to be told; where the number is over 16777216 a clone of the volume whose id is by 16777217 less, and none where it is
+    /// 16777216.
     pub context: u32,
     /// Whether it wants to be told where that volume has data.
     pub tells_blocks: bool,
@@ -67,6 +89,8 @@ pub struct Manner {
     pub tells_blocks: bool,
     /// The older volume from which BLOCK_STATUS is answered where the volume may differ; none where the number is over 16777215.
     pub since: u32,
+    /// Whether the volume is a clone, which goes with the session.
+    pub is_clone: bool,
 }
 
 /// What a session in transmission does next.
@@ -99,11 +123,39 @@ pub enum Phase {
     Ended,
 }
 
+/// Whether the volume of a session in transmission is a clone.
+pub(crate) fn is_of_clone(course: Course) -> bool
+    ensures { result ≡ (manner_in course).is_clone }
+{
+    match course {
+        Course::Listens { manner } => manner.is_clone,
+        Course::Works { manner, .. } => manner.is_clone,
+    }
+}
+
 /// Whether a session is extended.
 pub(crate) fn is_extended(profile: Profile) -> bool
     ensures { result ≡ is_extended profile }
 {
     !matches!(profile, Profile::Strict)
+}
+
+/// Whether its client may have a clone of a volume.
+pub fn has_clones(profile: &Profile) -> bool
+    ensures { result ≡ has_clones profile.now }
+{
+    matches!(profile, Profile::Cloning { .. })
+}
+
+/// The first number that names no volume.
+pub(crate) fn limit_of(profile: Profile) -> u32
+    ensures value { result ≡ limit_of profile }
+    ensures most { result ≤ 16777216 }
+{
+    match profile {
+        Profile::Cloning { .. } => FIRST_CLONE,
+        _ => NO_VOLUME,
+    }
 }
 
 /// Whether a session has a request of which parts are left. It takes no bytes until they are made.

@@ -9,7 +9,7 @@ use crate::shared::take_read;
 use nbd_wire::{MAX_FRAME, put_greeting};
 use std::alloc::{AllocError, Global};
 use std::marker::Model;
-use tp_model::{Refusal, SharedReads, Volumes, Walked};
+use tp_model::{Cloned, Refusal, SharedReads, Volumes};
 
 /// One client. It takes its buffers when it is opened, and no memory after that.
 #[derive(Drop)]
@@ -123,9 +123,9 @@ impl Session {
         &self.output[..end]
     }
 
-    /// The end of a session, at any moment: it lets its volume go, sends nothing and does nothing else. What it holds of an unfinished
+    /// The end of a session, at any moment: it lets its volume go, deletes it where it is a clone, sends nothing and does nothing else. What it holds of an unfinished
     /// frame has no effect.
-    pub fn leave<V: Volumes>(self, pool: &mut V)
+    pub fn leave<V: Cloned>(self, pool: &mut V)
         requires { IsReady self.phase (V.view.outline pool.old) (V.view.more pool.old) }
         ensures { Leaves V.view self.phase pool.old pool.new }
     {
@@ -135,15 +135,15 @@ impl Session {
     /// Takes bytes of a piece, up to the end of one frame, and answers that frame in the step that takes its last byte: from the
     /// frame, and from what the pool answered to the calls that the frame makes of it: LIST one for each volume and one more, an option
     /// that looks for a volume one, one that holds it and one that tells its size, and one more where it is to tell since an older volume;
-    /// another frame one at most, BLOCK_STATUS a walk or two, and a long READ in chunks a walk more. Where the size of a
-    /// volume that is held is refused, it is let go. Over a pool that has a trace this is a step of the traced plain pool: bytes, faults and what a
+    /// another frame one at most, BLOCK_STATUS a walk or two, and a long READ in chunks a walk more. An option that makes a clone asks for a snapshot under one id
+    /// after the other, up to one that no volume has. Where the size of a volume that is held is refused, it is let go, and deleted where it is a clone. Over a pool that has a trace this is a step of the traced plain pool: bytes, faults and what a
     /// stop leaves at any moment of it stand on one trace.
     ///
     /// A frame that stands whole in the piece is used from there, and what a READ gives goes from the pool to its place in the answer.
     ///
     /// Before transmission fewer than 64 holds may stand, since the frame may be a GO; in transmission the session's own volume
     /// is held, and has the size that was told when it began.
-    pub fn step<V: Walked>(&mut self, pool: &mut V, piece: &[u8]) -> Step<'_>
+    pub fn step<V: Cloned>(&mut self, pool: &mut V, piece: &[u8]) -> Step<'_>
         requires { IsReady self.old.phase (V.view.outline pool.old) (V.view.more pool.old) }
         ensures* steps { sem 𝓛 (follows_so the_row the_row self.entry.ghost_name none (λ _ _. ⊤)
             (λ new. Advances V.view self.old pool.old piece.now result.taken result.sent.now result.ended new pool.new)) }
@@ -166,7 +166,7 @@ impl Session {
     }
 
     /// The same as `step`, with the answer at the front of a buffer that is given, which has room for the longest one.
-    pub fn step_into<V: Walked>(&mut self, pool: &mut V, piece: &[u8], out: &mut [u8]) -> Answered
+    pub fn step_into<V: Cloned>(&mut self, pool: &mut V, piece: &[u8], out: &mut [u8]) -> Answered
         requires ready { IsReady self.old.phase (V.view.outline pool.old) (V.view.more pool.old) }
         requires room { MAX_ANSWER ≤ length out.old }
         ensures steps { Advances V.view self.old pool.old piece.now result.taken (take result.sent out.new) result.ended self.new pool.new }

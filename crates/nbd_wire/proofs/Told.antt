@@ -3,7 +3,7 @@ use Rattle.std.proofs.Common.{◌≡◌, ℕ, ◌^◌, ◌<◌, Bool, List, ◌+
 use Rattle.std.specs.Prelude.{if◌then◌else◌, ◌==◌}
 use Rattle.std.proofs.lemmas.List.{take_at, drop_at}
 use Rattle.nbd_wire.specs.declared.writing.ReplyType.{ReplyType}
-use Rattle.nbd_wire.specs.declared.writing.ReplyType.TheVariants.{Acknowledged, Server, Information, Context, Unsupported, Invalid, Unknown}
+use Rattle.nbd_wire.specs.declared.writing.ReplyType.TheVariants.{Acknowledged, Server, Information, Context, Unsupported, Policy, Invalid, Unknown}
 use Rattle.nbd_wire.specs.declared.TheConstants.{REPLY_MAGIC, SIMPLE_REPLY_MAGIC, INFO_EXPORT, INFO_BLOCK_SIZE}
 use Rattle.nbd_wire.specs.Numbers.{bytes, number}
 use Rattle.nbd_wire.specs.Contexts.{context_data}
@@ -21,7 +21,7 @@ same_front a b x y len e =
 abbrev of_code : ℕ → ReplyType
 of_code code =
     if code == 1 then Acknowledged else if code == 2 then Server else if code == 3 then Information else if code == 4 then Context
-    else if code == 0x80000001 then Unsupported else if code == 0x80000003 then Invalid else Unknown
+    else if code == 0x80000001 then Unsupported else if code == 0x80000002 then Policy else if code == 0x80000003 then Invalid else Unknown
 
 code_again : (r : ReplyType) → of_code (reply_code r) ≡ r
 code_again Acknowledged = refl
@@ -29,6 +29,7 @@ code_again Server = refl
 code_again Information = refl
 code_again Context = refl
 code_again Unsupported = refl
+code_again Policy = refl
 code_again Invalid = refl
 code_again Unknown = refl
 
@@ -38,6 +39,7 @@ code_fits Server = omega arith
 code_fits Information = omega arith
 code_fits Context = omega arith
 code_fits Unsupported = omega arith
+code_fits Policy = omega arith
 code_fits Invalid = omega arith
 code_fits Unknown = omega arith
 

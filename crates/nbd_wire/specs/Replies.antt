@@ -3,7 +3,7 @@
 use Rattle.std.specs.Prelude.{◌≡◌, ℕ, ◌+◌, ◌<◌, ◌^◌, Bool, if◌then◌else◌, List, [], ◌++◌, length, take, drop, replicate}
 use Rattle.std.specs.List.{flat_map}
 use Rattle.nbd_wire.specs.declared.writing.ReplyType.{ReplyType}
-use Rattle.nbd_wire.specs.declared.writing.ReplyType.TheVariants.{Acknowledged, Server, Information, Context, Unsupported, Invalid, Unknown}
+use Rattle.nbd_wire.specs.declared.writing.ReplyType.TheVariants.{Acknowledged, Server, Information, Context, Unsupported, Policy, Invalid, Unknown}
 use Rattle.nbd_wire.specs.declared.TheConstants.{GREETING_MAGIC, OPTION_MAGIC, REPLY_MAGIC, SIMPLE_REPLY_MAGIC, HANDSHAKE_FLAGS, INFO_EXPORT, INFO_BLOCK_SIZE}
 use Rattle.nbd_wire.specs.Numbers.{bytes}
 
@@ -18,6 +18,7 @@ reply_code Server = 2
 reply_code Information = 3
 reply_code Context = 4
 reply_code Unsupported = 0x80000001
+reply_code Policy = 0x80000002
 reply_code Invalid = 0x80000003
 reply_code Unknown = 0x80000006
 

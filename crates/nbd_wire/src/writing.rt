@@ -26,6 +26,8 @@ pub enum ReplyType {
     Context,
     /// `NBD_REP_ERR_UNSUP`: the option is not known.
     Unsupported,
+    /// `NBD_REP_ERR_POLICY`: the option is known, and what it asks for is not allowed now.
+    Policy,
     /// `NBD_REP_ERR_INVALID`: the data of the option has another form.
     Invalid,
     /// `NBD_REP_ERR_UNKNOWN`: there is no volume of this name.
@@ -43,6 +45,7 @@ impl ReplyType {
             ReplyType::Information => 3,
             ReplyType::Context => 4,
             ReplyType::Unsupported => 0x8000_0001,
+            ReplyType::Policy => 0x8000_0002,
             ReplyType::Invalid => 0x8000_0003,
             ReplyType::Unknown => 0x8000_0006,
         }

@@ -2,10 +2,11 @@
 //!
 //! Each opens an image of [`tp_images::Images`], does its work and closes it: [`format`](asking::format) and [`create`] make a pool, [`message_to_image`], [`status_of_image`] and
 //! [`tell_listing`] open one, [`check_image`] and [`clear_image`] look it over, [`feed_image`] carries a client of a stream, [`play_image`] a script. What is refused is
-//! told with its cause ([`tp_failures::Failure`]). Those that serve many clients at once open a pool by [`opening`], and end it by [`closing`].
+//! told with its cause ([`tp_failures::Failure`]). Those that serve many clients at once open a pool by [`opening`], begin by [`beginning`], and end it by [`closing`].
 #![tactic(auto)]
 
 pub mod asking;
+pub mod beginning;
 mod caches;
 mod clearing;
 pub mod closing;

@@ -10,7 +10,7 @@ pub mod Tracing
 pub mod Pairing
 pub mod Streaming
 pub mod Desking
-mod Carrying
+pub mod Carrying
 mod Least
 mod Asking
 mod Flushing

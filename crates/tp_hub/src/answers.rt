@@ -11,7 +11,7 @@ ghost use Rattle.tp_hub.specs.Told.{Grows, HasRoom, IsFull, Lines, Says, all_sen
 use nbd_session::{Answered, MAX_ANSWER, Session};
 use std::alloc::{AllocError, Global};
 use std::marker::Model;
-use tp_model::{Refusal, SharedReads, Volumes, Walked};
+use tp_model::{Cloned, Refusal, SharedReads, Volumes};
 
 /// The most bytes that a list of answers has: it takes no answer more once it has those of one longest.
 pub const MOST_BYTES: usize = 2 * MAX_ANSWER;
@@ -111,7 +111,7 @@ impl Answers {
     }
 
     /// Takes a step of a session, whose answer goes to its place, and adds what it says.
-    pub(crate) fn hear<V: Walked>(
+    pub(crate) fn hear<V: Cloned>(
         &mut self,
         session: &mut Session,
         pool: &mut V,
@@ -226,7 +226,7 @@ fn put_at(bytes: &mut Vec<u8>, at: usize, more: &[u8])
 }
 
 /// Takes a step whose answer is put at a place.
-fn step_at<V: Walked>(
+fn step_at<V: Cloned>(
     session: &mut Session,
     pool: &mut V,
     piece: &[u8],
@@ -244,7 +244,7 @@ fn step_at<V: Walked>(
 }
 
 /// The same over a buffer.
-fn step_in<V: Walked>(
+fn step_in<V: Cloned>(
     session: &mut Session,
     pool: &mut V,
     piece: &[u8],

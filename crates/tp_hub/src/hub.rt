@@ -21,7 +21,7 @@ use crate::slot::{Took, hear_slot, leave_place, leave_slot, open_slot};
 use nbd_session::Session;
 use std::alloc::Global;
 use std::marker::Model;
-use tp_model::{Mode, SharedVolumes, Volumes};
+use tp_model::{Cloned, Mode, SharedVolumes, Volumes};
 use tp_msg::Managed;
 
 /// A hub has at most this many sessions.
@@ -56,11 +56,9 @@ impl<V: Volumes> Hub<V> {
     ghost use Rattle.nbd_session.specs.Session.{is_at_work, is_to_flush, keeps_apart};
     ghost use Rattle.tp_hub.specs.Serve.{AreAllOpen, IsLeastFree};
     ghost use Rattle.std.specs.FinMap.{empty};
-    ghost use Rattle.tp_model.specs.Clauses.{TracedCall, outline_of_traced};
-    ghost use Rattle.nbd_session.specs.Clauses.{GoesWithTrace};
     ghost use Rattle.nbd_session.specs.Turns.{closed};
     ghost use Rattle.tp_hub.specs.Seats.{seat_at};
-    ghost use Rattle.tp_hub.specs.Serving.{AllLeave, AllLeaveSo, Serves, sessions_of};
+    ghost use Rattle.tp_hub.specs.Serving.{Serves, sessions_of};
 
     /// A hub with no session. It takes no memory.
     pub fn new(pool: V) -> Hub<V>
@@ -148,6 +146,14 @@ impl<V: Volumes> Hub<V> {
     {
         Hub { pool, sessions }
     }
+}
+
+impl<V: Cloned> Hub<V> {
+    ghost use Rattle.std.specs.Prelude.{◌≡◌};
+    ghost use Rattle.std.specs.FinMap.{empty};
+    ghost use Rattle.tp_model.specs.Clauses.{TracedCall, outline_of_traced};
+    ghost use Rattle.nbd_session.specs.Clauses.{GoesWithTrace};
+    ghost use Rattle.tp_hub.specs.Serving.{AllLeave, AllLeaveSo, sessions_of};
 
     /// The pool, after all sessions ended. It takes no memory.
     pub fn into_pool(self) -> V
@@ -388,7 +394,7 @@ fn take_event<V: Managed>(
 }
 
 /// Ends all sessions.
-fn leave_all<V: Volumes>(mut sessions: [Option<Session>; SESSIONS], mut pool: V) -> V
+fn leave_all<V: Cloned>(mut sessions: [Option<Session>; SESSIONS], mut pool: V) -> V
     requires { Serves (V.view.outline pool) (V.view.more pool) sessions }
     ensures leaves { AllLeave V.view (sessions_of sessions) pool result }
     ensures free { (V.view.outline result).holds ≡ empty }

@@ -14,7 +14,7 @@ ghost use Rattle.tp_hub.specs.Serving.{LeaveTo, shown};
 use crate::answers::{Answers, Mark};
 use nbd_session::{Phase, Profile, Session};
 use std::alloc::Global;
-use tp_model::{Refusal, Volumes, Walked};
+use tp_model::{Cloned, Refusal, Volumes};
 
 /// How much of one event was taken: all of it, or so many bytes of its piece.
 #[derive(Clone, Copy, Debug)]
@@ -49,7 +49,7 @@ pub enum Heard {
 }
 
 /// A session makes the parts that are left of a request, if there are any. None of them but the last says something, so room for one longest answer will do.
-fn work_off<V: Walked>(session: &mut Session, pool: &mut V, number: u8, out: &mut Answers)
+fn work_off<V: Cloned>(session: &mut Session, pool: &mut V, number: u8, out: &mut Answers)
     requires ready { IsReady session.old.phase (V.view.outline pool.old) (V.view.more pool.old) }
     requires goes_on { has_ended session.old.phase ≡ false }
     requires room { is_at_work session.old.phase ≡ true → HasRoom out.old }
@@ -65,7 +65,7 @@ fn work_off<V: Walked>(session: &mut Session, pool: &mut V, number: u8, out: &mu
 }
 
 /// A session hears a piece, and makes the parts of its long requests, unless it is to stop there. Room is made before each step that takes something.
-fn hear<V: Walked>(
+fn hear<V: Cloned>(
     session: &mut Session,
     pool: &mut V,
     number: u8,
@@ -160,7 +160,7 @@ pub fn open_slot<V: Volumes>(
 
 /// A session that has parts of a request left makes them where no text comes, or one of them where it is parted, and else refuses that: it is asked to make
 /// them first.
-fn go_on<V: Walked>(
+fn go_on<V: Cloned>(
     session: &mut Session,
     pool: &mut V,
     number: u8,
@@ -205,7 +205,7 @@ fn up_to(bytes: usize, len: usize) -> Took
 }
 
 /// A session's client sends a piece, which is heard up to where a long request begins, or of which one part is made, where it is parted.
-pub fn hear_slot<V: Walked>(
+pub fn hear_slot<V: Cloned>(
     slot: &mut Option<Session>,
     pool: &mut V,
     number: u8,
@@ -238,8 +238,8 @@ pub fn hear_slot<V: Walked>(
     }
 }
 
-/// A session's client goes: its volume is let go.
-pub fn leave_slot<V: Volumes>(
+/// A session's client goes: its volume is let go, and deleted where it is a clone.
+pub fn leave_slot<V: Cloned>(
     slot: &mut Option<Session>,
     pool: &mut V,
     number: u8,
@@ -268,7 +268,7 @@ pub fn leave_slot<V: Volumes>(
 }
 
 /// A session ends where there is one, with no answer.
-pub fn leave_place<V: Volumes>(slot: &mut Option<Session>, pool: &mut V)
+pub fn leave_place<V: Cloned>(slot: &mut Option<Session>, pool: &mut V)
     requires { IsReadySlot slot.old (V.view.outline pool.old) (V.view.more pool.old) }
     ensures gone { slot.new ≡ None }
     ensures keeps { (n : ℕ) → KeepsServing V.view n slot.old pool.old None pool.new }

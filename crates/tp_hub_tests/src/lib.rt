@@ -4,6 +4,8 @@
 #[cfg(test)]
 mod carried;
 #[cfg(test)]
+mod clones;
+#[cfg(test)]
 mod flushes;
 #[cfg(test)]
 mod holes;

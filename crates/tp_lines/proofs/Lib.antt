@@ -1,5 +1,6 @@
 pub mod Bytes
 pub mod Controlling
+pub mod Deleting
 mod Digits
 pub mod Doing
 pub mod Piping

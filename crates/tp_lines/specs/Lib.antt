@@ -1,3 +1,4 @@
+pub mod Clearing
 pub mod Controls
 pub mod Lines
 pub mod Pages

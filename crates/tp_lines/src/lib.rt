@@ -1,6 +1,7 @@
 //! Lines of text over a hub: the lines of a script, each an event, and what the answers are in text.
 #![tactic(auto)]
 
+mod clearing;
 mod control;
 mod held;
 mod hex;
@@ -10,6 +11,7 @@ mod pipe;
 mod play;
 mod text;
 
+pub use clearing::clear_clones;
 pub use control::{LinesEnd, answer_line, attend_lines};
 pub use hex::unhex;
 pub use line::{ScriptLine, read_line};

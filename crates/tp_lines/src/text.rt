@@ -72,7 +72,7 @@ fn put_hex<S: Stream>(stream: &mut S, bytes: &[u8]) -> bool
 }
 
 /// Copies bytes to a place of a buffer, and tells where they end.
-fn copy(out: &mut [u8], at: usize, bytes: &[u8]) -> usize
+pub(crate) fn copy(out: &mut [u8], at: usize, bytes: &[u8]) -> usize
     requires { at + length bytes.now ≤ length out.old }
     ensures line { take result out.new ≡ take at out.old ++ bytes.now }
     ensures end { result ≡ at + length bytes.now }

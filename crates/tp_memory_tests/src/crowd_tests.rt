@@ -8,21 +8,22 @@ use crate::talk::{READS, answers_to_reads, reads};
 use std::alloc::Global;
 use std::sync::Wait;
 use std::thread::Threads;
-use tp_cache::ReadCache;
 use tp_crowd::{Served, serve_all};
 use tp_disk::SharedDisk;
 use tp_hub::Hub;
-use tp_meta::Meta;
+use tp_meta::Metadata;
 
-/// Serves these clients: how many came, how many of them were refused, and the hub behind them.
-fn serve<'a, H, D>(
+/// Serves these clients: how many came, how many of them were refused, and the hub behind them. It is generic in the disk and the metadata, so that the prover
+/// compares no pool that is written out.
+fn serve<'a, H, D, M>(
     rt: &H,
-    hub: Hub<tp_served::Served<ReadCache<D>, Meta>>,
+    hub: Hub<tp_served::Served<D, M>>,
     clients: Vec<Guest<'a>>,
-) -> ((u8, u64), Hub<tp_served::Served<ReadCache<D>, Meta>>)
+) -> ((u8, u64), Hub<tp_served::Served<D, M>>)
 where
     H: Threads + Wait + Sync + Alloc<A = Global>,
     D: SharedDisk + Drop + Send + Sync,
+    M: Metadata + Drop + Send + Sync,
 {
     let served = serve_all(rt, rt.alloc(), hub, clients.into_iter(), &Silence);
     let Served { hub, came, refused } = served;

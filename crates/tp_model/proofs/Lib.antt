@@ -15,6 +15,7 @@ pub mod CopiesKept
 pub mod CopiesStay
 pub mod Counting
 pub mod Removing
+mod Cloning
 pub mod Slices
 pub mod Steps
 pub mod Nothing

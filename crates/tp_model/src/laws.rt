@@ -6,7 +6,7 @@ ghost use Rattle.tp_model.specs.Sectors.{Sector};
 ghost use Rattle.tp_model.specs.Disk.{DiskState, Writes, after_read, after_flush};
 ghost use Rattle.tp_model.specs.DiskStops.{Leaves, LeavesOnly, PartlyOverlaid, StoppedSince, moment as moment_of};
 ghost use Rattle.tp_model.specs.Pool.{FindsHeld, IsExclusive, IsLawful, IsRenamed, IsShared, IsSound, PlainPool, copy_id, hold_count, slot_at, volume_sector, volume_size, volume_slots};
-ghost use Rattle.tp_model.specs.Calls.{Answer, Call, Done, Flush, Gave, IsAllowed, Makes, Read, Refused, ReleaseMetadataSnap, ReserveMetadataSnap, Step, Takes, Write, ends_in_commit, is_flush, is_message, volume_asked, IsOneOf, may_accept, piece_from, refusal_of, refusals};
+ghost use Rattle.tp_model.specs.Calls.{Answer, Call, CreateSnap, Delete, Done, Edits, Flush, Gave, IsAllowed, Makes, Read, Refused, ReleaseMetadataSnap, ReserveMetadataSnap, Step, Takes, Write, ends_in_commit, is_flush, is_message, volume_asked, IsOneOf, may_accept, piece_from, refusal_of, refusals};
 ghost use Rattle.tp_model.specs.PoolStops.{Event, GivenBy, GivenIn, MayBeLeftSince, MayReopen, Nothing, keeps, reopened};
 ghost use Rattle.tp_model.specs.Clauses.{AreCalls, AreTraced, Asked, Called, Continues, HasTrace, Meets, OpensSince, Traced, Unkept, found_now, traced, PoolCall};
 
@@ -36,6 +36,20 @@ pub fn held_volumes_stay()
 pub fn held_sizes_stay()
     ensures { (old : PlainPool) (call : Call) (answer : Answer) (made new : PlainPool) → Takes old call answer made new
         → FindsHeld old → (id : ℕ) → 0 < hold_count old.holds id → volume_size new id ≡ volume_size old id }
+{}
+
+/// A snapshot that is made comes to be under an id that no volume has, so that nobody holds one of that id. It has the sectors of its origin, and all other volumes
+/// stay as they are.
+pub fn snapshots_are_new()
+    ensures unheld { (p made q : PlainPool) (id origin : ℕ) → Takes p (CreateSnap id origin) Done made q → FindsHeld p → hold_count p.holds id ≡ 0 }
+    ensures same { (p made q : PlainPool) (id origin k : ℕ) → Takes p (CreateSnap id origin) Done made q → volume_sector q id k ≡ volume_sector p origin k }
+    ensures others { (p made q : PlainPool) (id origin other : ℕ) → Takes p (CreateSnap id origin) Done made q → other ≢ id → get q.volumes other ≡ get p.volumes other }
+{}
+
+/// What changes sectors of a volume, and what removes it, leaves all other volumes as they are: so what is written to a snapshot is not in its origin.
+pub fn changes_leave_other_volumes()
+    ensures edited { (p q : PlainPool) (call : Call) (id other : ℕ) → Edits p call id q → other ≢ id → get q.volumes other ≡ get p.volumes other }
+    ensures removed { (p q : PlainPool) (id other : ℕ) → Makes p (Delete id) q → other ≢ id → get q.volumes other ≡ get p.volumes other }
 {}
 
 /// A call makes one pool, but for the names of labels, the metadata blocks that it takes, and the number of a held root.

@@ -1,13 +1,13 @@
 //! A pool that takes messages and tells its status lines.
 ghost use Rattle.std.specs.Prelude.{◌≡◌, ◌≤◌, IfOk, MatchResult, take};
-ghost use Rattle.tp_model.specs.Calls.{CreateSnap, CreateThin, Delete, Done, Grow, Line, Refused, ReleaseMetadataSnap, ReserveMetadataSnap, SetTransactionId, Status, ThinStatus};
+ghost use Rattle.tp_model.specs.Calls.{CreateThin, Done, Grow, Line, Refused, ReleaseMetadataSnap, ReserveMetadataSnap, SetTransactionId, Status, ThinStatus};
 ghost use Rattle.tp_model.specs.Clauses.{Meets};
 
 use crate::status::LineBuffer;
-use tp_model::{DevId, Refusal, Walked};
+use tp_model::{Cloned, DevId, Refusal};
 
-/// The calls of a pool that are no requests of those who are served: its messages, its status lines, and the walks over its volumes.
-pub trait Managed: Walked {
+/// The calls of a pool that are no requests of those who are served: its messages, of which `Cloned` has two, its status lines, and the walks over its volumes.
+pub trait Managed: Cloned {
     /// Creates a volume of which nothing is mapped, and keeps it.
     ///
     /// Refused by `Failed`, `ReadOnly`, `Exists`, `TooManyDevices`, `NoMetadataSpace`, `Fault` or `Damaged`.
@@ -15,22 +15,6 @@ pub trait Managed: Walked {
         ensures { MatchResult result
             (λ _. Meets Self.view self.old self.new (CreateThin id) Done)
             (λ reason. Meets Self.view self.old self.new (CreateThin id) (Refused reason)) };
-
-    /// Creates a volume with the content that its origin has now, and keeps it.
-    ///
-    /// Refused by `Failed`, `ReadOnly`, `NoSuchDevice` (the origin), `Exists`, `TooManyDevices`, `NoMetadataSpace`, `Fault` or `Damaged`.
-    fn create_snap(&mut self, id: DevId, origin: DevId) -> Result<(), Refusal>
-        ensures { MatchResult result
-            (λ _. Meets Self.view self.old self.new (CreateSnap id origin) Done)
-            (λ reason. Meets Self.view self.old self.new (CreateSnap id origin) (Refused reason)) };
-
-    /// Removes a volume that nobody holds, and keeps that.
-    ///
-    /// Refused by `Failed`, `ReadOnly`, `NoSuchDevice`, `Busy`, `NoMetadataSpace` (only while a metadata root is held), `Fault` or `Damaged`.
-    fn delete(&mut self, id: DevId) -> Result<(), Refusal>
-        ensures { MatchResult result
-            (λ _. Meets Self.view self.old self.new (Delete id) Done)
-            (λ reason. Meets Self.view self.old self.new (Delete id) (Refused reason)) };
 
     /// Makes the transaction id the next one, where it is the current one, and keeps that.
     ///

@@ -2,20 +2,22 @@
 use crate::pool::Pool;
 use tp_disk::Disk;
 use tp_meta::Metadata;
-use tp_model::{DevId, Refusal};
+use tp_model::{Cloned, DevId, Refusal};
 use tp_msg::{LineBuffer, Managed};
 
-impl<D: Disk, M: Metadata> Managed for Pool<D, M> {
-    fn create_thin(&mut self, id: DevId) -> Result<(), Refusal> {
-        self.create_thin(id)
-    }
-
+impl<D: Disk, M: Metadata> Cloned for Pool<D, M> {
     fn create_snap(&mut self, id: DevId, origin: DevId) -> Result<(), Refusal> {
         self.create_snap(id, origin)
     }
 
     fn delete(&mut self, id: DevId) -> Result<(), Refusal> {
         self.delete(id)
+    }
+}
+
+impl<D: Disk, M: Metadata> Managed for Pool<D, M> {
+    fn create_thin(&mut self, id: DevId) -> Result<(), Refusal> {
+        self.create_thin(id)
     }
 
     fn grow(&mut self, id: DevId, blocks: u64) -> Result<(), Refusal> {

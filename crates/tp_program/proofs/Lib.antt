@@ -1,2 +1,3 @@
 mod Ends
+mod Offering
 mod Tasks

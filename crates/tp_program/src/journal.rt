@@ -1,7 +1,7 @@
 //! What is told on standard error while clients are served without end.
 
 use crate::moment::Moment;
-use std::alloc::Global;
+use std::alloc::{AllocError, Global};
 use std::fmt::{self, Display, Formatter};
 use std::io::Write;
 use std::mem;
@@ -60,6 +60,8 @@ enum News<'a> {
     Obeyed(&'a str),
     Failed(&'a str, Option<Trouble>),
     Low(&'a str, Use),
+    Cleared(u32),
+    NotCleared,
 }
 
 impl Display for News<'_> {
@@ -70,6 +72,8 @@ impl Display for News<'_> {
             News::Obeyed(line) => write!(f, "control: {line}"),
             News::Failed(image, trouble) => tell_failure(image, trouble, f),
             News::Low(kind, blocks) => tell_low(kind, blocks, f),
+            News::Cleared(count) => tell_cleared(*count, f),
+            News::NotCleared => write!(f, "no memory to delete clones that a server left"),
         }
     }
 }
@@ -122,6 +126,11 @@ fn tell_low<W: fmt::Write>(kind: &str, blocks: &Use, f: &mut Formatter<W>) -> fm
         blocks.free(),
         blocks.all
     )
+}
+
+/// That clones were deleted.
+fn tell_cleared<W: fmt::Write>(count: u32, f: &mut Formatter<W>) -> fmt::Result {
+    write!(f, "deleted clones that a server left: {count}")
 }
 
 impl Use {
@@ -215,6 +224,18 @@ impl<'m, R: Wait + Clock> Journal<'m, R> {
         let is_low = blocks.is_below(self.low_water);
         if !was_low.swap(is_low, Ordering::SeqCst) && is_low {
             self.note_unless_quiet(&News::Low(kind, blocks));
+        }
+    }
+
+    /// Notes how many clones were deleted that a server left, if there were some.
+    pub(crate) fn cleared(&self, cleared: Result<u32, AllocError>) {
+        match cleared {
+            Ok(count) => {
+                if count > 0 {
+                    self.note_unless_quiet(&News::Cleared(count));
+                }
+            }
+            Err(_) => self.note(&News::NotCleared),
         }
     }
 

@@ -1,8 +1,8 @@
 //! Clients without end over the pool of an image, which is then closed, and beside them control lines.
 
-ghost use Rattle.std.specs.Prelude.{◌≡◌, IfErr, true};
+ghost use Rattle.std.specs.Prelude.{◌≡◌, IfErr, true, if◌then◌else◌};
 ghost use Rattle.std.specs.FinMap.{empty};
-ghost use Rattle.nbd_session.specs.Session.{default_of, is_extended};
+ghost use Rattle.nbd_session.specs.Session.{below, default_of, has_clones, is_extended};
 ghost use Rattle.tp_disk.specs.HandedOut.{IsHandedOut};
 ghost use Rattle.tp_holders.specs.Holders.{holds_of};
 ghost use Rattle.tp_lock.specs.Locked.{CameOf};
@@ -12,7 +12,7 @@ ghost use Rattle.tp_program.specs.Living.{StaysPool};
 ghost use Rattle.tp_program.specs.Staying.{IsNoDoor, StaysImage, StaysOn, default_for, told_of_place, told_of_threads};
 
 use crate::journal::Journal;
-use nbd_session::Profile;
+use nbd_session::{Profile, has_clones};
 use std::alloc::Global;
 use std::fs::File;
 use std::io::Write;
@@ -23,6 +23,7 @@ use std::thread;
 use std::thread::Threads;
 use std::time::Clock;
 use tp_cache::ReadCache;
+use tp_commands::beginning::begin_hub;
 use tp_commands::closing::{behind, end_hub};
 use tp_commands::opening::open_pool;
 use tp_crowd::{Chronicle, Door, Stayed, serve_until_stopped};
@@ -173,17 +174,30 @@ fn refused_threads(is_manned: bool) -> Result<(), Failure>
     }
 }
 
-/// What is offered to each client. A default that no volume can have is none.
+/// The volume of clients who name none. A number that no volume can have is none.
+fn default_for(number: Option<u64>) -> Option<DevId>
+    ensures { result ≡ default_for number }
+{
+    match number {
+        None => None,
+        Some(number) => match DevId::checked(number) {
+            Ok(id) => Some(id),
+            Err(_) => None,
+        },
+    }
+}
+
+/// What is offered to each client.
 fn profile_of(service: &Service<'_>) -> Profile
     ensures extended { is_extended result ≡ true }
-    ensures default { default_of result ≡ default_for service.now.default }
+    ensures clones { has_clones result ≡ service.now.has_clones }
+    ensures default { default_of result ≡ (if service.now.has_clones then below 8388608 (default_for service.now.default) else default_for service.now.default) }
 {
-    let Some(id) = service.default else {
-        return Profile::extended(None);
-    };
-    match DevId::checked(id) {
-        Ok(id) => Profile::extended(Some(id)),
-        Err(_) => Profile::extended(None),
+    let default = default_for(service.default);
+    if service.has_clones {
+        Profile::cloning(default)
+    } else {
+        Profile::extended(default)
     }
 }
 
@@ -231,7 +245,9 @@ where
     requires { holds_of pool.besides.holders ≡ empty }
     ensures { StaysPool pool (number_of result.1) (D.state result.0) }
 {
-    let stayed = run_hub(rt, alloc, Hub::new(pool), doors, profile, journal);
+    let (hub, cleared) = begin_hub(alloc, pool, has_clones(&profile));
+    journal.cleared(cleared);
+    let stayed = run_hub(rt, alloc, hub, doors, profile, journal);
     let Stayed {
         hub,
         is_manned,

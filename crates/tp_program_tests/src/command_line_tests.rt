@@ -80,6 +80,12 @@ const BAD_LINES: &[(&[&str], &str)] = &[
         ],
         "error: PERCENT is not from 0 to 100\n",
     ),
+    (
+        &[
+            "thinpool", "run", "bad.img", "--listen", "a:1", "--clones", "1",
+        ],
+        "error: unexpected argument '1' found",
+    ),
     (&["thinpool", "fly"], "error: unrecognized subcommand 'fly'"),
     (
         &["thinpool", "--explain", "feed"],

@@ -183,3 +183,104 @@ fn low_water_is_told_once(rt: HostRuntime) -> Result<(), Fail> {
     assert_eq!(rt; told, (Status::Done, 1, 0));
     Ok(())
 }
+
+/// A clone of the volume 0 that a server left.
+const LEFT_CLONE: &[Call] = &[("message", &["create_snap 8388608 0"], 0, "ok\n")];
+
+/// What is left behind it: no clone, and of volume 0 nothing is written.
+const NO_CLONE: &[Call] = &[
+    ("status", &["8388608"], 1, "thinpool: 15 NoSuchDevice\n"),
+    ("status", &["0"], 0, "0 -\n"),
+    ("check", &[], 0, "clean\n"),
+];
+
+/// The client flags, and GO of a clone of the volume 0.
+const CLONE_GO: &[u8] =
+    b"\x00\x00\x00\x03IHAVEOPT\x00\x00\x00\x07\x00\x00\x00\x0d\x00\x00\x00\x07clone:0\x00\x00";
+
+/// Has a client go to a clone, and fill its first sector: whether it is answered as one of the volume would be that has one connection.
+fn clone_and_fill(alloc: Global, client: &mut TcpStream) -> io::Result<bool> {
+    let greeted = [Part::Text(GREETING), Part::Text(GO_REPLIES)];
+    let is_greeted = is_exchanged(alloc, client, &[Part::Text(CLONE_GO)], &greeted)?;
+    let text = [Part::Ask(1, 7, 0, 512), Part::Fill(b'a', 512)];
+    Ok(is_exchanged(alloc, client, &text, &[Part::Reply(0, 7)])? && is_greeted)
+}
+
+/// How the program ends that serves clients clones, and how often it says that it deleted one that was left.
+type Cleared = (Status, usize);
+
+/// How that ended.
+fn cleared_of(ran: &Ran) -> Cleared {
+    let said = std::str::from_utf8(&ran.errors).unwrap_or("");
+    let cleared = said.matches(" deleted clones that a server left: 1\n");
+    (ran.status, cleared.count())
+}
+
+/// Runs the program that serves clients clones.
+fn serve_clones<H>(rt: &H, image: &str, places: &Places) -> Cleared
+where
+    H: Files<File = File>
+        + Net<Listener = TcpListener, Stream = TcpStream>
+        + Threads
+        + Wait
+        + Clock
+        + Sync
+        + Alloc<A = Global>,
+{
+    let any = "127.0.0.1:0";
+    let words = [
+        "thinpool",
+        "run",
+        image,
+        "--listen",
+        any,
+        "--control",
+        any,
+        "--clones",
+    ];
+    cleared_of(&run_server(rt, &words, places))
+}
+
+/// A client has a clone, and a line stops all.
+fn clone_and_stop<H>(rt: &H, places: &Places) -> io::Result<(bool, (bool, usize))>
+where
+    H: Net<Listener = TcpListener, Stream = TcpStream> + Wait + Alloc<A = Global>,
+{
+    let Some((clients, Some(control))) = places.wait(rt) else {
+        return Err(io::Error::from(ErrorKind::NotConnected));
+    };
+    let mut client = TcpStream::connect(rt, *clients)?;
+    let is_filled = clone_and_fill(rt.alloc(), &mut client)?;
+    Ok((is_filled, stop_beside(rt, *control, &mut client)?))
+}
+
+/// How the program ends, and what the client is told.
+fn told_of_clones<H>(rt: &H, image: &str) -> Result<(Cleared, (bool, (bool, usize))), Fail>
+where
+    H: Files<File = File>
+        + Net<Listener = TcpListener, Stream = TcpStream>
+        + Threads
+        + Wait
+        + Clock
+        + Sync
+        + Alloc<A = Global>,
+{
+    let places = OnceLock::new();
+    let (told, cleared) = join(
+        rt,
+        || clone_and_stop(rt, &places),
+        || serve_clones(rt, image, &places),
+    );
+    Ok((cleared, told?))
+}
+
+/// A clone that a server left is deleted at the start, and that of a client goes with it.
+#[test]
+fn clones_go_with_their_clients(rt: HostRuntime) -> Result<(), Fail> {
+    make_calls(&rt, "clones.img", MADE)?;
+    make_calls(&rt, "clones.img", LEFT_CLONE)?;
+    let told = told_of_clones(&rt, "clones.img")?;
+    make_last_calls(&rt, "clones.img", NO_CLONE)?;
+    assert_eq!(rt; told, ((Status::Done, 1), (true, (true, 0))));
+    Ok(())
+}

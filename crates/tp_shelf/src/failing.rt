@@ -8,8 +8,8 @@ ghost use Rattle.tp_holders.specs.Holders.{holds_of};
 use arrayvec::ArrayVec;
 use tp_holders::{Holder, Holders, release};
 use tp_model::{
-    DevId, Flushing, Geometry, Mode, Refusal, SharedReads, SharedVolumes, Slots, Staged, Vb,
-    Volumes, Walked,
+    Cloned, DevId, Flushing, Geometry, Mode, Refusal, SharedReads, SharedVolumes, Slots, Staged,
+    Vb, Volumes, Walked,
 };
 use tp_msg::{LineBuffer, Managed};
 
@@ -200,17 +200,19 @@ impl Walked for FailingShelf {
     }
 }
 
-impl Managed for FailingShelf {
-    fn create_thin(&mut self, _id: DevId) -> Result<(), Refusal> {
-        Err(self.reason(Refusal::TooManyDevices))
-    }
-
+impl Cloned for FailingShelf {
     fn create_snap(&mut self, _id: DevId, _origin: DevId) -> Result<(), Refusal> {
         Err(self.reason(Refusal::TooManyDevices))
     }
 
     fn delete(&mut self, _id: DevId) -> Result<(), Refusal> {
         Err(self.reason(Refusal::NoSuchDevice))
+    }
+}
+
+impl Managed for FailingShelf {
+    fn create_thin(&mut self, _id: DevId) -> Result<(), Refusal> {
+        Err(self.reason(Refusal::TooManyDevices))
     }
 
     fn grow(&mut self, _id: DevId, _blocks: u64) -> Result<(), Refusal> {

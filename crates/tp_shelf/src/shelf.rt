@@ -13,8 +13,8 @@ use std::thread;
 use tp_holders::{Holder, Holders, release};
 use tp_hub::{Log, Made};
 use tp_model::{
-    DevId, Flushing, Geometry, Mode, Pb, Refusal, SharedReads, SharedVolumes, Slot, Slots, Staged,
-    Vb, Volumes, Walked,
+    Cloned, DevId, Flushing, Geometry, Mode, Pb, Refusal, SharedReads, SharedVolumes, Slot, Slots,
+    Staged, Vb, Volumes, Walked,
 };
 use tp_msg::{LineBuffer, Managed, PoolStatus, VolumeStatus, print_status, print_thin};
 
@@ -389,15 +389,7 @@ impl Walked for Shelf {
     }
 }
 
-impl Managed for Shelf {
-    fn create_thin(&mut self, id: DevId) -> Result<(), Refusal> {
-        if id.number() < 2 {
-            Err(Refusal::Exists)
-        } else {
-            Err(Refusal::TooManyDevices)
-        }
-    }
-
+impl Cloned for Shelf {
     fn create_snap(&mut self, id: DevId, origin: DevId) -> Result<(), Refusal> {
         if origin.number() >= 2 {
             Err(Refusal::NoSuchDevice)
@@ -413,6 +405,16 @@ impl Managed for Shelf {
             Err(Refusal::Busy)
         } else {
             Err(Refusal::NoSuchDevice)
+        }
+    }
+}
+
+impl Managed for Shelf {
+    fn create_thin(&mut self, id: DevId) -> Result<(), Refusal> {
+        if id.number() < 2 {
+            Err(Refusal::Exists)
+        } else {
+            Err(Refusal::TooManyDevices)
         }
     }
 

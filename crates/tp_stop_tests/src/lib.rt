@@ -8,6 +8,8 @@ mod asking;
 #[cfg(test)]
 mod cases;
 #[cfg(test)]
+mod clones;
+#[cfg(test)]
 mod faults;
 #[cfg(test)]
 mod images;

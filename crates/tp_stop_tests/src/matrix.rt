@@ -152,7 +152,7 @@ fn formatted(alloc: Global, room: Room) -> Result<MemServed, Refusal> {
 }
 
 /// A disk with a pool with volume 0.
-fn founded(alloc: Global, room: Room) -> Result<MemDisk, Refusal> {
+pub(crate) fn founded(alloc: Global, room: Room) -> Result<MemDisk, Refusal> {
     let mut pool = formatted(alloc, room)?;
     pool.create_thin(DevId::new(0))?;
     Ok(pool.close().1)

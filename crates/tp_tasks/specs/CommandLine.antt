@@ -144,11 +144,11 @@ play_app = with_rule (with_rule (image_app (codes "play")) (text_rule (codes "SC
 abbrev pub told_app : App → App
 told_app app = with_rule (with_rule app (number_option_rule (codes "LOW_WATER") (codes "low-water"))) (flag_rule (codes "QUIET") (codes "quiet"))
 
--- `thinpool run IMAGE --listen WHERE.. [--control WHERE] [--default ID] [--low-water PERCENT] [--quiet]`
+-- `thinpool run IMAGE --listen WHERE.. [--control WHERE] [--default ID] [--clones] [--low-water PERCENT] [--quiet]`
 abbrev pub run_app : App
 run_app =
-    told_app (with_rule (with_rule (with_rule (image_app (codes "run")) (repeated_rule (codes "LISTEN") (codes "listen"))) (option_rule (codes "CONTROL") (codes "control")))
-    (number_option_rule (codes "DEFAULT") (codes "default")))
+    told_app (with_rule (with_rule (with_rule (with_rule (image_app (codes "run")) (repeated_rule (codes "LISTEN") (codes "listen"))) (option_rule (codes "CONTROL") (codes "control")))
+    (number_option_rule (codes "DEFAULT") (codes "default"))) (flag_rule (codes "CLONES") (codes "clones")))
 
 -- `thinpool ask WHERE LINE [LINE2] [LINE3] [LINE4]`
 abbrev pub ask_app : App
@@ -388,6 +388,7 @@ abbrev pub IsRun : List Row → Task → Type 0
 IsRun rows (Run image service) =
     HasText (codes "IMAGE") rows image × HasTexts (codes "LISTEN") rows service.places × MayHaveText (codes "CONTROL") rows service.control
     × MayHaveUpTo 16777215 (codes "DEFAULT") rows service.default × MayHaveUpTo 100 (codes "LOW_WATER") rows service.low_water × (service.is_quiet ≡ is_used (codes "QUIET") rows)
+    × (service.has_clones ≡ is_used (codes "CLONES") rows)
 IsRun rows task = ⊥
 
 abbrev pub IsAsk : List Row → Task → Type 0

@@ -23,12 +23,14 @@ pub(crate) fn run_task<'a>(arguments: &ArgMatches<'a>) -> Option<Task<'a>>
     let low_water = number_up_to(arguments, "LOW_WATER", 100)?;
     let ruler = text_if_there(arguments, "CONTROL");
     let is_quiet = has_flag(arguments, "QUIET");
+    let has_clones = has_flag(arguments, "CLONES");
     let service = Service {
         places,
         control: ruler,
         default,
         low_water,
         is_quiet,
+        has_clones,
     };
     Some(Task::Run { image, service })
 }

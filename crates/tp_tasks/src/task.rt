@@ -96,6 +96,8 @@ pub struct Service<'a> {
     pub low_water: Option<u64>,
     /// Whether faults alone are told.
     pub is_quiet: bool,
+    /// Whether a client may have a clone of a volume, which goes with it. Then ids from 8388608 on are those of clones.
+    pub has_clones: bool,
 }
 
 /// The texts of what may be given once to four times, in order.

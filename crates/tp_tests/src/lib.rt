@@ -8,6 +8,8 @@ mod checks;
 #[cfg(test)]
 mod clients;
 #[cfg(test)]
+mod clones;
+#[cfg(test)]
 mod listing;
 #[cfg(test)]
 mod sessions;

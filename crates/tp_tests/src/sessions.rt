@@ -8,7 +8,7 @@ use std::alloc::{AllocError, Global};
 use std::test::Fail;
 use tp_disk::{Disk, Fault, MemDisk};
 use tp_meta::Meta;
-use tp_model::{DevId, Geometry, Mode, Refusal, Walked};
+use tp_model::{Cloned, DevId, Geometry, Mode, Refusal};
 use tp_pool::Pool;
 use tp_samples::{MemPool, SECTOR, byte_at, example_failing};
 
@@ -36,7 +36,7 @@ const OPENING: u64 = 6;
 const FLAGS: (usize, usize) = (9, 31);
 
 /// What a session is sent that hears this and ends.
-fn sent<V: Walked>(alloc: Global, pool: &mut V, text: &[u8]) -> Result<Vec<u8>, Refusal>
+fn sent<V: Cloned>(alloc: Global, pool: &mut V, text: &[u8]) -> Result<Vec<u8>, Refusal>
     requires { hold_total (V.view.outline pool.old).holds < 64 }
 {
     let mut out = Vec::new(alloc);
@@ -50,7 +50,7 @@ fn sent<V: Walked>(alloc: Global, pool: &mut V, text: &[u8]) -> Result<Vec<u8>, 
 }
 
 /// What is sent, and the mode behind it, where the pool is flushed before.
-fn told_flushed<V: Walked>(
+fn told_flushed<V: Cloned>(
     alloc: Global,
     pool: &mut V,
     text: &[u8],
@@ -63,7 +63,7 @@ fn told_flushed<V: Walked>(
 }
 
 /// What is sent, and the mode behind it.
-fn told<V: Walked>(alloc: Global, pool: &mut V, text: &[u8]) -> Result<(Vec<u8>, Mode), Refusal>
+fn told<V: Cloned>(alloc: Global, pool: &mut V, text: &[u8]) -> Result<(Vec<u8>, Mode), Refusal>
     requires { hold_total (V.view.outline pool.old).holds < 64 }
 {
     let sent = sent(alloc, pool, text)?;

@@ -4,7 +4,7 @@ ghost use Rattle.tp_model.specs.Pool.{hold_total};
 use crate::table::Table;
 use nbd_session::{MAX_ANSWER, Phase, Profile, Session, feed};
 use std::alloc::{AllocError, Global};
-use tp_model::{DevId, Geometry, Refusal, Walked};
+use tp_model::{Cloned, DevId, Geometry, Refusal};
 
 /// The client flags, and LIST.
 const LIST: &[u8] = b"\0\0\0\x03IHAVEOPT\0\0\0\x03\0\0\0\0";
@@ -35,7 +35,7 @@ IHAVEOPT\0\0\0\x06\0\0\0\x07\0\0\0\x019\0\0";
 const LETTER: &[u8] = b"\0\0\0\x03IHAVEOPT\0\0\0\x06\0\0\0\x07\0\0\0\x01x\0\0";
 
 /// What is sent for these bytes behind the greeting, until the client goes.
-fn sent<V: Walked>(
+fn sent<V: Cloned>(
     alloc: Global,
     pool: &mut V,
     profile: Profile,
@@ -257,6 +257,99 @@ fn an_older_volume_is_asked_since_where_it_is_there(rt: HostRuntime) {
     assert!(rt; is_sent(sent, SINCE_TOLD) == Ok(true));
 }
 
+/// The client flags, and GO of a clone of the volume 9.
+const GO_OF_CLONE: &[u8] = b"\0\0\0\x03IHAVEOPT\0\0\0\x07\0\0\0\x0d\0\0\0\x07clone:9\0\0";
+
+/// The client flags, and INFO of one.
+const INFO_OF_CLONE: &[u8] = b"\0\0\0\x03IHAVEOPT\0\0\0\x06\0\0\0\x0d\0\0\0\x07clone:9\0\0";
+
+/// The client flags, and INFO of the least id that is none of a volume where there are clones.
+const INFO_OF_LIMIT: &[u8] = b"\0\0\0\x03IHAVEOPT\0\0\0\x06\0\0\0\x0d\0\0\0\x078388608\0\0";
+
+/// The client flags, STRUCTURED_REPLY, and SET_META_CONTEXT of the volume 8388607 since 8388608.
+const SINCE_LIMIT: &[u8] = b"\0\0\0\x03\
+IHAVEOPT\0\0\0\x08\0\0\0\0\
+IHAVEOPT\0\0\0\x0a\0\0\0\x29\0\0\0\x078388607\0\0\0\x01\0\0\0\x16thinpool:since:8388608";
+
+#[test]
+fn no_clone_is_made_in_a_read_only_pool(rt: HostRuntime) {
+    let sent = is_sent(
+        offered(rt.alloc(), Profile::cloning(None), GO_OF_CLONE),
+        b"\0\x03\xe8\x89\x04\x55\x65\xa9\0\0\0\x07\x80\0\0\x02\0\0\0\0",
+    );
+    assert!(rt; sent == Ok(true));
+}
+
+#[test]
+fn of_a_clone_the_size_of_its_volume_is_told(rt: HostRuntime) {
+    let sent = is_begun(
+        told_of(
+            rt.alloc(),
+            Profile::cloning(None),
+            9,
+            1,
+            Some(33),
+            INFO_OF_CLONE,
+        ),
+        b"\0\x03\xe8\x89\x04\x55\x65\xa9\0\0\0\x06\0\0\0\x03\0\0\0\x0c\0\0\0\0\0\0\0\x21\0\0\0\x6f",
+    );
+    assert!(rt; sent == Ok(true));
+}
+
+#[test]
+fn without_clones_their_names_are_unknown(rt: HostRuntime) {
+    let sent = offered(rt.alloc(), Profile::extended(None), INFO_OF_CLONE);
+    assert!(rt; is_sent(sent, UNKNOWN) == Ok(true));
+}
+
+#[test]
+fn ids_of_clones_are_no_names(rt: HostRuntime) {
+    let profile = Profile::cloning(None);
+    let sent = told_of(rt.alloc(), profile, 8_388_608, 1, Some(16), INFO_OF_LIMIT);
+    assert!(rt; is_sent(sent, UNKNOWN) == Ok(true));
+}
+
+#[test]
+fn no_default_is_a_clone(rt: HostRuntime) {
+    let profile = Profile::cloning(Some(DevId::new(8_388_608)));
+    let sent = told_of(rt.alloc(), profile, 8_388_608, 1, Some(16), NAMELESS);
+    assert!(rt; are_sent(sent, UNKNOWN, UNKNOWN) == Ok(true));
+}
+
+#[test]
+fn clones_are_not_listed(rt: HostRuntime) {
+    let sent = is_sent(
+        told_of(
+            rt.alloc(),
+            Profile::cloning(None),
+            8_388_607,
+            2,
+            Some(16),
+            LIST,
+        ),
+        b"\0\x03\xe8\x89\x04\x55\x65\xa9\0\0\0\x03\0\0\0\x02\0\0\0\x0b\0\0\0\x078388607\
+\0\x03\xe8\x89\x04\x55\x65\xa9\0\0\0\x03\0\0\0\x01\0\0\0\0",
+    );
+    assert!(rt; sent == Ok(true));
+}
+
+#[test]
+fn of_a_clone_nothing_is_told_to_others(rt: HostRuntime) {
+    let sent = is_sent(
+        told_of(
+            rt.alloc(),
+            Profile::cloning(None),
+            8_388_607,
+            2,
+            Some(16),
+            SINCE_LIMIT,
+        ),
+        b"\0\x03\xe8\x89\x04\x55\x65\xa9\0\0\0\x08\0\0\0\x01\0\0\0\0\
+\0\x03\xe8\x89\x04\x55\x65\xa9\0\0\0\x0a\0\0\0\x01\0\0\0\0",
+    );
+    assert!(rt; sent == Ok(true));
+}
+
 /// Whether a text begins as `UNKNOWN`, and has the flags of a strict session in the answer behind it.
 fn is_unknown_and_strict(text: &[u8]) -> bool {
     text.starts_with(UNKNOWN) && text.get(50..52) == Some(b"\0\x6f".as_slice())
@@ -310,7 +403,7 @@ fn zeroes(alloc: Global, len: usize) -> Result<Vec<u8>, AllocError>
 }
 
 /// What a session puts into a buffer of so many bytes that hears the client flags and one option.
-fn put<V: Walked>(
+fn put<V: Cloned>(
     alloc: Global,
     pool: &mut V,
     text: &[u8],

@@ -1,5 +1,5 @@
 //! A pool of volumes with ids one behind the other, which are looked for and nothing else.
-use tp_model::{DevId, Geometry, Mode, Refusal, Slots, Vb, Volumes, Walked};
+use tp_model::{Cloned, DevId, Geometry, Mode, Refusal, Slots, Vb, Volumes, Walked};
 
 /// So many volumes from an id on, of so many blocks each, or of a size that is refused. It is read-only, and no volume of it is read or held.
 #[derive(Drop)]
@@ -91,5 +91,15 @@ impl Volumes for Table {
 impl Walked for Table {
     fn walk(&mut self, _id: DevId, _from: Vb, _slots: &mut Slots) -> Result<(), Refusal> {
         Err(Refusal::NoSuchDevice)
+    }
+}
+
+impl Cloned for Table {
+    fn create_snap(&mut self, _id: DevId, _origin: DevId) -> Result<(), Refusal> {
+        Err(Refusal::ReadOnly)
+    }
+
+    fn delete(&mut self, _id: DevId) -> Result<(), Refusal> {
+        Err(Refusal::ReadOnly)
     }
 }

@@ -344,13 +344,14 @@ asked m first mid c q is a =
           inr (f.0, f.1, subst (λ (x : Counted). c.failures < x.failures) (sym f.2) more)
     ]
 
-means_zero : (id : ℕ) (name : List ℕ) → name ≡ 48 ∷ [] → Means None name id → id ≡ 0
-means_zero id name is (inl named) = is_zero id named.0 (sym is ∙ named.1)
+means_zero : (id : ℕ) (name : List ℕ) → name ≡ 48 ∷ [] → Means None 16777216 name id → id ≡ 0
+means_zero id name is (inl named) = is_zero id named.0.0 (sym is ∙ named.0.1)
 means_zero id name is (inr none) = let e = ap length (sym is ∙ none.0) in absurd (omega (arith, e))
 
 looked : (m : ℕ) (first : List ℕ) (mid : Phase) (c q : Counted) (name : List ℕ) → c.pool ≡ blank 0 m → name ≡ 48 ∷ [] → LooksFor outline_of_counted CountedCall (go agreed) name c first mid q → Entered m c first mid q
-looked m first mid c q name blank_is is (inl nameless) = absurd (nameless.no_id 0 (inl (omega arith, is ∙ sym zero_name)))
-looked m first mid c q name blank_is is (inr named) =
+looked m first mid c q name blank_is is (inl nameless) = absurd (nameless.no_id 0 (inl ((omega arith, is ∙ sym zero_name), omega arith)))
+looked m first mid c q name blank_is is (inr (inr clone)) = let none : false ≡ true = clone.name_is.0 in absurd cc
+looked m first mid c q name blank_is is (inr (inl named)) =
     let zero_id : named.id ≡ 0 = means_zero named.id name is named.name_is in
     asked m first mid c q blank_is (subst (λ (x : ℕ). AsksFor outline_of_counted CountedCall (go agreed) x c first mid q) zero_id named.asks)
 

@@ -14,7 +14,7 @@ use nbd_session::{Profile, Session, feed};
 use std::alloc::Global;
 use tp_disk::MemDisk;
 use tp_meta::Meta;
-use tp_model::{DevId, Refusal, Walked};
+use tp_model::{Cloned, DevId, Refusal};
 use tp_pool::{Pool, images_use_bounded_metadata, room_lasts_to_the_bound};
 
 /// A client that chooses the volume of a blank pool, writes a sector, reads it and flushes is sent exactly the bytes of these answers, and
@@ -27,7 +27,7 @@ pub fn first_session_is_answered()
 
 /// Feeds a session all that a client sends at once, over a pool that shows a plain pool: what is sent is what that one's session sends, and the
 /// disk failed where a fault was answered.
-fn converse<V: Walked>(
+fn converse<V: Cloned>(
     session: &mut Session,
     pool: &mut V,
     text: &[u8],
@@ -46,7 +46,7 @@ fn converse<V: Walked>(
 }
 
 /// Opens a session, and feeds it all that a client sends at once.
-fn converse_anew<V: Walked>(
+fn converse_anew<V: Cloned>(
     alloc: Global,
     pool: &mut V,
     text: &[u8],

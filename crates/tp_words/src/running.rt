@@ -18,6 +18,10 @@ there is no authentication, and a client whose system does not answer any more i
 TRIM, WRITE_ZEROES and BLOCK_STATUS may be as long as a client likes; READ and WRITE have 1048576 bytes at most. A client may have several connections. With --default
 a client who names no volume has that one, as of nbd://host.
 
+With --clones a client who names 'clone:ID' has a snapshot of volume ID for itself, which is made then and deleted when it goes. Clones are the volumes from 8388608
+to 8388671: those that a server left which was killed are deleted at the start, and so is what somebody made there. No client can name or list a volume from 8388608
+on then. Each connection has a clone of its own, also one that is made again.
+
 Standard error is told, a line each with the time in UTC: who comes and goes, with its volume, requests and bytes; which control lines changed
 something; that the pool failed, and why; and once each time that less than PERCENT of the data blocks, or of the metadata blocks, are free. With
 --quiet it is told faults alone, and not where it listens.
@@ -78,6 +82,7 @@ pub(crate) fn run_command<'a>(alloc: Global) -> Result<Command<'a>, AllocError>
     let listen = "Where to listen for clients; up to four times";
     let control = "Where to listen for control lines while clients are served";
     let default = "The volume of a client who names none, 0 to 16777215";
+    let clones = "Clients may have clones; deletes volumes 8388608 to 8388671 first";
     let made = of_image(alloc, "run", about, image, RUN_HELP);
     let made = with(made, repeated(alloc, "LISTEN", "listen", "WHERE", listen));
     let made = with(made, option(alloc, "CONTROL", "control", "WHERE", control));
@@ -85,6 +90,7 @@ pub(crate) fn run_command<'a>(alloc: Global) -> Result<Command<'a>, AllocError>
         made,
         number_option(alloc, "DEFAULT", "default", "ID", default),
     );
+    let made = with(made, flag(alloc, "CLONES", "clones", clones));
     with_telling(alloc, made)
 }
 

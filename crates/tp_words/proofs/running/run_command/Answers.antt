@@ -1,6 +1,6 @@
 use Rattle.std.specs.Prelude.{codes}
 use Rattle.clap.specs.Words.{with_rule}
-use Rattle.tp_tasks.specs.CommandLine.{image_app, number_option_rule, option_rule, repeated_rule}
+use Rattle.tp_tasks.specs.CommandLine.{flag_rule, image_app, number_option_rule, option_rule, repeated_rule}
 use Rattle.tp_words.proofs.running.run_command.Goals as goal
 
 pub returns : goal.returns
@@ -10,9 +10,13 @@ returns c =
     let default = number_option_rule (codes "DEFAULT") (codes "default") in
     let one = with_rule (image_app (codes "run")) listen in
     let two = with_rule one control in
-    c.with_telling.ensures (with_rule two default)
+    let three = with_rule two default in
+    let clones = flag_rule (codes "CLONES") (codes "clones") in
+    c.with_telling.ensures (with_rule three clones)
+    (c.with-made-4.ensures three clones
     (c.with-made-3.ensures two default
     (c.with-made-2.ensures one control
     (c.with-made.ensures (image_app (codes "run")) listen c.of_image-made.ensures (c.repeated.ensures.rule, c.repeated.ensures.local))
     (c.option.ensures.rule, c.option.ensures.local))
     (c.number_option.ensures.rule, c.number_option.ensures.local))
+    (c.flag.ensures.rule, c.flag.ensures.local))

@@ -2,7 +2,7 @@ use Rattle.std.proofs.Common.{ap, refl}
 use Rattle.tp_model.specs.Calls.{CreateSnap}
 use Rattle.tp_pool.specs.Held.{Held}
 use Rattle.tp_pool.proofs.Meeting.{met_same}
-use Rattle.tp_pool.proofs.managed.PoolManaged.create_snap.Goals as goal
+use Rattle.tp_pool.proofs.managed.PoolCloned.create_snap.Goals as goal
 
 pub returns : goal.returns
 returns g c =
