@@ -424,7 +424,7 @@ module _ {S : Type 0} (outline : S → Outline) (Calls : S → Call → Answer �
     pub answer : Answer
     pub deletes : Calls let_go (Delete id) answer p'
 
-  -- the end of a session lets its volume go; where that is a clone it is deleted too
+  -- the end of a session lets its volume go; where that is a clone the pool is asked to delete it too
   abbrev pub LetsGo : Phase → S → S → Type 0
   LetsGo (Flags profile) p p' = p' ≡ p
   LetsGo (Options terms) p p' = p' ≡ p
@@ -589,7 +589,7 @@ module _ {S : Type 0} (outline : S → Outline) (Calls : S → Call → Answer �
     pub calls : Calls p (VolumeBlocks id) answer asked
     pub is_sized : IsCloneSized found id answer asked sent next p'
 
-  -- it cannot be held: it is deleted, and the session ends
+  -- it cannot be held: the pool is asked to delete it, and the session ends
   pub record Deletes (id : ℕ) (p : S) (sent : List ℕ) (next : Phase) (p' : S) : Type 0 where
     pub answer : Answer
     pub calls : Calls p (Delete id) answer p'

@@ -125,7 +125,7 @@ fn take_clone<V: Cloned>(pool: &mut V, geometry: &Geometry, id: DevId) -> Result
     }
 }
 
-/// How many bytes a clone has, which is held from now on. Where that is refused it is deleted.
+/// How many bytes a clone has, which is held from now on. Where that is refused the pool is asked to delete it.
 fn hold_clone<V: Cloned>(pool: &mut V, geometry: &Geometry, id: DevId) -> Result<u64, Refusal>
     requires ready { hold_total (V.view.outline pool.old).holds < 64 }
     ensures { TakesHoldOfClone V.view.outline (PoolCall V.view) geometry.now id result pool.old pool.new }
