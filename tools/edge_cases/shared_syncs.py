@@ -25,6 +25,8 @@ RESULT = re.compile(r"\) += (-?\d+)")
 FIRST, COUNT = 16, 16
 MANY = 16
 TRIES = 3
+# The first of some ids that no volume has.
+FRESH = 40
 # Seconds that a sync takes, and the most of an answer that waits for none.
 DELAY, SOON = 0.3, 0.1
 # Clients that READ, each so many at a time, and how often another one asks beside them, in how many seconds at most, and how long one in a hundred may take.
@@ -50,6 +52,7 @@ def shared_syncs(ground):
         yield f"serve: where {how}, the FLUSH is answered 5, and none is answered 0 behind it, though syncs succeed", partial(fails_for_all, ground, settled, many)
     yield "serve: a READ of another client waits for no sync of a FLUSH behind a WRITE in place", partial(reads_meanwhile, ground, settled, False)
     yield "run: a READ of another client waits for no sync of a WRITE with FUA in place", partial(reads_meanwhile, ground, settled, True)
+    yield "run: a READ of another client waits for no sync of a message", partial(reads_beside_a_message, ground, settled)
     yield f"run: {MANY} clients that WRITE with FUA at once make at most {MANY // 2} syncs", partial(few_for_many, ground, settled)
     for name, kinds in (("WRITE", [WRITE]), ("WRITE and FLUSH", [WRITE, FLUSH])):
         yield f"serve: a {name} has its turn while {READERS} clients READ without end", partial(has_its_turn, ground, settled, kinds)
@@ -292,6 +295,32 @@ def reads_during_a_sync(writer, reader, has_fua):
         reader.do(READ, (FIRST + 1) * BLOCK, 4096)
         taken.append(time.monotonic() - began)
     want((answer(writer) == 0, "what is kept is refused"), (taken, "its client did not wait"))
+    return max(taken), len(taken)
+
+
+def reads_beside_a_message(ground, image):
+    """The best of some tries, since this machine may have other work. The block is read before, so that its metadata is in memory."""
+    with served(ground, image, 1, [f"delay_enter={int(1e6 * DELAY)}"], runs=True) as (traced, clients):
+        clients[0].do(READ, (FIRST + 1) * BLOCK, 4096)
+        tried = [reads_during_a_message(traced.server, clients[0], FRESH + number) for number in range(TRIES)]
+        traced.end(clients)
+    slowest, count = min(tried)
+    want((slowest < SOON, f"of {count} READs one took {1000 * slowest:.0f} ms while a message waited for {1000 * DELAY:.0f}"))
+
+
+def reads_during_a_message(server, reader, volume):
+    """The longest time in which a READ was answered that began before a message was, and how many there were."""
+    taken = []
+    with server.ruler.connect(LIMIT) as stream:
+        stream.sendall(f"create_thin {volume}\n".encode())
+        time.sleep(DELAY / 10)
+        while not select.select([stream], [], [], 0)[0]:
+            began = time.monotonic()
+            reader.do(READ, (FIRST + 1) * BLOCK, 4096)
+            taken.append(time.monotonic() - began)
+        with stream.makefile() as lines:
+            told = lines.readline().rstrip("\n")
+    want((told == "ok", f"the message is answered {told}"), (taken, "the message did not wait"))
     return max(taken), len(taken)
 
 

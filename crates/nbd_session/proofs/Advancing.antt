@@ -1,5 +1,5 @@
 -- A step over a pool is, from each state that the pool may have, a step over the plain pool.
-use Rattle.std.proofs.Common.{◌≡◌, ℕ, zero, suc, ◌+◌, ◌*◌, ◌/◌, ◌<◌, ◌≤◌, ◌⊎◌, Bool, true, false, List, [], ◌∷◌, length, take, Option, Some, None, refl, sym, ap, subst, ◌∙◌, arith, inl, inr, true≢false}
+use Rattle.std.proofs.Common.{◌≡◌, ℕ, zero, suc, ◌+◌, ◌-◌, ◌*◌, ◌/◌, ◌<◌, ◌≤◌, ◌⊎◌, Bool, true, false, List, [], ◌∷◌, ◌++◌, length, take, Option, Some, None, refl, sym, ap, subst, ◌∙◌, arith, inl, inr, true≢false}
 use Rattle.std.specs.Prelude.{IfSome, MatchOption, MatchBool, ◌==◌, if◌then◌else◌, nat_le, nat_lt}
 use Rattle.std.specs.List.{concat}
 use Rattle.std.specs.Ordering.{nat_cmp}
@@ -30,7 +30,8 @@ use Rattle.nbd_session.specs.declared.request.Verdict.TheVariants as verdicts
 use Rattle.nbd_session.specs.Requests.{bytes_of_blocks, form_of, has_fua, has_since, is_kept_apart, known_bytes, to_keep, verdict_in, verdict_on}
 use Rattle.nbd_session.specs.declared.session.Answered.{Answered}
 use Rattle.nbd_wire.specs.Contexts.{asks_for, lists, since_of}
-use Rattle.nbd_session.specs.Buffers.{IsSound}
+use Rattle.nbd_session.specs.Buffers.{IsSound, wanted_in}
+use Rattle.nbd_session.specs.Held.{Gathers}
 use Rattle.nbd_session.specs.Holes.{has_blank}
 use Rattle.nbd_session.specs.Status.{IsAllocation, first_block, unit_of}
 use Rattle.nbd_session.specs.Session.{State, state, has_ended, Outcome, outcome, option_error, VolumeOption, clone_context, clone_manner, export_name, go, has_clones, info, in_chunks, in_context, is_of_failure, is_of_none, is_there, is_at_work, is_extended, kind_of, left_in, limit_of, list_context, manner_in, manner_of, of_clone, uncloned, set_context, structures, terms_of, transmission_flags, without_context, chunk_to, reply_to, Clones, FindsNone, GivesUp, IsCloneHeld, IsCloneSized, IsCloned, Passes, Snaps, LetsGo, Begins, Ends, Tells, Serves, IsMade, MakesPart, IsDeaf, IsSized, Sizes, IsHeld, Holds, Enters, Finds, AsksFor, LooksFor, IsInvalid, IsValid, Informs, Exports, Finding, IsEnough, IsLast, IsRefused, Lists, NamesAll, NamesNone, Answers, Waits, TakesFrame, Steps, Compares, Extends, IsDescribed, IsNoQuery, IsQueried, Queries, Seeks, SeeksFor, Walks, Chooses, IsGiven, Performs, ReadsLong, SeeksHoles}
@@ -39,7 +40,7 @@ use Rattle.tp_model.proofs.Running.{call_traced, goes_on, stays}
 use Rattle.nbd_session.specs.Clauses.{IsReady, Follows, GoesBeyond, HoldsFollow, KeepsSizes, PlainCall, Advances, Leaves, IsCalm, holds_between}
 use Rattle.nbd_session.proofs.Counting.{one_more, still_held}
 use Rattle.nbd_session.proofs.Following.{steps_likewise, lets_go_likewise}
-use Rattle.nbd_session.proofs.Stepping.{calm_state, wanted_at_start}
+use Rattle.nbd_session.proofs.Stepping.{calm_gathered, calm_state, deaf_holds, sound_few, steps_deaf, steps_wait, wanted_at_start}
 
 -- what a session knows of its volume that has entered transmission
 abbrev Knows : Phase → Phase → Outline → (ℕ → ℕ) → Type 0
@@ -99,6 +100,14 @@ never_long : (size : ℕ) (r : Request) → verdict_on size r ≡ verdicts.Long 
 never_long size r h =
     asked_not_long (r.kind == COMMAND_DISC) _ (λ e.
     tested_not_long (form_error size (form_of r)) _ (λ g. chosen_not_long (is_flush (form_of r)) (r.len == 0) (is_read (form_of r)) (is_write (form_of r)) (is_trim (form_of r)) g) e) h
+
+-- a session that makes parts of a request reads no frames
+working_speaks_not : (phase : Phase) (kind : Kind) → kind_of phase ≡ Some kind → is_at_work phase ≡ true → ⊥
+working_speaks_not (Flags a) kind e w = absurd cc
+working_speaks_not (Options z) kind e w = absurd cc
+working_speaks_not (Transmission v n (Listens x)) kind e w = absurd cc
+working_speaks_not (Transmission v n (Works m r)) kind e w = absurd cc
+working_speaks_not Ended kind e w = absurd cc
 
 module _ {D : Type 0} (view : View D) (laws : ViewLaws view) where
   -- ---- what stands between a pool and the plain pool, or the traced one
@@ -973,13 +982,6 @@ module _ {D : Type 0} (view : View D) (laws : ViewLaws view) where
   deaf_open (Options z) old new from to piece sent taken ended h w = absurd h
   deaf_open (Transmission v n (Listens x)) old new from to piece sent taken ended h w = absurd h
 
-  working_speaks_not : (phase : Phase) (kind : Kind) → kind_of phase ≡ Some kind → is_at_work phase ≡ true → ⊥
-  working_speaks_not (Flags a) kind e w = absurd cc
-  working_speaks_not (Options z) kind e w = absurd cc
-  working_speaks_not (Transmission v n (Listens x)) kind e w = absurd cc
-  working_speaks_not (Transmission v n (Works m r)) kind e w = absurd cc
-  working_speaks_not Ended kind e w = absurd cc
-
   open_by : (o : Option Kind) (old new : D) (from to : State) (piece sent : List ℕ) (taken : ℕ) (ended : Bool) → kind_of from.phase ≡ o
       → MatchOption o (IsDeaf view.outline (PoolCall view) from.phase from old piece taken sent ended to new)
       (λ kind. Waits view.outline (PoolCall view) kind from old piece taken sent ended to new ⊎ TakesFrame view.outline (PoolCall view) kind from old piece taken sent ended to new)
@@ -1011,6 +1013,33 @@ module _ {D : Type 0} (view : View D) (laws : ViewLaws view) where
         geometry = m.geometry;
         more = m.more;
       }
+
+  -- a step without a frame
+  pub advances_deaf : (old new : D) (phase next : Phase) (filled left : ℕ) (input piece sent : List ℕ) (taken : ℕ) (ended : Bool) → IsReady phase (view.outline old) (view.more old) → IsSound next
+      → kind_of phase ≡ None → filled < wanted_in phase (take filled input) → left ≡ 0 → (is_at_work phase ≡ true → left_in next < left_in phase)
+      → IsDeaf view.outline (PoolCall view) phase (state phase []) old piece taken sent ended (state next []) new
+      → Advances view (state phase (take filled input)) old piece taken sent ended (state next (take left input)) new
+  advances_deaf old new phase next filled left input piece sent taken ended ready sound deaf wants none works h =
+      let held : take left input ≡ [] = ap (λ (n : ℕ). take n input) none in
+      subst (λ (t : List ℕ). Advances view (state phase (take filled input)) old piece taken sent ended (state next t) new) (sym held)
+      (advances old new (state phase (take filled input)) (state next []) piece sent taken ended ready (calm_state next 0 [] (omega arith) (wanted_at_start next)) (sound_few next sound) works
+      (steps_deaf view.outline (PoolCall view) phase (take filled input) (state next []) old new piece sent taken ended deaf (deaf_holds phase filled input deaf wants) h))
+
+  -- one that takes the last byte of a frame
+  pub advances_frame : (old new : D) (phase next : Phase) (kind : Kind) (held piece sent : List ℕ) (taken : ℕ) (ended : Bool) → IsReady phase (view.outline old) (view.more old) → IsSound next
+      → kind_of phase ≡ Some kind → Steps view.outline (PoolCall view) (state phase held) old piece taken sent ended (state next []) new
+      → Advances view (state phase held) old piece taken sent ended (state next []) new
+  advances_frame old new phase next kind held piece sent taken ended ready sound speaks h =
+      advances old new (state phase held) (state next []) piece sent taken ended ready (calm_state next 0 [] (omega arith) (wanted_at_start next)) (sound_few next sound)
+      (λ w. absurd (working_speaks_not phase kind speaks w)) h
+
+  -- one behind which a frame is not whole yet
+  pub advances_waiting : (pool : D) (phase : Phase) (kind : Kind) (held now piece : List ℕ) (filled end : ℕ) (whole : Bool) → IsReady phase (view.outline pool) (view.more pool) → IsSound phase
+      → kind_of phase ≡ Some kind → whole ≡ false → length held ≡ filled → Gathers kind (held ++ piece) filled end whole now
+      → Advances view (state phase held) pool piece (end - filled) [] (has_ended phase) (state phase now) pool
+  advances_waiting pool phase kind held now piece filled end whole ready sound speaks part len g =
+      advances pool pool (state phase held) (state phase now) piece [] (end - filled) (has_ended phase) ready (calm_gathered phase kind (held ++ piece) now filled end whole speaks part g) (sound_few phase sound)
+      (λ w. absurd (working_speaks_not phase kind speaks w)) (steps_wait view.outline (PoolCall view) phase kind speaks held pool pool piece filled end now whole part len refl g)
 
   -- a step, where there is one, of a session that holds nothing, and after which it and the pool are as before
   pub advances_still : (o : Option Answered) (at : State) (phase : Phase) (filled : ℕ) (input : List ℕ) (pool : D) (piece : List ℕ) (sent : ℕ → List ℕ) → state phase (take filled input) ≡ at → filled ≤ 0

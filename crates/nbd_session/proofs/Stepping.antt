@@ -7,7 +7,7 @@ use Rattle.tp_model.specs.Pool.{Outline}
 use Rattle.tp_model.specs.Calls.{Call, Answer}
 use Rattle.nbd_wire.specs.declared.Kind.{Kind}
 use Rattle.nbd_wire.specs.declared.Kind.TheVariants as kinds
-use Rattle.nbd_wire.specs.Grammar.{Message, client_flags, client_option, command, malformed, payload_len, IsFrame}
+use Rattle.nbd_wire.specs.Grammar.{Message, client_flags, client_option, command, malformed, payload_len, IsFrame, IsPartial}
 use Rattle.nbd_wire.specs.Numbers.{number}
 use Rattle.nbd_wire.specs.Reading.{fixed_len, whole_len, wanted, option_at, request_at, is_good_option, is_good_request}
 use Rattle.nbd_wire.proofs.Frames.{whole_stays, wanted_whole, wanted_fixed, wants_more}
@@ -79,6 +79,15 @@ calm_state (Options z) filled input le lt = wants_more kinds.Options (take fille
 calm_state (Transmission v n (Works m r)) filled input le lt = let e : filled ≡ 0 = omega arith in ap (λ (i : ℕ). take i input) e
 calm_state (Transmission v n (Listens x)) filled input le lt = wants_more kinds.Requests (take filled input) (let l = length-take-le filled input le in omega arith)
 calm_state Ended filled input le lt = let e : filled ≡ 0 = omega arith in ap (λ (n : ℕ). take n input) e
+
+-- what a piece brought of a frame that is not whole yet
+pub calm_gathered : (phase : Phase) (kind : Kind) (text now : List ℕ) (filled end : ℕ) (whole : Bool) → kind_of phase ≡ Some kind → whole ≡ false → Gathers kind text filled end whole now → IsCalm (state phase now)
+calm_gathered phase kind text now filled end whole speaks part g =
+    let same : now ≡ text = g.now_is ∙ take_all end text (let a = g.all part in omega arith) in
+    let waits : IsPartial kind text = wants_more kind text (g.short part) in
+    let P : Option Kind → Type 0 = λ o. MatchOption o (now ≡ []) (λ k. IsPartial k now) in
+    let Q : List ℕ → Type 0 = λ t. IsPartial kind t in
+    subst P (sym speaks) (subst Q (sym same) waits)
 
 -- what is left of a request is no more than a request may have
 pub sound_few : (phase : Phase) → IsSound phase → left_in phase < 4294967296

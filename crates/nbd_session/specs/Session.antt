@@ -82,6 +82,14 @@ keeps_apart (Transmission volume size (Listens manner)) = manner.is_extended
 keeps_apart (Transmission volume size (Works manner rest)) = manner.is_extended
 keeps_apart Ended = false
 
+-- one that is told since an older volume
+abbrev pub has_older : Phase → Bool
+has_older (Flags profile) = false
+has_older (Options terms) = false
+has_older (Transmission volume size (Listens manner)) = has_since manner
+has_older (Transmission volume size (Works manner rest)) = has_since manner
+has_older Ended = false
+
 -- how many bytes of a request are left
 abbrev pub left_in : Phase → ℕ
 left_in (Flags profile) = 0

@@ -2,7 +2,7 @@
 
 ghost use Rattle.std.specs.Prelude.{◌≡◌, ◌≤◌, ◌<◌, ◌+◌, [], true, Option, None, Some, length, take};
 ghost use Rattle.nbd_wire.specs.Reading.{fixed_len, whole_len};
-ghost use Rattle.nbd_session.specs.Session.{AnswersText, GoesOn, IsDeaf, Steps, has_ended, is_at_work, kind_of as kind_in, left_in, state};
+ghost use Rattle.nbd_session.specs.Session.{AnswersText, GoesOn, IsDeaf, has_ended, is_at_work, kind_of as kind_in, left_in, state};
 ghost use Rattle.nbd_session.specs.Buffers.{IsSound, wanted_in};
 ghost use Rattle.nbd_session.specs.Requests.{IsLeft, known_bytes};
 ghost use Rattle.tp_model.specs.Clauses.{PoolCall};
@@ -131,9 +131,8 @@ fn go_on<V: Volumes>(phase: Phase, out: &mut [u8], pool: &mut V, piece: &[u8]) -
     }
 }
 
-/// Takes bytes up to the end of one frame. What is sent stands at the front of `out`. A frame that stands whole in the
-/// piece is not copied.
-fn take_frame<V: Cloned>(
+/// Takes bytes up to the end of one frame, and answers it at the front of `out`. A frame that stands whole in the piece is not copied.
+pub fn advance<V: Cloned>(
     phase: Phase,
     filled: usize,
     input: &mut [u8],
@@ -147,13 +146,12 @@ fn take_frame<V: Cloned>(
     requires partial { filled < wanted_in phase (take filled input.old) }
     requires sound { IsSound phase }
     requires out { MAX_ANSWER ≤ length out.old }
-    ensures steps { Steps V.view.outline (PoolCall V.view) (state phase (take filled input.old)) pool.old piece.now
+    ensures advances { Advances V.view (state phase (take filled input.old)) pool.old piece.now
         result.taken (take result.sent out.new) (has_ended result.phase)
         (state result.phase (take result.filled input.new)) pool.new }
     ensures filled { result.filled ≤ length input.new }
     ensures partial { result.filled < wanted_in result.phase (take result.filled input.new) }
     ensures sound { IsSound result.phase }
-    ensures less { is_at_work phase ≡ true → left_in result.phase < left_in phase }
     ensures fits { result.sent ≤ length out.new }
     ensures input_len { length input.new ≡ length input.old }
     ensures out_len { length out.new ≡ length out.old }
@@ -190,32 +188,4 @@ fn take_frame<V: Cloned>(
         taken,
         sent,
     }
-}
-
-/// Takes bytes up to the end of one frame, and answers it at the front of `out`.
-pub fn advance<V: Cloned>(
-    phase: Phase,
-    filled: usize,
-    input: &mut [u8],
-    out: &mut [u8],
-    pool: &mut V,
-    piece: &[u8],
-) -> Advanced
-    requires ready { IsReady phase (V.view.outline pool.old) (V.view.more pool.old) }
-    requires input { MAX_FRAME ≤ length input.old }
-    requires filled { filled ≤ length input.old }
-    requires partial { filled < wanted_in phase (take filled input.old) }
-    requires sound { IsSound phase }
-    requires out { MAX_ANSWER ≤ length out.old }
-    ensures advances { Advances V.view (state phase (take filled input.old)) pool.old piece.now
-        result.taken (take result.sent out.new) (has_ended result.phase)
-        (state result.phase (take result.filled input.new)) pool.new }
-    ensures filled { result.filled ≤ length input.new }
-    ensures partial { result.filled < wanted_in result.phase (take result.filled input.new) }
-    ensures sound { IsSound result.phase }
-    ensures fits { result.sent ≤ length out.new }
-    ensures input_len { length input.new ≡ length input.old }
-    ensures out_len { length out.new ≡ length out.old }
-{
-    take_frame(phase, filled, input, out, pool, piece)
 }

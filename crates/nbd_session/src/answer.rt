@@ -215,29 +215,6 @@ pub(crate) fn wants_no_hole(request: &Request) -> bool
     request.flags / 2 % 2 == 1
 }
 
-/// A WRITE of some sectors, in one call of the pool.
-fn write<V: Volumes>(
-    pool: &mut V,
-    volume: DevId,
-    request: &Request,
-    payload: &[u8],
-    out: &mut [u8],
-) -> usize
-    requires form { IsWhole (known_bytes (V.view.outline pool.old).geometry (V.view.more pool.old) volume) request.now }
-    requires payload { length payload.now ≡ request.now.len }
-    requires room { 16 ≤ length out.old }
-    ensures answer { Performs V.view.outline (PoolCall V.view) (Write volume (request.now.offset / 512) (sectors_of payload.now) (has_fua request.now)) (reply_to request.now.cookie)
-        pool.old (take result out.new) pool.new }
-    ensures fits { result ≤ length out.new }
-    ensures len { length out.new ≡ length out.old }
-{
-    let fua = wants_fua(request);
-    match pool.write(volume, request.offset / 512, payload, fua) {
-        Ok(()) => put_reply(out, 0, request.cookie),
-        Err(refusal) => put_refusal(out, refusal, request.cookie),
-    }
-}
-
 /// Whether a request is made without FUA, and kept then by a FLUSH of its own.
 fn is_kept_apart(manner: Manner, request: &Request) -> bool
     ensures { result ≡ is_kept_apart manner request.now }
@@ -297,8 +274,8 @@ fn write_apart<V: Volumes>(
     }
 }
 
-/// A WRITE of some sectors, whose volume has so many bytes.
-fn take_write<V: Volumes>(
+/// A WRITE of some sectors, in one call of the pool, whose volume has so many bytes.
+fn write<V: Volumes>(
     pool: &mut V,
     volume: DevId,
     size: u64,
@@ -318,11 +295,19 @@ fn take_write<V: Volumes>(
     ensures fits { result.1 ≤ length out.new }
     ensures len { length out.new ≡ length out.old }
 {
+    let same = Phase::Transmission {
+        volume,
+        size,
+        course: Course::Listens { manner },
+    };
     if is_kept_apart(manner, &request) {
         return write_apart(pool, volume, size, manner, request, payload, out);
     }
-    let sent = write(pool, volume, &request, payload, out);
-    (listening(volume, size, manner), sent)
+    let fua = wants_fua(&request);
+    match pool.write(volume, request.offset / 512, payload, fua) {
+        Ok(()) => (same, put_reply(out, 0, request.cookie)),
+        Err(refusal) => (same, put_refusal(out, refusal, request.cookie)),
+    }
 }
 
 /// A TRIM of some sectors.
@@ -439,7 +424,7 @@ fn serve<V: Cloned>(
         Verdict::Refuse(error) => (same, put_error(out, manner, &request, error)),
         Verdict::Nothing => (same, put_nothing(out, manner, &request)),
         Verdict::Read => (same, read(pool, volume, manner, &request, out)),
-        Verdict::Write => take_write(pool, volume, size, manner, request, payload, out),
+        Verdict::Write => write(pool, volume, size, manner, request, payload, out),
         Verdict::Trim => (same, trim(pool, volume, &request, out)),
         Verdict::WriteZeroes => (same, write_zeroes(pool, volume, &request, out)),
         Verdict::Flush => (same, flush(pool, request.cookie, out)),

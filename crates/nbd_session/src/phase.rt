@@ -1,7 +1,7 @@
 //! Where a session stands.
 
 ghost use Rattle.std.specs.Prelude.{◌≡◌, ◌≤◌};
-ghost use Rattle.nbd_session.specs.Session.{has_clones, is_at_work, is_extended, is_to_flush, keeps_apart, limit_of, manner_in};
+ghost use Rattle.nbd_session.specs.Session.{has_clones, has_older, is_at_work, is_extended, is_to_flush, keeps_apart, limit_of, manner_in};
 
 use nbd_wire::{COMMAND_FLUSH, Request};
 use tp_model::DevId;
@@ -192,6 +192,19 @@ pub fn keeps_apart(phase: Phase) -> bool
         Phase::Transmission { course, .. } => match course {
             Course::Works { manner, .. } => manner.is_extended,
             Course::Listens { manner } => manner.is_extended,
+        },
+        _ => false,
+    }
+}
+
+/// Whether it is told since an older volume, at which its BLOCK_STATUSes look too.
+pub fn has_older(phase: Phase) -> bool
+    ensures { result ≡ has_older phase }
+{
+    match phase {
+        Phase::Transmission { course, .. } => match course {
+            Course::Works { manner, .. } => manner.since < NO_VOLUME,
+            Course::Listens { manner } => manner.since < NO_VOLUME,
         },
         _ => false,
     }

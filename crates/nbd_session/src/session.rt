@@ -4,7 +4,7 @@ ghost use Rattle.std.specs.Prelude.{◌≡◌, ◌<◌, ◌≤◌, [], false, le
 
 use crate::advance::{advance, has_ended_in};
 use crate::answer::{MAX_ANSWER, end};
-use crate::phase::{Phase, Profile, is_at_work, is_to_flush, keeps_apart};
+use crate::phase::{Phase, Profile, has_older, is_at_work, is_to_flush, keeps_apart};
 use crate::shared::take_read;
 use nbd_wire::{MAX_FRAME, put_greeting};
 use std::alloc::{AllocError, Global};
@@ -58,7 +58,7 @@ impl Session {
     ghost use Rattle.std.specs.Borrow.{sem};
     ghost use Rattle.nbd_wire.specs.Replies.{greeting};
     ghost use Rattle.nbd_session.specs.Requests.{BeginsWithLook};
-    ghost use Rattle.nbd_session.specs.Session.{is_at_work, is_to_flush, keeps_apart, left_in, state};
+    ghost use Rattle.nbd_session.specs.Session.{has_older, is_at_work, is_to_flush, keeps_apart, left_in, state};
     ghost use Rattle.nbd_session.specs.Clauses.{Advances, IsCalm, IsReady, Leaves};
     ghost use Rattle.nbd_session.specs.contracts.session.Session.{the_row};
     ghost use mathlib.Core.Option.{none};
@@ -112,6 +112,13 @@ impl Session {
         ensures { result ≡ keeps_apart self.now.phase }
     {
         keeps_apart(self.phase)
+    }
+
+    /// Whether it is told since an older volume, at which its BLOCK_STATUSes look too.
+    pub fn has_older(&self) -> bool
+        ensures { result ≡ has_older self.now.phase }
+    {
+        has_older(self.phase)
     }
 
     /// What is sent before anything comes. It changes nothing.

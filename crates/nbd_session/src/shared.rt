@@ -3,9 +3,9 @@
 ghost use Rattle.std.specs.Prelude.{◌≡◌, ◌≤◌, ◌<◌, ◌+◌, ◌/◌, ℕ, List, [], false, length, take, drop, IfSome, IsTrue, MatchBool};
 ghost use Rattle.tp_model.specs.Calls.{Read};
 ghost use Rattle.tp_model.specs.Clauses.{PoolCall};
-ghost use Rattle.nbd_wire.specs.Reading.{message_of, whole_len};
+ghost use Rattle.nbd_wire.specs.Reading.{message_of};
 ghost use Rattle.nbd_session.specs.Requests.{BeginsWithLook, IsWhole, is_look, is_look_message, known_bytes, verdict_in};
-ghost use Rattle.nbd_session.specs.Session.{AnswersRead, AnswersText, Performs, ReadsInChunks, ReadsLong, SeeksFrom, Serves, Steps, chunk_to, is_at_work, reply_to, state};
+ghost use Rattle.nbd_session.specs.Session.{AnswersRead, Performs, ReadsInChunks, ReadsLong, SeeksFrom, Serves, Steps, chunk_to, is_at_work, reply_to, state};
 ghost use Rattle.nbd_session.specs.Status.{unit_of};
 ghost use Rattle.nbd_session.specs.Clauses.{IsReady};
 
@@ -180,31 +180,6 @@ fn serve<V: Volumes, S: SharedReads<V>>(
     }
 }
 
-/// The answer to a text that is one whole frame of transmission, where that is such a request.
-fn answer_text<V: Volumes, S: SharedReads<V>>(
-    pool: &S,
-    volume: DevId,
-    size: u64,
-    manner: Manner,
-    text: &[u8],
-    out: &mut [u8],
-) -> Option<usize>
-    requires size { size ≡ known_bytes (V.view.outline (S.of pool.now)).geometry (V.view.more (S.of pool.now)) volume }
-    requires fixed { 28 ≤ length text.now }
-    requires whole { whole_len Kind.Requests text.now ≡ length text.now }
-    requires room { 2097172 ≤ length out.old }
-    ensures answer { IfSome result (λ sent. AnswersText V.view.outline (PoolCall V.view) Kind.Requests (Phase.Transmission volume size (Course.Listens manner)) text.now
-        (S.of pool.now) (take sent out.new) (Phase.Transmission volume size (Course.Listens manner)) (S.of pool.now)) }
-    ensures begins { IfSome result (λ sent. BeginsWithLook text.now) }
-    ensures fits { IfSome result (λ sent. sent ≤ length out.new) }
-    ensures len { length out.new ≡ length out.old }
-{
-    match read_frame(Kind::Requests, text) {
-        Frame::Command { request, .. } => serve(pool, volume, size, manner, request, out),
-        _ => None,
-    }
-}
-
 /// Takes the READ or BLOCK_STATUS with which a piece begins, of a session that holds nothing of a frame, and whose volume has so many bytes.
 fn take_from<V: Volumes, S: SharedReads<V>>(
     pool: &S,
@@ -227,14 +202,17 @@ fn take_from<V: Volumes, S: SharedReads<V>>(
     if length > piece.len() {
         return None;
     }
-    let Some(sent) = answer_text(pool, volume, size, manner, &piece[..length], out) else {
-        return None;
-    };
-    Some(Answered {
-        taken: length,
-        sent,
-        ended: false,
-    })
+    match read_frame(Kind::Requests, &piece[..length]) {
+        Frame::Command { request, .. } => match serve(pool, volume, size, manner, request, out) {
+            Some(sent) => Some(Answered {
+                taken: length,
+                sent,
+                ended: false,
+            }),
+            None => None,
+        },
+        _ => None,
+    }
 }
 
 /// Takes the READ or BLOCK_STATUS with which a piece begins, of a session that holds nothing of a frame.

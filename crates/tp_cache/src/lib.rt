@@ -22,7 +22,7 @@ mod writing_out;
 
 pub use cache::NodeCache;
 pub use laws::stops_of_a_cache;
-pub use life::{Life, Start, flush_cache_twice};
+pub use life::{Life, Start};
 pub use past::Past;
 pub use places::{Places, ReadPlaces};
 pub use reading::ReadCache;

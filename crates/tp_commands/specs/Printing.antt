@@ -4,7 +4,7 @@ use Rattle.tp_model.specs.declared.refusal.Refusal.{Refusal}
 use Rattle.tp_model.specs.Calls.{Answer, Call, Done, Line, Refused, Status, ThinStatus}
 use Rattle.tp_model.specs.Clauses.{Meets, View}
 use Rattle.tp_msg.specs.Messages.{reading}
-use Rattle.tp_hub.specs.Runs.{call_of}
+use Rattle.tp_msg.specs.Asked.{call_of}
 use Rattle.tp_hub.specs.Streams.{StreamCall}
 pub use Rattle.tp_reports.specs.Printing.{Prints}
 

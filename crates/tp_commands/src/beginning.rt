@@ -8,9 +8,8 @@ ghost use Rattle.tp_hub.specs.Serve.{HubRuns};
 ghost use Rattle.tp_hub.specs.Serving.{HubState, sessions_of};
 ghost use Rattle.tp_lines.specs.Clearing.{AreDeletes, accepted_in};
 
-use crate::table::Table;
 use std::alloc::{AllocError, Global};
-use tp_hub::Hub;
+use tp_hub::{Hub, OwnDesk};
 use tp_lines::clear_clones;
 use tp_msg::Managed;
 
@@ -19,9 +18,9 @@ fn clear_left<V: Managed>(alloc: Global, hub: Hub<V>) -> (Hub<V>, Result<u32, Al
     ensures { (xs : List Exchange) × AreAsked (HubRuns V.view) hub xs result.0
         × MatchResult result.1 (λ deleted. AreDeletes 8388608 64 xs × (deleted ≡ accepted_in xs)) (λ _. xs ≡ []) }
 {
-    let mut table = Table { alloc, hub };
-    let cleared = clear_clones(alloc, &mut table);
-    let Table { alloc: _, hub } = table;
+    let mut desk = OwnDesk { alloc, hub };
+    let cleared = clear_clones(alloc, &mut desk);
+    let OwnDesk { alloc: _, hub } = desk;
     (hub, cleared)
 }
 

@@ -13,13 +13,12 @@ ghost use Rattle.tp_commands.specs.Serving.{FeedsFirst, FeedsImage, FeedsOn, IsF
 use crate::closing::{behind, end_hub};
 use crate::fresh::fresh_pool;
 use crate::opening::open_pool;
-use crate::table::Table;
 use nbd_session::Profile;
 use std::alloc::{AllocError, Global};
 use tp_cache::ReadCache;
 use tp_disk::{Disk, TellsTrouble};
 use tp_failures::{Cause, Failure};
-use tp_hub::{Answers, Carried, Hub, Stream, carry};
+use tp_hub::{Answers, Carried, Hub, OwnDesk, Stream, carry};
 use tp_images::Images;
 use tp_meta::Meta;
 use tp_model::Refusal;
@@ -49,9 +48,9 @@ fn feed_hub<V: Managed, S: Stream>(
         return (hub, Carried::NoMemory);
     };
     let mut out = Answers::new(alloc);
-    let mut table = Table { alloc, hub };
-    let ending = carry(&mut table, 0, *profile, stream, &mut buffer, &mut out);
-    let Table { alloc: _, hub } = table;
+    let mut desk = OwnDesk { alloc, hub };
+    let ending = carry(&mut desk, 0, *profile, stream, &mut buffer, &mut out);
+    let OwnDesk { alloc: _, hub } = desk;
     (hub, ending)
 }
 

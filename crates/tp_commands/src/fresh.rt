@@ -15,6 +15,7 @@ use tp_cache::ReadCache;
 use tp_disk::MemDisk;
 use tp_meta::Meta;
 use tp_model::{DevId, Geometry, Refusal};
+use tp_msg::Message;
 use tp_served::Served;
 
 /// A pool in memory with one volume, of id 0 and without data blocks: 16 virtual blocks over 4 data blocks of 128 sectors, and
@@ -31,6 +32,6 @@ pub fn fresh_pool(alloc: Global) -> Result<Served<ReadCache<MemDisk>, Meta>, Ref
         Ok(pool) => pool,
         Err((refusal, _)) => return Err(refusal),
     };
-    pool.create_thin(DevId::new(0))?;
+    pool.order(&Message::CreateThin { id: DevId::new(0) })?;
     Ok(pool)
 }

@@ -18,7 +18,6 @@ mod images;
 pub mod opening;
 mod reports;
 mod scripts;
-mod table;
 mod telling;
 
 pub use creating::create;

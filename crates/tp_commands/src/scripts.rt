@@ -15,13 +15,12 @@ ghost use Rattle.tp_commands.specs.Scripts.{IsTold, PlaysFirst, PlaysImage, Play
 use crate::closing::{end_hub, leave_hub};
 use crate::fresh::fresh_pool;
 use crate::opening::open_pool;
-use crate::table::Table;
 use nbd_session::Profile;
 use std::alloc::Global;
 use tp_cache::ReadCache;
 use tp_disk::{Disk, TellsTrouble};
 use tp_failures::{Cause, Failure};
-use tp_hub::{Hub, Stream};
+use tp_hub::{Hub, OwnDesk, Stream};
 use tp_images::Images;
 use tp_lines::{Ended, Stopped, play_script};
 use tp_meta::Meta;
@@ -99,9 +98,9 @@ fn play_hub<V: Managed, S: Stream>(
     ensures { (asks : List Exchange) × AreAsked (HubRuns V.view) hub asks result.0
         × Makes (S.calls stream.old) (S.calls stream.new) (λ did. PlaysScript profile.now asks did result.1.played result.1.result) }
 {
-    let mut table = Table { alloc, hub };
-    let ended = play_script(alloc, &mut table, profile, stream);
-    let Table { alloc: _, hub } = table;
+    let mut desk = OwnDesk { alloc, hub };
+    let ended = play_script(alloc, &mut desk, profile, stream);
+    let OwnDesk { alloc: _, hub } = desk;
     (hub, ended)
 }
 

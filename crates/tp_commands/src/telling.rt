@@ -2,7 +2,7 @@
 
 ghost use Rattle.std.specs.Prelude.{◌≡◌, ◌+◌, ◌++◌, ◌≤◌, length, take};
 ghost use Rattle.tp_model.specs.Calls.{Status, ThinStatus};
-ghost use Rattle.tp_hub.specs.Runs.{call_of};
+ghost use Rattle.tp_msg.specs.Asked.{call_of};
 ghost use Rattle.tp_served.specs.Served.{cached};
 ghost use Rattle.tp_commands.specs.Images.{PrintsCheck};
 ghost use Rattle.tp_commands.specs.Printing.{IsLineGiven, Prints, PrintsCall, newline, status_call};
@@ -10,7 +10,7 @@ ghost use Rattle.tp_commands.specs.Printing.{IsLineGiven, Prints, PrintsCall, ne
 use std::alloc::Global;
 use tp_check::check;
 use tp_disk::Disk;
-use tp_hub::{Stream, apply, send_all};
+use tp_hub::{Stream, send_all};
 use tp_meta::Metadata;
 use tp_model::{DevId, Refusal};
 use tp_msg::{LineBuffer, Message, read_message};
@@ -114,7 +114,7 @@ fn give<D: Disk + Drop, M: Metadata + Drop, S: Stream>(
 ) -> Result<(), Refusal>
     ensures { PrintsCall (cached M.geometry M.stands M.marks M.room M.changed) pool.old pool.new (call_of message.now) (S.calls stream.old) (S.calls stream.new) result }
 {
-    match apply(pool, message) {
+    match pool.order(message) {
         Ok(()) => print_line(stream, b"ok"),
         Err(reason) => Err(reason),
     }

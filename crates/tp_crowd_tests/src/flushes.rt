@@ -7,10 +7,11 @@ use nbd_session::Profile;
 use std::alloc::Global;
 use std::marker::Brand;
 use std::sync::Wait;
+use std::sync::atomic::{AtomicBool, Ordering};
 use std::test::Fail;
-use std::thread::Threads;
+use std::thread::{Threads, join};
 use tp_crowd::{HubLock, LockedDesk};
-use tp_hub::{Answers, Desk, Event, Hub};
+use tp_hub::{Answers, Desk, Event, Hub, Mark};
 use tp_model::Refusal;
 use tp_shelf::{FailingShelf, Shelf, failing_in_part, staged_shelf};
 
@@ -137,6 +138,150 @@ fn a_write_with_fua_is_kept_in_parts(rt: HostRuntime) -> Result<(), Fail> {
         told_of_kept(&rt, Profile::Strict, &write)?,
     ];
     assert_eq!(rt; told, [(32, 4), (32, 2)]);
+    Ok(())
+}
+
+/// Whether a message over a lock is answered that it is done.
+fn is_ordered<H>(rt: &H, hub: &HubLock<'_, Shelf, Seen, Brand>) -> bool
+where
+    H: Wait + Sync + Alloc<A = Global>,
+{
+    let mut out = Answers::new(rt.alloc());
+    let mut desk = LockedDesk {
+        rt,
+        alloc: rt.alloc(),
+        hub,
+    };
+    desk.ask(Event::Message(b"set_transaction_id 0 7"), &mut out);
+    out.marks() == [Mark::Done].as_slice()
+}
+
+/// The same, and how many syncs were made between the parts of what keeps it.
+fn told_of_message<H>(rt: &H) -> Result<(bool, u64), Refusal>
+where
+    H: Wait + Sync + Alloc<A = Global>,
+{
+    let alarm = Seen::nothing();
+    let shelf = staged_shelf(rt.alloc(), 2, false)?;
+    let hub = HubLock::<Shelf, Seen, Brand>::new(Hub::new(shelf), &alarm);
+    let is_done = is_ordered(rt, &hub);
+    Ok((is_done, hub.into_inner().into_pool().synced().0))
+}
+
+/// A message is kept in parts, and READs may come to the syncs between them. Nothing was written before it, so there is no other flush.
+#[test]
+fn a_message_is_kept_in_parts(rt: HostRuntime) -> Result<(), Fail> {
+    let told = told_of_message(&rt)?;
+    assert_eq!(rt; told, (true, 2));
+    Ok(())
+}
+
+/// A client goes to a volume.
+fn greet<H>(rt: &H, hub: &HubLock<'_, Shelf, Seen, Brand>)
+where
+    H: Wait + Sync + Alloc<A = Global>,
+{
+    let mut out = Answers::new(rt.alloc());
+    let mut desk = LockedDesk {
+        rt,
+        alloc: rt.alloc(),
+        hub,
+    };
+    desk.ask(Event::Open(0, Profile::Strict), &mut out);
+    desk.ask(Event::Bytes(0, GO), &mut out);
+}
+
+/// It reads until a message was answered, and whether that was seen.
+fn read_until<H>(rt: &H, hub: &HubLock<'_, Shelf, Seen, Brand>, is_told: &AtomicBool) -> bool
+where
+    H: Wait + Sync + Alloc<A = Global>,
+{
+    let mut out = Answers::new(rt.alloc());
+    let mut desk = LockedDesk {
+        rt,
+        alloc: rt.alloc(),
+        hub,
+    };
+    for _ in 0..1u32 << 24 {
+        if is_told.load(Ordering::SeqCst) {
+            return true;
+        }
+        out.clear();
+        desk.ask(Event::Bytes(0, READ), &mut out);
+    }
+    false
+}
+
+/// Whether the message is answered that it is done, which is noted.
+fn order_and_note<H>(rt: &H, hub: &HubLock<'_, Shelf, Seen, Brand>, is_told: &AtomicBool) -> bool
+where
+    H: Wait + Sync + Alloc<A = Global>,
+{
+    let is_done = is_ordered(rt, hub);
+    is_told.store(true, Ordering::SeqCst);
+    is_done
+}
+
+/// Both at once.
+fn told_of_both<H>(rt: &H) -> Result<(bool, Synced), Refusal>
+where
+    H: Threads + Wait + Sync + Alloc<A = Global>,
+{
+    let alarm = Seen::nothing();
+    let shelf = staged_shelf(rt.alloc(), 2, true)?;
+    let hub = HubLock::<Shelf, Seen, Brand>::new(Hub::new(shelf), &alarm);
+    greet(rt, &hub);
+    let is_told = AtomicBool::new(false);
+    let (is_done, is_seen) = join(
+        rt,
+        || order_and_note(rt, &hub, &is_told),
+        || read_until(rt, &hub, &is_told),
+    );
+    Ok((is_done && is_seen, hub.into_inner().into_pool().synced()))
+}
+
+/// While the device is brought what one part of a message wrote, a READ is answered: the sync stays until one has come to it. So it is in the flush before the message,
+/// since a client came.
+#[test]
+fn reads_between_the_parts_of_a_message(rt: HostRuntime) -> Result<(), Fail> {
+    let (is_done, (syncs, reads, is_in_vain)) = told_of_both(&rt)?;
+    assert_eq!(rt;
+        (is_done, syncs, reads >= 4, is_in_vain),
+        (true, 4, true, false)
+    );
+    Ok(())
+}
+
+/// Whether a message whose flush fails in this part is refused, and how often the alarm sounded.
+fn told_of_faulty_message<H>(rt: &H, part: u8) -> Result<(bool, u64), Refusal>
+where
+    H: Wait + Sync + Alloc<A = Global>,
+{
+    let alarm = Seen::nothing();
+    let shelf = failing_in_part(part)?;
+    let hub = HubLock::<FailingShelf, Seen, Brand>::new(Hub::new(shelf), &alarm);
+    let mut out = Answers::new(rt.alloc());
+    let mut desk = LockedDesk {
+        rt,
+        alloc: rt.alloc(),
+        hub: &hub,
+    };
+    desk.ask(Event::Message(b"reserve_metadata_snap"), &mut out);
+    let damaged = Mark::Refused {
+        reason: Refusal::Damaged,
+    };
+    Ok((out.marks() == [damaged].as_slice(), alarm.bytes()))
+}
+
+/// In whichever part what keeps a message fails, it is refused, and the alarm sounds once.
+#[test]
+fn a_fault_in_each_part_of_a_message(rt: HostRuntime) -> Result<(), Fail> {
+    let told = [
+        told_of_faulty_message(&rt, 0)?,
+        told_of_faulty_message(&rt, 1)?,
+        told_of_faulty_message(&rt, 2)?,
+    ];
+    assert_eq!(rt; told, [(true, 1), (true, 1), (true, 1)]);
     Ok(())
 }
 

@@ -9,10 +9,9 @@ ghost use Rattle.tp_model.specs.Sectors.{sector_at, zero_sector};
 ghost use Rattle.tp_model.specs.Disk.{after_read, seen};
 ghost use Rattle.tp_devices.specs.Heads.{HasOther, IsBlank, IsForeign, IsFree};
 
-use tp_disk::{Disk, Fault};
+use tp_disk::{Disk, Fault, zeros};
 use tp_model::Refusal;
 use tp_super::load;
-use tp_zeros::zeros;
 
 /// The two superblock slots of a pool stand in so many sectors.
 const HEAD: u64 = 16;

@@ -7,3 +7,4 @@ pub mod Unclaimed
 pub mod Settling
 pub mod Stopping
 pub mod Walks
+mod Blanks

@@ -3,9 +3,10 @@
 //! `Disk` is what a store needs of a disk. Its contract says what each call makes of a state that only contracts
 //! see: for each sector the value that was kept by the last flush and those written since, any one of which a stop
 //! may leave. `MemDisk` meets it by proof, can be stopped and made to fail, and tells how often a sector was read and
-//! written. `FileDisk` meets it as far as the system does.
+//! written. `FileDisk` meets it as far as the system does. `zeros` are what is written where sectors are to read zero.
 #![tactic(auto)]
 
+mod blank;
 mod calls;
 mod disk;
 mod file;
@@ -18,6 +19,7 @@ mod tally;
 mod trouble;
 mod watch;
 
+pub use blank::zeros;
 pub use disk::{Disk, Fault};
 pub use file::FileDisk;
 pub use memory::{MemDisk, picks_are_stops};

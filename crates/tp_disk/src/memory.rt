@@ -121,8 +121,8 @@ impl MemDisk {
         self.calls.last_to_fail = last;
     }
 
-    /// From now on counts the reads and the writes that have this sector in their range, from 0 on; a new disk counts
-    /// those of sector 0. A call that fails is counted too.
+    /// From now on counts the writes that have this sector in their range, from 0 on; a new disk counts those of sector 0. A
+    /// write that fails is counted too.
     pub fn watch(&mut self, sector: u64)
         ensures state { mem_state self.new ≡ mem_state self.old }
         ensures calls { calls_of self.new ≡ calls_of self.old }
@@ -131,13 +131,6 @@ impl MemDisk {
         ensures writes { writes_of self.new ≡ writes_of self.old }
     {
         self.watch = Watch::on(sector);
-    }
-
-    /// How many reads had the watched sector in their range. It stays at the greatest `u64`.
-    pub fn watched_reads(&self) -> u64
-        ensures { result ≡ (watch_of self.now).reads }
-    {
-        self.watch.reads
     }
 
     /// How many writes had the watched sector in their range. It stays at the greatest `u64`.
@@ -275,7 +268,7 @@ impl Disk for MemDisk {
     ghost use Rattle.tp_disk.specs.Memory.{mem_state, calls_of, watch_of, reads_of, writes_of};
     ghost use Rattle.tp_disk.specs.Calls.{after_call, NextFails};
     ghost use Rattle.tp_disk.specs.Tally.{Counted};
-    ghost use Rattle.tp_disk.specs.Watch.{watch_read, watch_write};
+    ghost use Rattle.tp_disk.specs.Watch.{watch_write};
 
     ghost state = { mem_state };
 
@@ -293,12 +286,11 @@ impl Disk for MemDisk {
         ensures bytes { OnOk result (IsTrue (mem_state self.old).is_honest
             → out.new ≡ bytes_at (seen (mem_state self.old).cells) at (length out.old / 512)) }
         ensures calls { calls_of self.new ≡ after_call (calls_of self.old) }
-        ensures watch { watch_of self.new ≡ watch_read at (length out.old / 512) (watch_of self.old) }
+        ensures watch { watch_of self.new ≡ watch_of self.old }
         ensures reads { Counted at (length out.old / 512) (reads_of self.old) (reads_of self.new) }
         ensures writes { writes_of self.new ≡ writes_of self.old }
         ensures fails { IsErr result ↔ NextFails (calls_of self.old) }
     {
-        self.watch.note_read(at, (out.len() / SECTOR) as u64);
         count(&mut self.read_counts, at, (out.len() / SECTOR) as u64);
         let ok = !self.calls.next_fails();
         self.shadow.note(&Step::NoChange { ok }, &[]);

@@ -1,13 +1,12 @@
-//! How often calls of a disk had one sector in their range.
+//! How often writes of a disk had one sector in their range.
 ghost use Rattle.std.specs.Prelude.{◌≡◌, ◌+◌, ◌≤◌, ◌^◌};
-ghost use Rattle.tp_disk.specs.Watch.{counted_if, is_among, watch_on, watch_read, watch_write};
+ghost use Rattle.tp_disk.specs.Watch.{counted_if, is_among, watch_on, watch_write};
 
-/// The sector, and how many calls of `read` and of `write` had it, those that failed too.
+/// The sector, and how many calls of `write` had it, those that failed too.
 #[derive(Clone, Copy)]
 pub struct Watch {
     pub sector: u64,
-    /// Both stay at the greatest `u64`.
-    pub reads: u64,
+    /// It stays at the greatest `u64`.
     pub writes: u64,
 }
 
@@ -16,19 +15,7 @@ impl Watch {
     pub fn on(sector: u64) -> Watch
         ensures { result ≡ watch_on sector }
     {
-        Watch {
-            sector,
-            reads: 0,
-            writes: 0,
-        }
-    }
-
-    /// Counts a read of so many sectors.
-    pub fn note_read(&mut self, at: u64, sectors: u64)
-        requires { at + sectors ≤ 2 ^ 54 }
-        ensures { self.new ≡ watch_read at sectors self.old }
-    {
-        self.reads = counted_if(self.is_among(at, sectors), self.reads);
+        Watch { sector, writes: 0 }
     }
 
     /// Counts a write of so many sectors.

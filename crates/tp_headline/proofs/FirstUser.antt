@@ -11,7 +11,7 @@ use Rattle.tp_image.specs.Fresh.{empty_pool}
 use Rattle.tp_msg.specs.Messages.{reading}
 use Rattle.tp_msg.specs.declared.message.Message.{Message}
 use Rattle.tp_msg.specs.declared.message.Message.TheVariants as orders
-use Rattle.tp_hub.specs.Runs.{call_of}
+use Rattle.tp_msg.specs.Asked.{call_of}
 use Rattle.tp_hub.specs.Streams.{StreamCall}
 use Rattle.tp_images.specs.Deeds.{AreHonest, Deed, OnImage}
 use Rattle.tp_images.specs.declared.way.Way.{Way}

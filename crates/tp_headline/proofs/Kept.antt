@@ -22,7 +22,7 @@ use Rattle.tp_msg.specs.Messages.{reading}
 use Rattle.tp_msg.specs.declared.message.Message.{Message}
 use Rattle.tp_msg.specs.declared.message.Message.TheVariants as orders
 use Rattle.tp_hub.specs.Desks.{Exchange}
-use Rattle.tp_hub.specs.Runs.{call_of}
+use Rattle.tp_msg.specs.Asked.{call_of}
 use Rattle.tp_hub.specs.Streams.{Makes, StreamCall}
 use Rattle.tp_hub.specs.declared.client.Carried.{Carried}
 use Rattle.tp_images.specs.Deeds.{Closes, Deed, IsLeftBy, Opens, left_at}

@@ -17,7 +17,7 @@ ghost use Rattle.tp_served.specs.Served.{Cached, cached};
 ghost use Rattle.nbd_session.specs.Turns.{AreLives, AreRuns, Life};
 ghost use Rattle.tp_hub.specs.Serving.{Slots};
 ghost use Rattle.tp_hub.specs.Desks.{Exchange};
-ghost use Rattle.tp_hub.specs.Runs.{call_of};
+ghost use Rattle.tp_msg.specs.Asked.{call_of};
 ghost use Rattle.tp_hub.specs.Streams.{Makes, StreamCall};
 ghost use Rattle.tp_hub.specs.declared.client.Carried.{Carried};
 ghost use Rattle.tp_images.specs.Deeds.{Deed, IsLeftBy};

@@ -11,13 +11,14 @@ use Rattle.tp_model.specs.Calls.{Call, holds_after}
 use Rattle.tp_model.specs.Calls as calls
 use Rattle.tp_model.specs.Clauses.{PoolCall, View}
 use Rattle.tp_msg.specs.declared.message.Message.{Message}
-use Rattle.tp_msg.specs.declared.message.Message.TheVariants as orders
 use Rattle.tp_msg.specs.Messages.{reading}
+use Rattle.tp_msg.proofs.Asking.{message_holds}
 use Rattle.tp_pages.specs.Texts.{size_text}
 use Rattle.tp_pages.specs.Pages.{AreMade, AsksBoth, AsksDelta, AsksMap, AsksSize, BehindSize, BehindWalk, IsPaged, Question, Sizes, Walks, unit_of}
 use Rattle.nbd_session.specs.Turns.{AreTurns, Asks, Happened, Sessions, TakesTurn, pool_after, sessions_after}
 use Rattle.tp_hub.specs.Told.{Answer, Grows, Lines, Refuses, Told}
-use Rattle.tp_hub.specs.Runs.{AreQuestions, AsksDeltaOf, AsksFlush, AsksLine, AsksLineOf, AsksMapOf, AsksSizeOf, Incoming, IsAnswered, IsCalled, IsPageTold, IsPart, IsRefused, IsShort, Orders, Runs, TellsDone, TellsLine, call_of, delta_fault, front_of, map_fault, size_fault, told_page}
+use Rattle.tp_msg.specs.Asked.{call_of}
+use Rattle.tp_hub.specs.Runs.{AreQuestions, AsksDeltaOf, AsksFlush, AsksLine, AsksLineOf, AsksMapOf, AsksSizeOf, Incoming, IsAnswered, IsCalled, IsPageTold, IsPart, IsRefused, IsShort, Orders, Runs, TellsDone, TellsLine, delta_fault, front_of, map_fault, size_fault, told_page}
 use Rattle.tp_hub.specs.Places.{IsMade, IsPageMade, PoolTakes, TakesEvent}
 use Rattle.tp_hub.specs.Serving.{Serves, Slots, sessions_of}
 use Rattle.tp_hub.proofs.Placing.{serves_kept}
@@ -26,16 +27,6 @@ use Rattle.tp_hub.proofs.Taking.{runs_none, runs_one}
 
 pub at_least : (n most : ℕ) → (n < most → ⊥) → most ≤ n
 at_least n most never = let more : most < suc n = lt_of_not-le never in omega (arith, more)
-
--- a message changes nothing of who holds what
-message_holds : (h : FinMap nat_cmp ℕ) (m : Message) (answer : calls.Answer) → holds_after h (call_of m) answer ≡ h
-message_holds h (orders.CreateThin id) answer = refl
-message_holds h (orders.CreateSnap id origin) answer = refl
-message_holds h (orders.Delete id) answer = refl
-message_holds h (orders.SetTransactionId current next) answer = refl
-message_holds h (orders.Grow id blocks) answer = refl
-message_holds h orders.ReserveMetadataSnap answer = refl
-message_holds h orders.ReleaseMetadataSnap answer = refl
 
 -- ---- the calls for a page change nothing of who holds what
 
@@ -135,7 +126,7 @@ module _ {D : Type 0} (view : View D) where
 
   pub message_so : (line : List ℕ) (m : Message) (p p' : D) (before mid after : Told) → reading line ≡ Ok m → mid.list ≡ before.list → before.room ≤ mid.room → before.marks ≤ mid.marks → IsMade view TellsDone (call_of m) p mid after p' → PoolTakes view (Orders line) p true 0 before after p'
   message_so line m p p' before mid after is same room marks (answer, answers, met, tells, grows) =
-      called (Orders line) (call_of m) answer answers p p' before after (λ at h turn. ordered (unit_of (view.outline p).geometry) line m answer answers at h is turn tells) met (λ h. message_holds h m answer) (grows_behind before mid after answers same room marks grows)
+      called (Orders line) (call_of m) answer answers p p' before after (λ at h turn. ordered (unit_of (view.outline p).geometry) line m answer answers at h is turn tells) met (λ h. message_holds m h answer) (grows_behind before mid after answers same room marks grows)
 
   pub flush_so : (p p' : D) (before mid after : Told) → mid.list ≡ before.list → before.room ≤ mid.room → before.marks ≤ mid.marks → IsMade view TellsDone calls.Flush p mid after p' → PoolTakes view AsksFlush p true 0 before after p'
   flush_so p p' before mid after same room marks (answer, answers, met, tells, grows) =

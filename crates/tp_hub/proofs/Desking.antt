@@ -1,12 +1,13 @@
 -- One event asked of a hub, and asks of what stands on one.
-use Rattle.std.proofs.Common.{◌≡◌, ℕ, zero, suc, ◌≤◌, List, [], ◌∷◌, ◌++◌, length, inl, inr, refl, ap, subst, ◌∙◌, arith, append-nil}
+use Rattle.std.proofs.Common.{◌≡◌, ℕ, zero, suc, ◌<◌, ◌≤◌, Bool, true, false, List, [], ◌∷◌, ◌++◌, length, inl, inr, refl, sym, ap, subst, ◌∙◌, arith, append-nil}
 use Rattle.tp_model.specs.Clauses.{PoolCall, View}
 use Rattle.nbd_session.specs.Turns.{Sessions}
 use Rattle.tp_hub.specs.Told.{Answer, HasRoom, IsFull, Told, all_sent}
 use Rattle.tp_hub.specs.Runs.{AsksDeltaOf, AsksFlush, AsksLine, AsksLineOf, AsksMapOf, AsksSizeOf, Brings, Comes, Goes, Incoming, Orders, IsPartOfNext, IsShortOfNext, Runs, Served, answered_in, events_in, taken_of}
 use Rattle.std.specs.Prelude.{drop}
 use Rattle.tp_hub.specs.Desks.{AreAsked, Exchange, IsAsked, IsBegun, IsCut, RunsSo}
-use Rattle.tp_hub.specs.Serving.{HubState}
+use Rattle.tp_hub.specs.Places.{TakesEvent, one_if}
+use Rattle.tp_hub.specs.Serving.{HubState, Slots, sessions_of}
 
 none_served : {S : Type 0} (xs : List (Served S)) → events_in xs ≡ [] → answered_in xs ≡ []
 none_served [] e = refl
@@ -93,6 +94,28 @@ asked {D} view at at' p p' event all events bytes before after is le part short 
       begun = begun_is at' event events bytes before after one (subst (λ l. IsShortOfNext at' (drop events l) bytes after) is short)
           (λ none nothing. r.adds.list ∙ (ap (λ l. before.list ++ l) (silent none nothing) ∙ append-nil before.list)) cut r.adds.room r.adds.marks;
     }
+
+-- one event that a hub took
+pub asked_one : {D : Type 0} (view : View D) (event : Incoming) (here old : HubState D) (slots : Slots) (p : D) (whole : Bool) (bytes events : ℕ) (before after : Told) → here ≡ old → events ≡ one_if whole
+    → TakesEvent view event here.slots here.pool whole bytes before after slots p
+    → IsAsked (λ took answers. RunsSo view (sessions_of old.slots) old.pool took answers (sessions_of slots) p) event events bytes before after
+asked_one {D} view event here old slots p true bytes events before after same is takes =
+    let one : events ≡ 1 = is in
+    let le : 1 ≤ 1 = omega arith in
+    subst (λ (n : ℕ). IsAsked (λ took answers. RunsSo view (sessions_of old.slots) old.pool took answers (sessions_of slots) p) event n bytes before after) (sym one)
+    (subst (λ (h : HubState D). IsAsked (λ took answers. RunsSo view (sessions_of h.slots) h.pool took answers (sessions_of slots) p) event 1 bytes before after) same
+    (asked view (sessions_of here.slots) (sessions_of slots) here.pool p event (event ∷ []) 1 bytes before after refl le takes.part tt takes.runs))
+asked_one {D} view event here old slots p false bytes events before after same is takes =
+    let none : events ≡ 0 = is in
+    let le : 0 ≤ 1 = omega arith in
+    subst (λ (n : ℕ). IsAsked (λ took answers. RunsSo view (sessions_of old.slots) old.pool took answers (sessions_of slots) p) event n bytes before after) (sym none)
+    (subst (λ (h : HubState D). IsAsked (λ took answers. RunsSo view (sessions_of h.slots) h.pool took answers (sessions_of slots) p) event 0 bytes before after) same
+    (asked view (sessions_of here.slots) (sessions_of slots) here.pool p event (event ∷ []) 0 bytes before after refl le takes.part.0 takes.part.1 takes.runs))
+
+-- it was taken whole where it counts
+pub some_whole : (whole : Bool) (events : ℕ) → events ≡ one_if whole → 0 < events → whole ≡ true
+some_whole true events is some = refl
+some_whole false events is some = let none : events ≡ 0 = is in absurd (omega (arith, none, some))
 
 -- asks of what stands on a hub are runs of it
 pub asked_through : {A S : Type 0} (Ran : HubState S → List Incoming → List Answer → HubState S → Type 0) (f : A → HubState S) (xs : List Exchange) (a b : A) → AreAsked (λ x took answers y. Ran (f x) took answers (f y)) a xs b → AreAsked Ran (f a) xs (f b)

@@ -14,10 +14,10 @@ use Rattle.tp_hub.specs.Serving.{HubState, Serves, Slots, sessions_of}
 use Rattle.tp_hub.proofs.Asking.{flush_so}
 
 -- a buffer that has these answers
-abbrev told_to : List Answer → Told
+abbrev pub told_to : List Answer → Told
 told_to answers = record { list = answers; room = 0; marks = 0 }
 
-one_told : (answer : Answer) → Grows (told_to []) (told_to (answer ∷ [])) (answer ∷ [])
+pub one_told : (answer : Answer) → Grows (told_to []) (told_to (answer ∷ [])) (answer ∷ [])
 one_told answer = record { list = refl; room = omega arith; marks = omega arith }
 
 module _ {D : Type 0} (view : View D) where

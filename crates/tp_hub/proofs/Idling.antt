@@ -92,5 +92,8 @@ made_on events (suc i) d whole at at' lt goes made keep makes n later is all som
     keep n (All-get_or (λ e. is_parted_to n e ≡ false) events (suc i) d lt all) (made n later is all (omega arith))
 
 -- a hub's sessions are those at its places
+pub idle_shown : {D : Type 0} (h k : HubState D) (n : ℕ) → h ≡ k → IsIdle (sessions_of k.slots) n → IsIdle (sessions_of h.slots) n
+idle_shown {D} h k n is idle = subst (λ (x : HubState D). IsIdle (sessions_of x.slots) n) (sym is) idle
+
 pub stay_shown : {D : Type 0} (h k : HubState D) (events : List Event) (at' : Sessions) → h ≡ k → StayIdle (sessions_of h.slots) events at' → StayIdle (sessions_of k.slots) events at'
 stay_shown {D} h k events at' is stay = subst (λ (x : HubState D). StayIdle (sessions_of x.slots) events at') is stay

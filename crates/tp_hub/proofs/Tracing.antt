@@ -21,7 +21,8 @@ use Rattle.tp_hub.specs.Desks.{AreAsked, Exchange, IsAsked, RanSo, RunsSo}
 use Rattle.tp_hub.specs.Serve.{HubRuns, IsServedBy, PlainRuns, with_pool}
 use Rattle.tp_hub.specs.Serving.{AreLeaving, HubState, LeaveSo, LeaveTo, sessions_of}
 use Rattle.tp_hub.specs.Streams.{StreamCall}
-use Rattle.tp_hub.specs.Runs.{AreQuestions, AreServed, AsksDeltaOf, AsksFlush, AsksLine, AsksLineOf, AsksMapOf, AsksSizeOf, Brings, Comes, Goes, Incoming, IsAnswered, IsCalled, IsOnly, IsPageTold, Orders, TellsDone, TellsLine, call_of, delta_fault, is_busy, map_fault, size_fault, Runs, Served, TakesText, answered_in, answers_in, answers_of, events_in, turns_in}
+use Rattle.tp_msg.specs.Asked.{call_of}
+use Rattle.tp_hub.specs.Runs.{AreQuestions, AreServed, AsksDeltaOf, AsksFlush, AsksLine, AsksLineOf, AsksMapOf, AsksSizeOf, Brings, Comes, Goes, Incoming, IsAnswered, IsCalled, IsOnly, IsPageTold, Orders, TellsDone, TellsLine, delta_fault, is_busy, map_fault, size_fault, Runs, Served, TakesText, answered_in, answers_in, answers_of, events_in, turns_in}
 
 map_bool : (b : Bool) (P Q P' Q' : Type 0) → (P → P') → (Q → Q') → MatchBool b P Q → MatchBool b P' Q'
 map_bool true P Q P' Q' f g h = f h
@@ -204,17 +205,17 @@ module _ {D : Type 0} (view : View D) (laws : ViewLaws view) where
   ran_goes at after pool new took answers ran =
       goes_so pool new _ (λ t t'. RanSo outline_of_traced (TracedCall view.has_use) at t took answers after t') (λ t t' run. (ran.0, ran.1, run, ran.3)) (run_goes at after pool new took ran.0 ran.1 ran.2)
 
-  asked_goes : (at : Sessions) (pool : D) (event : Incoming) (events bytes : ℕ) (before out : Told) → IsAsked (λ took answers. RunsSo view at pool took answers at pool) event events bytes before out
-      → GoesWithTrace view pool pool (λ t t'. IsAsked (λ took answers. RanSo outline_of_traced (TracedCall view.has_use) at t took answers at t') event events bytes before out)
-  asked_goes at pool event events bytes before out a =
-      goes_so pool pool _ (λ t t'. IsAsked (λ took answers. RanSo outline_of_traced (TracedCall view.has_use) at t took answers at t') event events bytes before out)
-      (λ t t' ran. record { answers = a.answers; did = ran; adds = a.adds; cut = a.cut; silent = a.silent; begun = a.begun }) (ran_goes at at pool pool _ a.answers a.did)
+  pub asked_goes : (at after : Sessions) (pool new : D) (event : Incoming) (events bytes : ℕ) (before out : Told) → IsAsked (λ took answers. RunsSo view at pool took answers after new) event events bytes before out
+      → GoesWithTrace view pool new (λ t t'. IsAsked (λ took answers. RanSo outline_of_traced (TracedCall view.has_use) at t took answers after t') event events bytes before out)
+  asked_goes at after pool new event events bytes before out a =
+      goes_so pool new _ (λ t t'. IsAsked (λ took answers. RanSo outline_of_traced (TracedCall view.has_use) at t took answers after t') event events bytes before out)
+      (λ t t' ran. record { answers = a.answers; did = ran; adds = a.adds; cut = a.cut; silent = a.silent; begun = a.begun }) (ran_goes at after pool new _ a.answers a.did)
 
   -- READs that were answered while others looked
   pub shared_goes : (o : Option Ran) (h : HubState D) (event : Incoming) (before out : Told) → IfSome o (λ r. IsAsked (λ took answers. RunsSo view (sessions_of h.slots) h.pool took answers (sessions_of h.slots) h.pool) event r.events r.bytes before out)
       → IfSome o (λ r. GoesWithTrace view h.pool h.pool (λ t t'. IsAsked (λ took answers. RanSo outline_of_traced (TracedCall view.has_use) (sessions_of h.slots) t took answers (sessions_of h.slots) t') event r.events r.bytes before out))
   shared_goes None h event before out asked = tt
-  shared_goes (Some r) h event before out asked = asked_goes (sessions_of h.slots) h.pool event r.events r.bytes before out asked
+  shared_goes (Some r) h event before out asked = asked_goes (sessions_of h.slots) (sessions_of h.slots) h.pool h.pool event r.events r.bytes before out asked
 
   -- ---- asks of a hub
 

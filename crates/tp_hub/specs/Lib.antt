@@ -13,3 +13,4 @@ pub mod Lives
 pub mod Covered
 pub mod Seats
 pub mod Flushes
+pub mod Unkept

@@ -39,6 +39,10 @@ abbrev pub taken_part : Incoming → Bool → ℕ → List Incoming
 taken_part event true bytes = event ∷ []
 taken_part event false bytes = front_of event bytes
 
+-- an event that was taken whole, as a number of events
+abbrev pub one_if : Bool → ℕ
+one_if whole = if whole then 1 else 0
+
 -- what was taken of it leaves its session so
 abbrev pub IsTaken : Sessions → Incoming → Bool → ℕ → Told → Type 0
 IsTaken at event true bytes out = bytes ≡ 0

@@ -11,8 +11,7 @@ use Rattle.nbd_session.specs.Session.{has_ended, is_at_work}
 use Rattle.nbd_session.specs.Turns.{Turn, Opens, Hears, Leaves, Asks, Happened, Sessions, AreTurns, sessions_after, pool_after}
 use Rattle.tp_hub.specs.declared.event.Event.{Event}
 use Rattle.tp_hub.specs.declared.event.Event.TheVariants as kinds
-use Rattle.tp_msg.specs.declared.message.Message.{Message}
-use Rattle.tp_msg.specs.declared.message.Message.TheVariants as orders
+use Rattle.tp_msg.specs.Asked.{call_of}
 use Rattle.tp_msg.specs.Messages.{reading}
 use Rattle.tp_pages.specs.Pages.{AsksDelta, AsksMap, AsksSize, Question, unit_of}
 use Rattle.tp_hub.specs.Told.{Answer, Accepts, Lines, Says, Closes, Refuses, Told, Grows, IsFull}
@@ -180,16 +179,6 @@ IsOnly {S} turns turn = (h : Happened S) × (turns ≡ h ∷ []) × (h.turn ≡ 
 -- nothing is done
 abbrev pub IsRefused : {S : Type 0} → Refusal → List (Happened S) → List Answer → Type 0
 IsRefused reason turns answers = (turns ≡ []) × (answers ≡ Refuses reason ∷ [])
-
--- the call that a message asks for
-abbrev pub call_of : Message → Call
-call_of (orders.CreateThin id) = calls.CreateThin id
-call_of (orders.CreateSnap id origin) = calls.CreateSnap id origin
-call_of (orders.Delete id) = calls.Delete id
-call_of (orders.SetTransactionId current next) = calls.SetTransactionId current next
-call_of (orders.Grow id blocks) = calls.Grow id blocks
-call_of orders.ReserveMetadataSnap = calls.ReserveMetadataSnap
-call_of orders.ReleaseMetadataSnap = calls.ReleaseMetadataSnap
 
 -- what is told where a message, or a flush, was given this answer: nothing else answers it
 abbrev pub TellsDone : calls.Answer → List Answer → Type 0

@@ -17,10 +17,11 @@ use nbd_session::Profile;
 use std::alloc::Global;
 use tp_msg::Managed;
 
-/// A hub that is its client's alone, and takes its memory from an allocator.
-struct OwnDesk<V: Managed> {
-    alloc: Global,
-    hub: Hub<V>,
+/// A hub that nobody else asks, with the allocator from which it takes its memory.
+#[derive(Drop)]
+pub struct OwnDesk<V: Managed> {
+    pub alloc: Global,
+    pub hub: Hub<V>,
 }
 
 impl<V: Managed> Desk for OwnDesk<V> {
@@ -29,7 +30,7 @@ impl<V: Managed> Desk for OwnDesk<V> {
     ghost asks = { λ a took answers b. HubRuns V.view a.hub took answers b.hub };
 
     fn ask(&mut self, event: Event<'_>, out: &mut Answers) -> Ran {
-        self.hub.run(self.alloc, &[event], out)
+        self.hub.take(self.alloc, event, out)
     }
 }
 

@@ -36,6 +36,6 @@ impl<'h, V: Managed> Desk for HubDesk<'h, V> {
     ghost asks = { λ a took answers b. RunsSo V.view (sessions_of a.hub.now.slots) a.hub.now.pool took answers (sessions_of b.hub.now.slots) b.hub.now.pool };
 
     fn ask(&mut self, event: Event<'_>, out: &mut Answers) -> Ran {
-        self.hub.run(self.alloc, &[event], out)
+        self.hub.take(self.alloc, event, out)
     }
 }

@@ -5,8 +5,8 @@ ghost use Rattle.std.specs.FinMap.{empty};
 ghost use Rattle.tp_model.specs.Clauses.{PoolCall};
 ghost use Rattle.tp_hub.specs.Runs.{Brings, IsPartOfNext, IsShortOfNext, Runs, incoming, session_of, taken_of};
 ghost use Rattle.tp_hub.specs.Parts.{BringIdle, IsIdle, StayIdle, is_parted_to};
-ghost use Rattle.tp_hub.specs.Places.{TakesEvent};
-ghost use Rattle.nbd_session.specs.Session.{is_at_work, is_to_flush, keeps_apart};
+ghost use Rattle.tp_hub.specs.Places.{TakesEvent, one_if};
+ghost use Rattle.nbd_session.specs.Session.{has_older, is_at_work, is_to_flush, keeps_apart};
 ghost use Rattle.tp_hub.specs.Serve.{AreAllOpen, IsLeastFree};
 ghost use Rattle.tp_hub.specs.Serving.{AllLeave, Serves, sessions_of, slot_at};
 
@@ -196,11 +196,12 @@ impl<V: SharedVolumes> Hub<V> {
 }
 
 impl<V: Managed> Hub<V> {
-    ghost use Rattle.std.specs.Prelude.{◌<◌, ◌≤◌, length, map, drop, All};
+    ghost use Rattle.std.specs.Prelude.{◌≡◌, ◌<◌, ◌≤◌, ℕ, [], false, length, map, drop, All};
     ghost use Rattle.tp_model.specs.Clauses.{PoolCall, TracedCall, outline_of_traced};
     ghost use Rattle.nbd_session.specs.Clauses.{GoesWithTrace};
-    ghost use Rattle.tp_hub.specs.Runs.{IsPartOfNext, IsShortOfNext, Runs, incoming, session_of, taken_of};
-    ghost use Rattle.tp_hub.specs.Parts.{BringIdle, StayIdle};
+    ghost use Rattle.tp_hub.specs.Desks.{IsAsked, RanSo, RunsSo};
+    ghost use Rattle.tp_hub.specs.Runs.{Brings, IsPartOfNext, IsShortOfNext, Runs, incoming, session_of, taken_of};
+    ghost use Rattle.tp_hub.specs.Parts.{BringIdle, IsIdle, StayIdle, is_parted_to};
     ghost use Rattle.tp_hub.specs.Serving.{sessions_of};
 
     /// Takes events one after another, and adds their answers. What is sent is that of the sessions' turns, in the order of the events.
@@ -233,6 +234,25 @@ impl<V: Managed> Hub<V> {
         ensures made { BringIdle events.now result.events (sessions_of self.new.slots) }
     {
         run_events(&mut self.sessions, &mut self.pool, alloc, events, out)
+    }
+
+    /// Takes one event, as `run` takes a list of one: what stands there of an event holds here too.
+    pub fn take(&mut self, alloc: Global, event: Event<'_>, out: &mut Answers) -> Ran
+        requires { session_of event < 64 }
+        ensures asked { IsAsked (λ took answers. RunsSo V.view (sessions_of self.old.slots) self.old.pool took answers (sessions_of self.new.slots) self.new.pool)
+            (incoming event.entry) result.events result.bytes out.old out.new }
+        ensures traced { GoesWithTrace V.view self.old.pool self.new.pool (λ t t'. IsAsked
+            (λ took answers. RanSo outline_of_traced (TracedCall V.view.has_use) (sessions_of self.old.slots) t took answers (sessions_of self.new.slots) t')
+            (incoming event.entry) result.events result.bytes out.old out.new) }
+        ensures idle { (n : ℕ) → is_parted_to n event.entry ≡ false → IsIdle (sessions_of self.old.slots) n → IsIdle (sessions_of self.new.slots) n }
+        ensures made { (n : ℕ) → is_parted_to n event.entry ≡ false → incoming event.entry ≡ Brings n [] → 0 < result.events → IsIdle (sessions_of self.new.slots) n }
+    {
+        let took = take_event(&mut self.sessions, &mut self.pool, alloc, &event, out);
+        let events = one_if(took.whole);
+        Ran {
+            events,
+            bytes: took.bytes,
+        }
     }
 }
 
@@ -281,6 +301,18 @@ pub(crate) fn apart(sessions: &[Option<Session>; SESSIONS], number: u8) -> bool
     }
 }
 
+/// Whether the session of a number is told since an older volume.
+pub(crate) fn older(sessions: &[Option<Session>; SESSIONS], number: u8) -> bool
+    requires count { length sessions.now ≡ 64 }
+    requires number { number < 64 }
+    ensures { result ≡ has_older (sessions_of sessions.now number).phase }
+{
+    match &sessions[usize::from(number)] {
+        None => false,
+        Some(session) => session.has_older(),
+    }
+}
+
 /// The least number that is not open, or None where all are.
 fn least_free(sessions: &[Option<Session>; SESSIONS]) -> Option<u8>
     requires { length sessions.now ≡ 64 }
@@ -300,6 +332,13 @@ fn no_session(_place: usize) -> Option<Session>
     ensures { result ≡ None }
 {
     None
+}
+
+/// An event that was taken whole counts, and another one does not.
+fn one_if(whole: bool) -> usize
+    ensures { result ≡ one_if whole }
+{
+    if whole { 1 } else { 0 }
 }
 
 /// Takes events one after another.

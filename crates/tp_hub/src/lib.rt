@@ -6,7 +6,7 @@
 //! A [`Desk`] takes one event at a time, as a hub does; a [`Stream`] is read and written, and tells its calls. [`carry`] carries one client over both.
 //!
 //! Messages to the pool, and its status lines, are events too: each is one call of the pool between the turns of its sessions. A hub may also make a flush that
-//! no event asked for, in parts, between which READs go on ([`MidHub`]).
+//! no event asked for, in parts, between which READs go on ([`MidHub`]), and keep a message so ([`MidMessage`]).
 #![tactic(auto)]
 
 mod alone;
@@ -19,13 +19,12 @@ mod laws;
 mod log;
 mod midway;
 mod orders;
-mod pairs;
 mod seat;
 mod shared;
 mod slot;
 mod stream;
 
-pub use alone::serve;
+pub use alone::{OwnDesk, serve};
 pub use answers::{Answers, MOST_BYTES, Mark};
 pub use client::{Carried, carry};
 pub use desk::{Desk, HubDesk};
@@ -37,8 +36,6 @@ pub use laws::{
     runs_join, two_are_heard_in_turn,
 };
 pub use log::{Log, Made};
-pub use midway::MidHub;
-pub use orders::apply;
-pub use pairs::serve_two;
+pub use midway::{MidHub, MidMessage};
 pub use seat::Seat;
 pub use stream::{Put, Received, Stream, send_all, write_out};

@@ -1,42 +1,25 @@
 //! Messages to the pool, flushes of it, its status lines, sizes of its volumes, and pages of its listings.
 
-ghost use Rattle.std.specs.Prelude.{◌≡◌, ◌∷◌, [], ◌<◌, ◌≤◌, MatchResult, None, length, take};
+ghost use Rattle.std.specs.Prelude.{◌≡◌, ◌∷◌, [], ◌<◌, ◌≤◌, None, length, take};
 ghost use Rattle.tp_model.specs.Calls as calls;
-ghost use Rattle.tp_model.specs.Clauses.{PoolCall};
+ghost use Rattle.tp_msg.specs.Asked.{call_of};
 ghost use Rattle.tp_pages.specs.Pages.{AsksDelta, AsksMap, AsksSize, unit_of};
-ghost use Rattle.tp_hub.specs.Runs.{AsksDeltaOf, AsksFlush, AsksLine, AsksLineOf, AsksMapOf, AsksSizeOf, Orders, TellsDone, TellsLine, call_of, delta_fault, map_fault, size_fault};
+ghost use Rattle.tp_hub.specs.Runs.{AsksDeltaOf, AsksFlush, AsksLine, AsksLineOf, AsksMapOf, AsksSizeOf, Orders, TellsDone, TellsLine, delta_fault, map_fault, size_fault};
 ghost use Rattle.tp_hub.specs.Told.{Grows, HasRoom, Lines};
 ghost use Rattle.tp_hub.specs.Places.{IsMade, IsPageMade, PoolTakes};
 
 use crate::answers::{Answers, Mark};
 use crate::slot::{NOTHING, Took, WHOLE};
 use tp_model::{DevId, Refusal, Vb, Volumes};
-use tp_msg::{LineBuffer, Managed, Message, read_message};
+use tp_msg::{LineBuffer, Managed, Message, order, read_message};
 use tp_pages::{PageLine, delta_line, map_line, size_line};
-
-/// Makes the call of a pool that a message asks for, and answers as it does.
-pub fn apply<V: Managed>(pool: &mut V, message: &Message) -> Result<(), Refusal>
-    ensures { MatchResult result
-        (λ _. PoolCall V.view pool.old (call_of message.now) calls.Done pool.new)
-        (λ reason. PoolCall V.view pool.old (call_of message.now) (calls.Refused reason) pool.new) }
-{
-    match *message {
-        Message::CreateThin { id } => pool.create_thin(id),
-        Message::CreateSnap { id, origin } => pool.create_snap(id, origin),
-        Message::Delete { id } => pool.delete(id),
-        Message::SetTransactionId { current, next } => pool.set_transaction_id(current, next),
-        Message::Grow { id, blocks } => pool.grow(id, blocks),
-        Message::ReserveMetadataSnap => pool.reserve_metadata_snap(),
-        Message::ReleaseMetadataSnap => pool.release_metadata_snap(),
-    }
-}
 
 /// Makes the call that a message asks for, and tells its answer.
 fn obey<V: Managed>(pool: &mut V, message: &Message, out: &mut Answers)
     requires { length out.old.list < out.old.marks }
     ensures { IsMade V.view TellsDone (call_of message.now) pool.old out.old out.new pool.new }
 {
-    match apply(pool, message) {
+    match order(pool, message) {
         Ok(()) => out.note(Mark::Done),
         Err(reason) => out.note(Mark::Refused { reason }),
     }

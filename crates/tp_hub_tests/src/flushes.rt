@@ -4,8 +4,9 @@ use crate::talk::{GIVEN, GO_0, HALF, READ, WRITE, refused, sent};
 use nbd_session::Profile;
 use std::alloc::Global;
 use std::test::Fail;
-use tp_hub::{Answers, Event, Hub, MidHub, Ran};
+use tp_hub::{Answers, Event, Hub, MidHub, MidMessage, Ran};
 use tp_model::{Flushing, Mode, Refusal, Staged};
+use tp_msg::{Managed, Message};
 use tp_shelf::{Shelf, failing_in_part, staged_shelf};
 
 /// A client that wrote a sector of letters.
@@ -26,17 +27,22 @@ fn write(alloc: Global, hub: &mut Hub<Shelf>, out: &mut Answers) -> Ran {
 /// Whether a READ was taken whole, whether it alone was answered, and the last byte that it was given.
 type Read = (bool, bool, Option<u8>);
 
-/// A READ of a hub in the middle of a flush, behind what was brought to the device.
-fn read_between(mid: &MidHub<Shelf>, out: &mut Answers) -> Read {
-    out.clear();
-    mid.sync_ahead();
-    let ran = mid.ask_shared(0, READ, out);
+/// What was told of a READ.
+fn told_of_read(ran: Option<Ran>, out: &Answers) -> Read {
     let whole = Ran {
         events: 1,
         bytes: 0,
     };
     let is_alone = out.marks() == [sent(0, GIVEN)].as_slice();
     (ran == Some(whole), is_alone, out.bytes().last().copied())
+}
+
+/// A READ of a hub in the middle of a flush, behind what was brought to the device.
+fn read_between(mid: &MidHub<Shelf>, out: &mut Answers) -> Read {
+    out.clear();
+    mid.sync_ahead();
+    let ran = mid.ask_shared(0, READ, out);
+    told_of_read(ran, out)
 }
 
 /// What a flush is, as far as it is made.
@@ -96,6 +102,65 @@ fn reads_between_parts(rt: HostRuntime) -> Result<(), Fail> {
     Ok(())
 }
 
+/// What a message is, as far as it is made.
+type Order = Flushing<Hub<Shelf>, MidMessage<Shelf>>;
+
+/// The next part of a message, with a READ before it.
+fn next_of(part: Order, out: &mut Answers) -> (Order, Option<Read>) {
+    match part {
+        Flushing::Done(hub, answer) => (Flushing::Done(hub, answer), None),
+        Flushing::Midway(mid) => {
+            out.clear();
+            mid.sync_ahead();
+            let ran = mid.ask_shared(0, READ, out);
+            let read = told_of_read(ran, out);
+            (mid.go_on(), Some(read))
+        }
+    }
+}
+
+/// Whether the message was done, and how many syncs there were between its parts.
+fn last_of(part: Order) -> (bool, u64) {
+    match part {
+        Flushing::Done(hub, answer) => (answer.is_ok(), hub.into_pool().synced().0),
+        Flushing::Midway(mid) => {
+            let (hub, answer) = mid.end();
+            (answer.is_ok(), hub.into_pool().synced().0)
+        }
+    }
+}
+
+/// What becomes of a message whose flush has so many parts and a last one, with a READ before each of the next two.
+fn told_of_message(alloc: Global, parts: u8) -> Result<([Option<Read>; 2], (bool, u64)), Refusal> {
+    let mut hub = Hub::new(staged_shelf(alloc, parts, false)?);
+    let mut out = Answers::new(alloc);
+    write(alloc, &mut hub, &mut out);
+    let message = Message::SetTransactionId {
+        current: 0,
+        next: 7,
+    };
+    let (part, first) = next_of(hub.begin_message(&message), &mut out);
+    let (part, second) = next_of(part, &mut out);
+    Ok(([first, second], last_of(part)))
+}
+
+/// Between two parts of what keeps a message READs are given what they are given before it.
+#[test]
+fn reads_between_the_parts_of_a_message(rt: HostRuntime) -> Result<(), Fail> {
+    let told = [
+        told_of_message(rt.alloc(), 0)?,
+        told_of_message(rt.alloc(), 1)?,
+        told_of_message(rt.alloc(), 2)?,
+    ];
+    let wanted = [
+        ([None, None], (true, 0)),
+        ([GAVE, None], (true, 1)),
+        ([GAVE, GAVE], (true, 2)),
+    ];
+    assert!(rt; told == wanted);
+    Ok(())
+}
+
 /// A flush with all its parts, of which there are three at most.
 fn flushed<V: Staged>(hub: Hub<V>) -> (Hub<V>, Result<(), Refusal>) {
     match hub.begin_flush() {
@@ -119,6 +184,38 @@ fn told_of_fault(part: u8) -> Result<(bool, bool), Refusal> {
 #[test]
 fn a_fault_in_each_part(rt: HostRuntime) -> Result<(), Fail> {
     let told = [told_of_fault(0)?, told_of_fault(1)?, told_of_fault(2)?];
+    assert!(rt; told == [(true, true), (true, true), (true, true)]);
+    Ok(())
+}
+
+/// A message with all its parts, of which there are three at most.
+fn ordered<V: Managed + Staged>(hub: Hub<V>, message: &Message) -> (Hub<V>, Result<(), Refusal>) {
+    match hub.begin_message(message) {
+        Flushing::Done(hub, answer) => (hub, answer),
+        Flushing::Midway(mid) => match mid.go_on() {
+            Flushing::Done(hub, answer) => (hub, answer),
+            Flushing::Midway(mid) => mid.end(),
+        },
+    }
+}
+
+/// Whether a message is refused whose flush fails in such a part, and whether the pool has failed behind it.
+fn told_of_faulty_message(part: u8) -> Result<(bool, bool), Refusal> {
+    let hub = Hub::new(failing_in_part(part)?);
+    let (hub, answer) = ordered(hub, &Message::ReserveMetadataSnap);
+    let mode = hub.mode();
+    let _ = hub.into_pool();
+    Ok((answer == Err(Refusal::Damaged), mode == Mode::Failed))
+}
+
+/// In whichever part what keeps it fails, the message is refused and the pool has failed behind it.
+#[test]
+fn a_fault_in_each_part_of_a_message(rt: HostRuntime) -> Result<(), Fail> {
+    let told = [
+        told_of_faulty_message(0)?,
+        told_of_faulty_message(1)?,
+        told_of_faulty_message(2)?,
+    ];
     assert!(rt; told == [(true, true), (true, true), (true, true)]);
     Ok(())
 }

@@ -5,8 +5,9 @@ use crate::talk::sent;
 use nbd_session::Profile;
 use std::alloc::Global;
 use std::test::Fail;
-use tp_hub::{Answers, Event, Hub, MidHub, Ran};
+use tp_hub::{Answers, Event, Hub, MidHub, MidMessage, Ran};
 use tp_model::{Flushing, Refusal};
+use tp_msg::Message;
 use tp_shelf::{Shelf, staged_shelf};
 
 /// The client flags, STRUCTURED_REPLY, SET_META_CONTEXT of volume 0 by the name of the context, and GO of it.
@@ -114,5 +115,44 @@ fn told_midway(alloc: Global) -> Result<((Option<Ran>, usize), bool), Refusal> {
 fn statuses_between_parts(rt: HostRuntime) -> Result<(), Fail> {
     let told = told_midway(rt.alloc())?;
     assert!(rt; told == ((Some(WHOLE), 0), true));
+    Ok(())
+}
+
+/// What is taken of a BLOCK_STATUS in the midst of a message, and how many volumes are held behind it.
+fn told_by_order(
+    part: Flushing<Hub<Shelf>, MidMessage<Shelf>>,
+    out: &mut Answers,
+) -> (Option<Ran>, usize) {
+    match part {
+        Flushing::Done(hub, _) => (None, hub.into_pool().held()),
+        Flushing::Midway(mid) => {
+            let ran = mid.ask_shared(0, STATUS, out);
+            let (hub, _) = mid.end();
+            (ran, hub.into_pool().held())
+        }
+    }
+}
+
+/// The same of a hub of its own, of whose volume a client asked by this text for contexts, and how many bytes it is answered.
+fn told_in_message(alloc: Global, text: &[u8]) -> Result<((Option<Ran>, usize), usize), Refusal> {
+    let mut hub = Hub::new(staged_shelf(alloc, 1, false)?);
+    let mut out = Answers::new(alloc);
+    enter(alloc, &mut hub, text, &mut out);
+    let message = Message::SetTransactionId {
+        current: 0,
+        next: 7,
+    };
+    let told = told_by_order(hub.begin_message(&message), &mut out);
+    Ok((told, out.bytes().len()))
+}
+
+/// In the midst of a message one waits whose session is told since an older volume, and no other one does.
+#[test]
+fn statuses_in_the_midst_of_a_message(rt: HostRuntime) -> Result<(), Fail> {
+    let told = [
+        told_in_message(rt.alloc(), ENTER)?,
+        told_in_message(rt.alloc(), ENTER_SINCE)?,
+    ];
+    assert!(rt; told == [((Some(WHOLE), 0), 32), ((None, 0), 0)]);
     Ok(())
 }

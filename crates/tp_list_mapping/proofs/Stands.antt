@@ -6,7 +6,7 @@ use Rattle.std.proofs.lemmas.Bool.{cases_eq, false≢true}
 use Rattle.std.proofs.lemmas.List.{length-map}
 use Rattle.tp_model.specs.Geometry.{Geometry}
 use Rattle.tp_model.specs.Told.{IsToldSize, told_blocks}
-use Rattle.tp_sharing.specs.Volumes.{BlockSlot, DeviceSlots, DevicesAscend, SlotsAscend, Unused, Volumes, changed_at, device_of, devices_in, mapped_of, place_in, place_or_none, resized, size_of, slot_of, with_device, with_place, with_slot, without_device, without_place, without_slot}
+use Rattle.tp_sharing.specs.Volumes.{BlockSlot, DeviceSlots, DevicesAscend, SlotsAscend, Unused, Volumes, changed_at, device_of, devices_in, mapped_of, place_in, place_or_none, resized, size_of, slot_of, with_device, with_place, with_slot, without_device}
 use Rattle.tp_sharing.proofs.Sized.{resized_is_put}
 use Rattle.tp_sharing.proofs.Told.{size_changes}
 use Rattle.tp_sharing.proofs.Slots.{place_here, place_later}
@@ -24,7 +24,7 @@ use Rattle.tp_mapping.specs.Runs.{without_places, without_run}
 use Rattle.tp_mapping.proofs.Between.{size_there}
 use Rattle.tp_mapping.proofs.WithoutRuns.{run_is_changed, within_run}
 use Rattle.tp_list_mapping.proofs.Within.{low_changed, low_count, low_resized, low_run, low_with, low_without, within_resized, within_with_device, within_with_slot, within_without_device}
-use Rattle.tp_mapping.proofs.Within.{slots_ascend, within_without_slot}
+use Rattle.tp_mapping.proofs.Within.{slots_ascend}
 
 none_some : {A : Type 0} (a : Option A) (x : A) → a ≡ None → a ≡ Some x → ⊥
 none_some a x e f = cc
@@ -165,23 +165,6 @@ module _ (m : ListMapping) (now kept : Volumes) (s : StandsFor m now kept) where
     least = s.least;
     most = s.most;
     bounded = subst (IsBounded m.geometry m.most_blocks) (sym (run_is_changed id first n now)) (bounded_changed m.geometry m.most_blocks id (without_places first n) now s.bounded);
-    roomy = r.room (m.most_blocks + 1) s.roomy;
-    spare_roomy = s.spare_roomy;
-    fits = omega (arith, s.fits, r.sized, c);
-    spare_fits = omega (arith, s.spare_fits, r.sized);
-    sized = s.sized;
-    marked = s.marked;
-  }
-
-  pub slot_taken : (new : ListMapping) (id b : ℕ) → volumes new.devices.items ≡ without_slot id b (volumes m.devices.items) → IsAsRoomy m.devices.items new.devices.items → vec_capacity new.devices ≡ vec_capacity m.devices
-      → StandsFor (record m { devices = new.devices }) (without_slot id b now) kept
-  slot_taken new id b v r c = record {
-    listed = ap (without_slot id b) s.listed ∙ sym v;
-    low = low_changed id (without_place b) now s.low;
-    within = within_next (without_slot id b now) (within_without_slot m.geometry now s.within.volumes_now id b);
-    least = s.least;
-    most = s.most;
-    bounded = bounded_changed m.geometry m.most_blocks id (without_place b) now s.bounded;
     roomy = r.room (m.most_blocks + 1) s.roomy;
     spare_roomy = s.spare_roomy;
     fits = omega (arith, s.fits, r.sized, c);

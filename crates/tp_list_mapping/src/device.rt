@@ -248,7 +248,7 @@ pub(crate) fn put_slot(devices: &mut Vec<Device>, id: DevId, slot: Slot) -> Resu
 }
 
 /// Takes the slot of a virtual block out of a device. `Damaged` exactly where there is none.
-pub(crate) fn take_slot(devices: &mut Vec<Device>, id: DevId, block: Vb) -> Result<(), StoreError>
+fn take_slot(devices: &mut Vec<Device>, id: DevId, block: Vb) -> Result<(), StoreError>
     ensures value { OnOk result (volumes devices.new.items ≡ without_slot id block (volumes devices.old.items)) }
     ensures room { OnOk result (IsAsRoomy devices.old.items devices.new.items) }
     ensures err { IfErr result (λ error. (error ≡ StoreError.Damaged) × (slot_of id block (volumes devices.old.items) ≡ None)) }

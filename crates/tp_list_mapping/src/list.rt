@@ -15,7 +15,7 @@ ghost use Rattle.tp_mapping.specs.Runs.{without_run};
 use crate::device::{
     Device, add, copy_of, count_free, count_used, drop_slots, find_free, highest_of,
     is_used_elsewhere, mapped_of, mark, next_of, put_slot, remove, resize, size_of, slot_of,
-    take_slot, walk_of,
+    walk_of,
 };
 use std::alloc::{AllocError, Global};
 use tp_counts::StoreError;
@@ -74,7 +74,7 @@ fn size_for(geometry: &Geometry, blocks: u32) -> u32
 
 impl ListMapping {
     /// A mapping without devices, for a pool of this geometry, with room for so many devices of so many virtual blocks at most. At the end of that room only
-    /// `unmap` and `delete` are possible: each device that is there takes 8 of what `free_metadata` tells.
+    /// `unmap_run` and `delete` are possible: each device that is there takes 8 of what `free_metadata` tells.
     pub fn new(
         alloc: Global,
         geometry: Geometry,
@@ -272,15 +272,6 @@ impl Mapping for ListMapping {
         };
         put_slot(&mut self.devices, device, Slot::new(block, place))?;
         Ok(Some(place))
-    }
-
-    fn unmap<D: Disk>(
-        &mut self,
-        _disk: &mut D,
-        device: DevId,
-        block: Vb,
-    ) -> Result<(), StoreError> {
-        take_slot(&mut self.devices, device, block)
     }
 
     fn unmap_run<D: Disk>(

@@ -1,5 +1,6 @@
 mod Locking
 mod Going
 mod Keeping
+mod Ordering
 mod Ends
 mod Counting

@@ -2,7 +2,6 @@
 use Rattle.std.specs.Prelude.{ℕ, zero, suc, ◌+◌, ◌-◌, Bool, false, List, [], ◌∷◌, ◌++◌, length, take, drop, min, nat_lt, nat_eq, slice_index_or, ◌%◌, ◌==◌, ◌||◌, ◌&&◌, if◌then◌else◌}
 use Rattle.std.specs.Int.{w32, to_be_bytes}
 use Rattle.std.specs.List.{starts_with}
-use Rattle.nbd_session.specs.Requests.{BeginsWithLook}
 use Rattle.nbd_wire.specs.declared.Kind.{Kind}
 use Rattle.nbd_wire.specs.declared.Kind.TheVariants.{Flags, Options, Requests}
 use Rattle.nbd_wire.specs.declared.TheConstants.{REQUEST_MAGIC}
@@ -10,7 +9,6 @@ use Rattle.nbd_wire.specs.Reading.{fixed_len, wanted}
 use Rattle.tp_hub.specs.declared.stream.Received.{Received}
 use Rattle.tp_hub.specs.declared.stream.Received.TheVariants.{Got, NotNow, End, Broken}
 use Rattle.tp_hub.specs.Streams.{Flushes, Gave, GaveAgain, GaveEnd, GaveNone, StreamCall, Took, TookAgain, TookNone}
-use Rattle.tp_hub.specs.Runs.{AsksDeltaOf, AsksFlush, AsksLine, AsksLineOf, AsksMapOf, AsksSizeOf, Brings, Comes, Goes, Incoming, Orders}
 
 -- Where a client stands: of which kind the frame is that has begun, or comes next, which bytes of its fixed part have come, and how many bytes of its data are
 -- missing.
@@ -124,19 +122,6 @@ begins_as_request bytes = starts_with nat_eq bytes (to_be_bytes w32 REQUEST_MAGI
 -- how many bytes are asked at once: up to the end of the sixteenth request, or to the next one that keeps what was written, or all where they begin with none
 abbrev pub turn_of : List ℕ → ℕ
 turn_of bytes = if begins_as_request bytes then end_of 16 bytes else length bytes
-
--- a READ or a BLOCK_STATUS stands whole at the front of an event
-abbrev pub IsLook : Incoming → Type 0
-IsLook (Brings session piece) = BeginsWithLook piece
-IsLook (Comes session profile) = ⊥
-IsLook (Goes session) = ⊥
-IsLook (Orders line) = ⊥
-IsLook AsksLine = ⊥
-IsLook (AsksLineOf volume) = ⊥
-IsLook (AsksSizeOf volume) = ⊥
-IsLook (AsksMapOf volume from) = ⊥
-IsLook (AsksDeltaOf old new from) = ⊥
-IsLook AsksFlush = ⊥
 
 -- ---- who was refused
 

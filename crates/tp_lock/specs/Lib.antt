@@ -1,4 +1,5 @@
 pub mod Framing
 pub mod Locked
+pub mod Ordered
 pub mod Stages
 pub mod Census

@@ -11,6 +11,7 @@ mod census;
 mod locked;
 mod midway;
 mod order;
+mod ordered;
 mod patience;
 mod since;
 mod turns;

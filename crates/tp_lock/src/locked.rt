@@ -1,16 +1,19 @@
 //! A hub that many clients ask.
 
-ghost use Rattle.std.specs.Prelude.{◌≡◌, ◌<◌, IfSome, MatchBool, None};
+ghost use Rattle.std.specs.Prelude.{◌≡◌, ◌<◌, ◌∷◌, [], IfSome, List, None, Ok, length, ℕ};
 ghost use Rattle.tp_model.specs.Calls.{is_failed};
-ghost use Rattle.tp_hub.specs.Runs.{Brings, incoming, session_of};
+ghost use Rattle.tp_msg.specs.Messages.{reading};
+ghost use Rattle.tp_hub.specs.Flushes.{flush_told};
+ghost use Rattle.tp_hub.specs.Told.{Grows};
+ghost use Rattle.tp_hub.specs.Runs.{Brings, Orders, incoming, session_of};
 ghost use Rattle.tp_hub.specs.Desks.{IsAsked};
 ghost use Rattle.tp_hub.specs.Places.{IsWider};
 ghost use Rattle.tp_hub.specs.Serve.{HubRuns};
 ghost use Rattle.tp_hub.specs.Serving.{HubState, Slots};
 ghost use Rattle.tp_lock.specs.Census.{AreSeats};
-ghost use Rattle.tp_lock.specs.Framing.{IsLook};
 ghost use Rattle.tp_lock.specs.Locked.{IsFrom, MakesParts, SomeRun, SomeRuns};
 ghost use Rattle.tp_lock.specs.declared.midway.Stage.TheVariants.{Whole};
+ghost use Rattle.tp_lock.specs.Ordered.{IsMessageTold};
 ghost use Rattle.tp_lock.specs.Stages.{IsEnded, slots_of};
 
 use crate::midway::{Guarded, Stage};
@@ -21,9 +24,9 @@ use nbd_session::begins_with_look;
 use std::alloc::Global;
 use std::sync::atomic::{AtomicBool, AtomicU64, Ordering};
 use std::sync::{MutexGuard, RwLock, RwLockReadGuard, RwLockWriteGuard, Wait};
-use tp_hub::{Answers, Desk, Event, Hub, Ran, SESSIONS, Seat};
-use tp_model::{Mode, Staged, Volumes};
-use tp_msg::Managed;
+use tp_hub::{Answers, Desk, Event, Hub, Mark, Ran, SESSIONS, Seat};
+use tp_model::{Mode, Refusal, Staged, Volumes};
+use tp_msg::{Managed, Message, read_message};
 
 /// More parts than a request has: each but the first and the last has 513 KiB at least, and a request has less than 4 GiB.
 const MOST_PARTS: u32 = 16_384;
@@ -53,7 +56,7 @@ pub trait Alarm<V> {
 /// device.
 ///
 /// Who is to keep what was written has the hub make a flush before, in parts, that nobody asked for: READs go on while the device brings what a part wrote, and
-/// behind it what is kept has nothing to wait for.
+/// behind it what is kept has nothing to wait for. What a message does itself is kept in parts too, between which READs go on.
 ///
 /// What is known of the hub each time that somebody has it: it came of the one that was put behind the lock, of which `K` says which it was, by asks one
 /// behind another, of which those flushes are some.
@@ -194,13 +197,17 @@ impl<'a, V: Staged, A: Alarm<V>, K: Start<V>> HubLock<'a, V, A, K> {
         self.shared(rt).sync_ahead();
     }
 
-    /// The hub alone, in one's turn, where a flush was made before that nobody asked for, so that what is kept then has nothing to wait for. READs go on while
-    /// the device brings what each part of it wrote.
-    fn alone_behind_flush<R: Wait>(
+    /// The hub alone, in one's turn. For what is to be kept, where anything was written since that was done last, a flush is made before that nobody asked for, so
+    /// that what is kept then has nothing to wait for. READs go on while the device brings what each part of it wrote.
+    fn alone_for<R: Wait>(
         &self,
         rt: &R,
+        is_to_flush: bool,
         turn: &MutexGuard<'_, ()>,
     ) -> RwLockWriteGuard<'_, Guarded<V, K>> {
+        if !is_to_flush {
+            return self.alone(rt, turn);
+        }
         self.sync_ahead(rt, turn);
         let mut begun = self.alone(rt, turn);
         if !begun.begin_flush() {
@@ -216,19 +223,93 @@ impl<'a, V: Staged, A: Alarm<V>, K: Start<V>> HubLock<'a, V, A, K> {
         self.sync_ahead(rt, turn);
         self.alone(rt, turn)
     }
+}
 
-    /// The hub alone, in one's turn, for what is to be kept where anything was written since that was done last, or for anything else.
-    fn alone_for<R: Wait>(
+impl<'a, V: Managed + Staged, A: Alarm<V>, K: Start<V>> HubLock<'a, V, A, K> {
+    ghost use Rattle.std.specs.Prelude.{◌≡◌, IfSome, List, Ok, ℕ};
+    ghost use Rattle.tp_msg.specs.Messages.{reading};
+    ghost use Rattle.tp_lock.specs.Ordered.{IsMessageTold};
+
+    /// Begins a message, in one's turn: its answer where it is done.
+    fn begin_order<R: Wait>(
         &self,
         rt: &R,
         is_to_flush: bool,
+        message: &Message,
         turn: &MutexGuard<'_, ()>,
-    ) -> RwLockWriteGuard<'_, Guarded<V, K>> {
-        if is_to_flush {
-            self.alone_behind_flush(rt, turn)
-        } else {
-            self.alone(rt, turn)
+    ) -> Option<Result<(), Refusal>>
+        requires { (line : List ℕ) × (reading line ≡ Ok message.now) }
+        ensures { IfSome result (λ answer. IsMessageTold V.view message.now answer) }
+    {
+        let mut guard = self.alone_for(rt, is_to_flush, turn);
+        guard.end_flush();
+        guard.begin_order(message)
+    }
+
+    /// The next part of it, behind a sync beside which READs go on: its answer where it is done.
+    fn go_on_order<R: Wait>(
+        &self,
+        rt: &R,
+        message: &Message,
+        turn: &MutexGuard<'_, ()>,
+    ) -> Option<Result<(), Refusal>>
+        ensures { IfSome result (λ answer. IsMessageTold V.view message.now answer) }
+    {
+        self.sync_ahead(rt, turn);
+        let mut guard = self.alone(rt, turn);
+        guard.go_on_order(message)
+    }
+
+    /// What is left of it, behind one more: its answer.
+    fn end_order<R: Wait>(
+        &self,
+        rt: &R,
+        message: &Message,
+        turn: &MutexGuard<'_, ()>,
+    ) -> Option<Result<(), Refusal>>
+        ensures { IfSome result (λ answer. IsMessageTold V.view message.now answer) }
+    {
+        self.sync_ahead(rt, turn);
+        let mut guard = self.alone(rt, turn);
+        guard.end_order(message)
+    }
+
+    /// Makes a message, in one's turn, which nobody else has meanwhile, so it is this one that is ended: its answer. READs go on while the device brings what it wrote, and
+    /// stand before it.
+    fn make_order<R: Wait>(
+        &self,
+        rt: &R,
+        is_to_flush: bool,
+        message: &Message,
+        turn: &MutexGuard<'_, ()>,
+    ) -> Option<Result<(), Refusal>>
+        requires { (line : List ℕ) × (reading line ≡ Ok message.now) }
+        ensures { IfSome result (λ answer. IsMessageTold V.view message.now answer) }
+    {
+        if let Some(answer) = self.begin_order(rt, is_to_flush, message, turn) {
+            return Some(answer);
         }
+        if let Some(answer) = self.go_on_order(rt, message, turn) {
+            return Some(answer);
+        }
+        self.end_order(rt, message, turn)
+    }
+
+    /// Why the pool has failed, where the alarm is to sound.
+    fn failure<R: Wait>(&self, rt: &R, _turn: &MutexGuard<'_, ()>) -> Option<A::Cause> {
+        let hub = self.shared(rt);
+        cause_of(self, &hub)
+    }
+}
+
+/// Why the pool of what stands behind a lock has failed, where the alarm is to sound.
+fn cause_of<V: Staged, A: Alarm<V>, K: Start<V>>(
+    lock: &HubLock<'_, V, A, K>,
+    hub: &Guarded<V, K>,
+) -> Option<A::Cause> {
+    match &hub.stage {
+        Stage::Whole(since) => lock.cause(since, since.mode() == Mode::Failed),
+        Stage::Midway(_) | Stage::Ordered(_) | Stage::Away => None,
     }
 }
 
@@ -342,7 +423,7 @@ fn ask_behind<V: Managed + Staged, A: Alarm<V>, K: Start<V>>(
             let seen = ask_and_look(alloc, since, event, out);
             (seen, lock.cause(since, seen.is_failed))
         }
-        Stage::Midway(_) | Stage::Away => unreachable!(),
+        Stage::Midway(_) | Stage::Ordered(_) | Stage::Away => unreachable!(),
     }
 }
 
@@ -421,48 +502,99 @@ fn ask_alone<R: Wait, V: Managed + Staged, A: Alarm<V>, K: Start<V>>(
     ask_for(rt, alloc, hub, purpose, event, out)
 }
 
-/// Asks a hub for the READs and BLOCK_STATUSes with which an event begins, while others may do the same. None where it has to be asked alone.
-fn ask_beside_others<V: Staged, K: Start<V>>(
-    hub: &Guarded<V, K>,
-    event: &Event<'_>,
+/// Tells the answer of a message.
+fn tell(answer: Result<(), Refusal>, out: &mut Answers)
+    requires { length out.old.list < out.old.marks }
+    ensures { Grows out.old out.new (flush_told answer ∷ []) }
+{
+    match answer {
+        Ok(()) => out.note(Mark::Done),
+        Err(reason) => out.note(Mark::Refused { reason }),
+    }
+}
+
+/// Has a hub behind a lock make a message, while READs go on where the device brings what it wrote. None where it is to be asked for as any other event.
+fn order<R: Wait, V: Managed + Staged, A: Alarm<V>, K: Start<V>>(
+    rt: &R,
+    hub: &HubLock<'_, V, A, K>,
+    message: &Message,
+) -> Option<Result<(), Refusal>>
+    requires { (line : List ℕ) × (reading line ≡ Ok message.now) }
+    ensures { IfSome result (λ answer. IsMessageTold V.view message.now answer) }
+{
+    let turn = hub.order.turn(rt, Purpose::Keep);
+    let device = hub.order.begin(rt, Purpose::Keep, &turn);
+    let answer = hub.make_order(rt, device.is_some(), message, &turn);
+    let cause = hub.failure(rt, &turn);
+    hub.order.end(Purpose::Keep, &turn);
+    drop(turn);
+    drop(device);
+    hub.sound(cause);
+    answer
+}
+
+/// Asks a hub behind a lock for a message that a line is.
+fn ask_message<R: Wait, V: Managed + Staged, A: Alarm<V>, K: Start<V>>(
+    rt: &R,
+    alloc: Global,
+    hub: &HubLock<'_, V, A, K>,
+    message: &Message,
+    line: &[u8],
     out: &mut Answers,
-) -> Option<Ran>
-    requires { session_of event.now < 64 }
-    ensures asked { IfSome result (λ ran. IsAsked (λ took answers. SomeRun V.view took answers) (incoming event.now) ran.events ran.bytes out.old out.new) }
-    ensures none { result ≡ None → IsWider out.old out.new }
+) -> Ran
+    requires read { reading line.now ≡ Ok message.now }
+    requires room { length out.old.list < out.old.marks }
+    ensures { IsAsked (λ took answers. SomeRun V.view took answers) (Orders line.now) result.events result.bytes out.old out.new }
 {
-    match *event {
-        Event::Bytes(number, piece) => hub.ask_shared(number, piece, out),
-        _ => None,
+    match order(rt, hub, message) {
+        Some(answer) => {
+            tell(answer, out);
+            Ran {
+                events: 1,
+                bytes: 0,
+            }
+        }
+        None => ask_alone(rt, alloc, hub, Event::Message(line), out).ran,
     }
 }
 
-/// Whether an event begins with a READ or a BLOCK_STATUS, by its bytes alone.
-fn is_look(event: &Event<'_>) -> bool
-    ensures { MatchBool result (IsLook (incoming event.now)) (IsLook (incoming event.now) → ⊥) }
+/// Asks a hub behind a lock for a line that is to be a message.
+fn ask_line<R: Wait, V: Managed + Staged, A: Alarm<V>, K: Start<V>>(
+    rt: &R,
+    alloc: Global,
+    hub: &HubLock<'_, V, A, K>,
+    line: &[u8],
+    out: &mut Answers,
+) -> Ran
+    ensures { IsAsked (λ took answers. SomeRun V.view took answers) (Orders line.now) result.events result.bytes out.old out.new }
 {
-    match *event {
-        Event::Bytes(_, piece) | Event::Parted(_, piece) => begins_with_look(piece),
-        _ => false,
+    if out.make_room().is_err() {
+        return ask_alone(rt, alloc, hub, Event::Message(line), out).ran;
+    }
+    match read_message(line) {
+        Err(_) => ask_alone(rt, alloc, hub, Event::Message(line), out).ran,
+        Ok(message) => ask_message(rt, alloc, hub, &message, line, out),
     }
 }
 
-/// The same of a hub behind a lock, which is shared for the time of the ask, and is not taken where the event begins with none of both.
+/// Asks a hub for the READs and BLOCK_STATUSes with which a piece begins, while others may do the same: the lock is shared for the time of the ask, and is not taken
+/// where the piece begins with none of both. None where it has to be asked alone.
 fn ask_shared<R: Wait, V: Staged, A: Alarm<V>, K: Start<V>>(
     rt: &R,
     hub: &HubLock<'_, V, A, K>,
-    event: &Event<'_>,
+    number: u8,
+    piece: &[u8],
     out: &mut Answers,
 ) -> Option<Ran>
-    requires { session_of event.now < 64 }
-    ensures asked { IfSome result (λ ran. IsAsked (λ took answers. SomeRuns V.view took answers) (incoming event.now) ran.events ran.bytes out.old out.new) }
+    requires { number < 64 }
+    ensures asked { IfSome result (λ ran. IsAsked (λ took answers. SomeRuns V.view took answers) (Brings number piece.now) ran.events ran.bytes out.old out.new) }
     ensures none { result ≡ None → IsWider out.old out.new }
 {
-    if !is_look(event) {
+    if !begins_with_look(piece) {
         return None;
     }
-    let hub = hub.shared(rt);
-    ask_beside_others(&hub, event, out)
+    let guard = hub.shared(rt);
+    guard.ask_shared(number, piece, out)
 }
 
 /// Makes the parts that are left of a request of a session, where any are, each in an ask of its own, so that others have the hub between two. Before a FLUSH
@@ -511,38 +643,22 @@ fn ask_parts<R: Wait, V: Managed + Staged, A: Alarm<V>, K: Start<V>>(
     ran
 }
 
-/// Asks a hub behind a lock alone, and part by part where a long request comes.
-fn ask_in_parts<R: Wait, V: Managed + Staged, A: Alarm<V>, K: Start<V>>(
-    rt: &R,
-    alloc: Global,
-    hub: &HubLock<'_, V, A, K>,
-    event: Event<'_>,
-    out: &mut Answers,
-) -> Ran
-    requires { session_of event < 64 }
-    ensures { IsAsked (λ took answers. SomeRuns V.view took answers) (incoming event.entry) result.events result.bytes out.old out.new }
-{
-    match event {
-        Event::Bytes(number, piece) => ask_parts(rt, alloc, hub, number, piece, out),
-        other => ask_alone(rt, alloc, hub, other, out).ran,
-    }
-}
-
-/// Asks a hub behind a lock once: beside others, or where that cannot be, alone.
+/// Asks a hub behind a lock once for a piece: beside others, or where that cannot be, alone, and part by part where a long request comes.
 fn ask_once<R: Wait, V: Managed + Staged, A: Alarm<V>, K: Start<V>>(
     rt: &R,
     alloc: Global,
     hub: &HubLock<'_, V, A, K>,
-    event: Event<'_>,
+    number: u8,
+    piece: &[u8],
     out: &mut Answers,
 ) -> Ran
-    requires { session_of event < 64 }
-    ensures { IsAsked (λ took answers. SomeRuns V.view took answers) (incoming event.entry) result.events result.bytes out.old out.new }
+    requires { number < 64 }
+    ensures { IsAsked (λ took answers. SomeRuns V.view took answers) (Brings number piece.now) result.events result.bytes out.old out.new }
 {
-    if let Some(ran) = ask_shared(rt, hub, &event, out) {
+    if let Some(ran) = ask_shared(rt, hub, number, piece, out) {
         return ran;
     }
-    ask_in_parts(rt, alloc, hub, event, out)
+    ask_parts(rt, alloc, hub, number, piece, out)
 }
 
 /// Asks the first requests of a piece, and tells how many bytes these were where it has more.
@@ -559,9 +675,9 @@ fn ask_turn<R: Wait, V: Managed + Staged, A: Alarm<V>, K: Start<V>>(
 {
     let count = turn_len(piece);
     if count >= piece.len() {
-        return ask_once(rt, alloc, hub, Event::Bytes(number, piece), out);
+        return ask_once(rt, alloc, hub, number, piece, out);
     }
-    let ran = ask_once(rt, alloc, hub, Event::Bytes(number, &piece[..count]), out);
+    let ran = ask_once(rt, alloc, hub, number, &piece[..count], out);
     if ran.events == 0 {
         return ran;
     }
@@ -587,7 +703,8 @@ where
             Event::Bytes(number, piece) => {
                 ask_turn(self.rt, self.alloc, self.hub, number, piece, out)
             }
-            other => ask_once(self.rt, self.alloc, self.hub, other, out),
+            Event::Message(line) => ask_line(self.rt, self.alloc, self.hub, line, out),
+            other => ask_alone(self.rt, self.alloc, self.hub, other, out).ran,
         }
     }
 }

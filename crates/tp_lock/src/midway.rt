@@ -1,4 +1,4 @@
-//! What stands behind the lock: a hub, or one in the middle of a flush that nobody asked for.
+//! What stands behind the lock: a hub, or one in the middle of a flush that nobody asked for, or of a message.
 
 ghost use Rattle.std.specs.Prelude.{◌≡◌, false, true};
 ghost use Rattle.tp_hub.specs.Flushes.{IsHubFlushing};
@@ -6,11 +6,13 @@ ghost use Rattle.tp_hub.specs.Serving.{HubState};
 ghost use Rattle.tp_lock.specs.declared.midway.Stage.TheVariants.{Whole};
 ghost use Rattle.tp_lock.specs.Stages.{IsBegun, IsBehindPart, IsEnded, IsFromFlushing, IsGoneOn, is_midway, is_there};
 
+use crate::ordered::{MidOrdered, begun_order, ended_order, gone_on_order};
 use crate::since::{Since, Start};
 use std::marker::{Model, PhantomData};
 use std::mem;
 use tp_hub::{Answers, Hub, MidHub, Ran, Seat};
-use tp_model::{Flushing, Staged};
+use tp_model::{Flushing, Refusal, Staged};
+use tp_msg::{Managed, Message};
 
 /// A hub in the middle of a flush that nobody asked for. The one that it is for READs and BLOCK_STATUSes came of such a start.
 #[derive(Drop)]
@@ -30,39 +32,40 @@ impl<V: Staged, K: Start<V>> Model for MidSince<V, K> {
     ghost invariant = { λ s. IsFrom V.view K.is_start s.mid };
 }
 
-/// How far a hub is with a flush that nobody asked for: it makes none, or is in the middle of one, or it is away while a part of one is made.
+/// How far a hub is with a flush that nobody asked for, or with a message: it makes none, or is in the middle of one, or it is away while a part of one is made.
 #[derive(Drop)]
-pub(crate) enum Stage<W, M> {
+pub(crate) enum Stage<W, M, O> {
     Whole(W),
     Midway(M),
+    Ordered(O),
     Away,
 }
 
 /// Whether it is in the middle of one.
-fn is_midway<W, M>(stage: &Stage<W, M>) -> bool
+fn is_midway<W, M, O>(stage: &Stage<W, M, O>) -> bool
     ensures { result ≡ is_midway stage.now }
 {
     match stage {
         Stage::Midway(_) => true,
-        Stage::Whole(_) | Stage::Away => false,
+        Stage::Whole(_) | Stage::Ordered(_) | Stage::Away => false,
     }
 }
 
 /// Puts one where none is.
-fn put<W, M>(place: &mut Stage<W, M>, stage: Stage<W, M>)
+fn put<W, M, O>(place: &mut Stage<W, M, O>, stage: Stage<W, M, O>)
     requires { is_there place.old ≡ false }
     ensures { place.new ≡ stage }
 {
     match mem::replace(place, stage) {
         Stage::Away => {}
-        Stage::Whole(_) | Stage::Midway(_) => unreachable!(),
+        Stage::Whole(_) | Stage::Midway(_) | Stage::Ordered(_) => unreachable!(),
     }
 }
 
 /// The hub behind a part of a flush.
 fn behind_part<V: Staged, K: Start<V>>(
     flushing: Flushing<Hub<V>, MidHub<V>>,
-) -> Stage<Since<V, K>, MidSince<V, K>>
+) -> Stage<Since<V, K>, MidSince<V, K>, MidOrdered<V, K>>
     requires { IsFromFlushing V.view K.is_start flushing }
     ensures there { is_there result ≡ true }
     ensures part { (old : HubState V) → IsHubFlushing V.view old flushing → IsBehindPart V.view old result }
@@ -78,8 +81,8 @@ fn behind_part<V: Staged, K: Start<V>>(
 
 /// Begins a flush that nobody asked for, where none is under way.
 fn begun<V: Staged, K: Start<V>>(
-    stage: Stage<Since<V, K>, MidSince<V, K>>,
-) -> Stage<Since<V, K>, MidSince<V, K>>
+    stage: Stage<Since<V, K>, MidSince<V, K>, MidOrdered<V, K>>,
+) -> Stage<Since<V, K>, MidSince<V, K>, MidOrdered<V, K>>
     requires { is_there stage ≡ true }
     ensures there { is_there result ≡ true }
     ensures begun { IsBegun V.view stage result }
@@ -87,14 +90,15 @@ fn begun<V: Staged, K: Start<V>>(
     match stage {
         Stage::Whole(since) => behind_part(since.into_hub().begin_flush()),
         Stage::Midway(mid) => Stage::Midway(mid),
+        Stage::Ordered(mid) => Stage::Ordered(mid),
         Stage::Away => unreachable!(),
     }
 }
 
 /// Makes the next part of one.
 fn gone_on<V: Staged, K: Start<V>>(
-    stage: Stage<Since<V, K>, MidSince<V, K>>,
-) -> Stage<Since<V, K>, MidSince<V, K>>
+    stage: Stage<Since<V, K>, MidSince<V, K>, MidOrdered<V, K>>,
+) -> Stage<Since<V, K>, MidSince<V, K>, MidOrdered<V, K>>
     requires { is_there stage ≡ true }
     ensures there { is_there result ≡ true }
     ensures gone { IsGoneOn V.view stage result }
@@ -102,18 +106,22 @@ fn gone_on<V: Staged, K: Start<V>>(
     match stage {
         Stage::Whole(since) => Stage::Whole(since),
         Stage::Midway(mid) => behind_part(mid.into_mid().go_on()),
+        Stage::Ordered(mid) => Stage::Ordered(mid),
         Stage::Away => unreachable!(),
     }
 }
 
 /// Makes what is left of one.
-fn ended<V: Staged, K: Start<V>>(stage: Stage<Since<V, K>, MidSince<V, K>>) -> Since<V, K>
+fn ended<V: Staged, K: Start<V>>(
+    stage: Stage<Since<V, K>, MidSince<V, K>, MidOrdered<V, K>>,
+) -> Since<V, K>
     requires { is_there stage ≡ true }
     ensures { IsEnded V.view stage (Whole result) }
 {
     match stage {
         Stage::Whole(since) => since,
         Stage::Midway(mid) => mid.end_flush(),
+        Stage::Ordered(mid) => mid.end_order(),
         Stage::Away => unreachable!(),
     }
 }
@@ -178,7 +186,7 @@ impl<V: Staged, K: Start<V>> MidSince<V, K> {
 /// A hub behind a lock, in one of its stages.
 #[derive(Drop)]
 pub(crate) struct Guarded<V: Staged, K: Start<V>> {
-    pub(crate) stage: Stage<Since<V, K>, MidSince<V, K>>,
+    pub(crate) stage: Stage<Since<V, K>, MidSince<V, K>, MidOrdered<V, K>>,
     ghost there: { is_there stage ≡ true },
 }
 
@@ -228,14 +236,14 @@ impl<V: Staged, K: Start<V>> Guarded<V, K> {
         is_left
     }
 
-    /// Makes what is left of a flush.
+    /// Makes what is left of a flush, or of a message.
     pub(crate) fn end_flush(&mut self)
         ensures whole { is_whole self.new.stage ≡ true }
         ensures ended { IsEnded V.view self.old.stage self.new.stage }
     {
         match &self.stage {
             Stage::Whole(_) => return,
-            Stage::Midway(_) => {}
+            Stage::Midway(_) | Stage::Ordered(_) => {}
             Stage::Away => unreachable!(),
         }
         let since = ended(mem::replace(&mut self.stage, Stage::Away));
@@ -251,6 +259,7 @@ impl<V: Staged, K: Start<V>> Guarded<V, K> {
         match &self.stage {
             Stage::Whole(since) => since.ask_shared(number, piece, out),
             Stage::Midway(mid) => mid.ask_shared(number, piece, out),
+            Stage::Ordered(mid) => mid.ask_shared(number, piece, out),
             Stage::Away => unreachable!(),
         }
     }
@@ -263,6 +272,7 @@ impl<V: Staged, K: Start<V>> Guarded<V, K> {
         match &self.stage {
             Stage::Whole(since) => since.seat(number),
             Stage::Midway(mid) => mid.seat(number),
+            Stage::Ordered(mid) => mid.seat(number),
             Stage::Away => unreachable!(),
         }
     }
@@ -274,6 +284,7 @@ impl<V: Staged, K: Start<V>> Guarded<V, K> {
         match &self.stage {
             Stage::Whole(since) => since.keeps_apart(number),
             Stage::Midway(mid) => mid.keeps_apart(number),
+            Stage::Ordered(mid) => mid.keeps_apart(number),
             Stage::Away => unreachable!(),
         }
     }
@@ -283,7 +294,42 @@ impl<V: Staged, K: Start<V>> Guarded<V, K> {
         match &self.stage {
             Stage::Whole(since) => since.sync_ahead(),
             Stage::Midway(mid) => mid.sync_ahead(),
+            Stage::Ordered(mid) => mid.sync_ahead(),
             Stage::Away => {}
         }
+    }
+}
+
+impl<V: Managed + Staged, K: Start<V>> Guarded<V, K> {
+    ghost use Rattle.std.specs.Prelude.{◌≡◌, IfSome, List, Ok, ℕ};
+    ghost use Rattle.tp_msg.specs.Messages.{reading};
+    ghost use Rattle.tp_lock.specs.Ordered.{IsMessageTold};
+
+    /// Begins a message to the pool, and tells its answer where it is done.
+    pub(crate) fn begin_order(&mut self, message: &Message) -> Option<Result<(), Refusal>>
+        requires { (line : List ℕ) × (reading line ≡ Ok message.now) }
+        ensures { IfSome result (λ answer. IsMessageTold V.view message.now answer) }
+    {
+        let (stage, answer) = begun_order(mem::replace(&mut self.stage, Stage::Away), message);
+        put(&mut self.stage, stage);
+        answer
+    }
+
+    /// Makes the next part of it, and tells its answer where it is done.
+    pub(crate) fn go_on_order(&mut self, message: &Message) -> Option<Result<(), Refusal>>
+        ensures { IfSome result (λ answer. IsMessageTold V.view message.now answer) }
+    {
+        let (stage, answer) = gone_on_order(mem::replace(&mut self.stage, Stage::Away), message);
+        put(&mut self.stage, stage);
+        answer
+    }
+
+    /// Makes what is left of it, and tells its answer.
+    pub(crate) fn end_order(&mut self, message: &Message) -> Option<Result<(), Refusal>>
+        ensures { IfSome result (λ answer. IsMessageTold V.view message.now answer) }
+    {
+        let (stage, answer) = ended_order(mem::replace(&mut self.stage, Stage::Away), message);
+        put(&mut self.stage, stage);
+        answer
     }
 }

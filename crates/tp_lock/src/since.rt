@@ -133,7 +133,7 @@ impl<V: Managed, K: Start<V>> Since<V, K> {
         requires { session_of event < 64 }
         ensures { IsAsked (λ took answers. HubRuns V.view self.old took answers self.new) (incoming event.entry) result.events result.bytes out.old out.new }
     {
-        self.hub.run(alloc, &[event], out)
+        self.hub.take(alloc, event, out)
     }
 }
 

@@ -5,7 +5,7 @@ use Rattle.tp_model.specs.Geometry.{Geometry}
 use Rattle.tp_model.specs.Disk.{DiskState, after_read}
 use Rattle.tp_refs.specs.Store.{Store}
 use Rattle.tp_sharing.specs.Forest.{Forest, Forests, HeldForest, held_refs}
-use Rattle.tp_sharing.specs.Volumes.{AreSized, BlockSlot, DevicesAscend, Unused, Volumes, copy_id, device_of, devices_in, size_of, place_in, place_or_none, with_device, with_place, with_slot, without_place, without_slot, volumes_of}
+use Rattle.tp_sharing.specs.Volumes.{AreSized, BlockSlot, DevicesAscend, Unused, Volumes, copy_id, device_of, devices_in, size_of, place_in, place_or_none, with_device, with_place, with_slot, volumes_of}
 use Rattle.tp_sharing.proofs.Changed.{with_is_changed}
 use Rattle.tp_sharing.proofs.InUse.{slots_are_within}
 use Rattle.std.proofs.lemmas.Bool.{cases_lt}
@@ -140,10 +140,6 @@ module _ (g : Geometry) (t : Tm) (disk : DiskState) (root : ℕ) (more : List �
   pub with_slot_is : (device size : ℕ) (x : BlockSlot) (slots : List BlockSlot) → device_of device now ≡ Some slots → size_of device now ≡ Some size
       → with_device (record { id = device; size = size; slots = with_place x slots }) now ≡ with_slot device x now
   with_slot_is device size x slots is told = with_is_changed 0 device size (with_place x) slots now trees_ascend is told
-
-  pub without_slot_is : (device size block : ℕ) (slots : List BlockSlot) → device_of device now ≡ Some slots → size_of device now ≡ Some size
-      → with_device (record { id = device; size = size; slots = without_place block slots }) now ≡ without_slot device block now
-  without_slot_is device size block slots is told = with_is_changed 0 device size (without_place block) slots now trees_ascend is told
 
 -- ---- what calls leave
 

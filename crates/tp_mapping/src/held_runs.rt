@@ -3,9 +3,9 @@
 ghost use Rattle.std.specs.Prelude.{◌≡◌, ◌+◌, ◌<◌, ◌≤◌, ◌^◌, ℕ, [], IfOk, IfSome, IsTrue, None, OnOk, Some, is_some, length, slice_index_or};
 ghost use Rattle.std.specs.Option.{option_map};
 ghost use Rattle.tp_model.specs.Geometry.{sectors_of_image};
-ghost use Rattle.tp_model.specs.Told.{IsToldSize, told_blocks};
+ghost use Rattle.tp_model.specs.Told.{IsToldSize};
 ghost use Rattle.tp_model.specs.Disk.{DiskState};
-ghost use Rattle.tp_sharing.specs.Volumes.{Volumes, copy_id, device_of, size_of};
+ghost use Rattle.tp_sharing.specs.Volumes.{Volumes, copy_id, device_of};
 ghost use Rattle.tp_mapping.specs.declared.mapped.Mapped.{Mapped};
 ghost use Rattle.tp_mapping.specs.Mapping.{LooksUp};
 ghost use Rattle.tp_mapping.specs.Telling.{AreCopied, IsCopied};
@@ -14,7 +14,6 @@ ghost use Rattle.tp_mapping.specs.Trees.{StandForVolumes};
 use crate::mapped::Mapped;
 use crate::mapping::MOST_RUN;
 use crate::runs::clear;
-use crate::sizes::told_blocks;
 use crate::tree_runs::places_at;
 use crate::trees::TreeMapping;
 use crate::volume::{There, volume_at};
@@ -113,19 +112,5 @@ impl TreeMapping {
         let mut told = [None; MOST_RUN];
         let count = places.len();
         self.find_copied(disk, device, first, &mut told[..count], places)
-    }
-
-    /// How many virtual blocks a device of the held copy has. `None` where the copy has no such device, and where no copy is held.
-    pub fn held_size<D: Disk>(&self, disk: &mut D, device: DevId) -> Result<Option<u32>, StoreError>
-        requires disk { sectors_of_image self.now.tm.geometry ≤ (D.state disk.old).size }
-        ensures sized { LooksUp (StandForVolumes self.now) (D.state disk.old) (D.state disk.new) result (λ answer now. answer ≡ option_map (told_blocks self.now.tm.geometry) (size_of (copy_id device) now)) }
-        ensures few { IfOk result (λ answer. IfSome answer (λ blocks. blocks ≤ 2 ^ 24)) }
-    {
-        let geometry = self.tm.geometry();
-        let _ = geometry.virtual_blocks();
-        match self.copy_of(disk, device)? {
-            Some(there) => Ok(Some(told_blocks(&geometry, there.volume.size))),
-            None => Ok(None),
-        }
     }
 }

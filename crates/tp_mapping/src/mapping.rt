@@ -5,7 +5,7 @@ ghost use Rattle.tp_model.specs.Geometry.{Geometry, sectors_of_image};
 ghost use Rattle.std.specs.Option.{option_map};
 ghost use Rattle.tp_model.specs.Told.{IsToldSize, told_blocks};
 ghost use Rattle.tp_model.specs.Disk.{DiskState, seen};
-ghost use Rattle.tp_sharing.specs.Volumes.{BlockSlot, Volumes, device_of, devices_in, mapped_of, resized, size_of, slot_of, used, with_device, with_slot, without_device, without_slot};
+ghost use Rattle.tp_sharing.specs.Volumes.{BlockSlot, Volumes, device_of, devices_in, mapped_of, resized, size_of, used, with_device, with_slot, without_device};
 ghost use Rattle.tp_counts.specs.Counts.{used_in};
 ghost use Rattle.tp_mapping.specs.Mapping.{AreInside, AreTold, AreWithin, IsChanged, IsFilled, IsHighest, IsLeastFree, IsLonger, IsTold, LooksUp, NoneIsFree, SameTreeBlocks, free_places, from_block, size_for, slots_of};
 ghost use Rattle.tp_mapping.specs.Next.{IsNext};
@@ -155,16 +155,6 @@ pub trait Mapping {
         ensures inside { IfOk result (λ answer. IfSome answer (λ place. place < (geometry self.old).data_blocks)) }
         ensures none { result ≡ Ok None → (self.new ≡ self.old) × (D.state disk.new ≡ D.state disk.old) }
         ensures used { used_in (geometry self.new).metadata_blocks (counts self.new) ≤ used_in (geometry self.old).metadata_blocks (counts self.old) + 16 };
-
-    /// Takes the data block of a virtual block that has one. It takes 16 metadata blocks at most, and at most 8 more are named
-    /// then, where no copy of the trees is held.
-    fn unmap<D: Disk>(&mut self, disk: &mut D, device: DevId, block: Vb) -> Result<(), StoreError>
-        requires disk { sectors_of_image (geometry self.old) ≤ (D.state disk.old).size }
-        requires room { 16 ≤ room self.old }
-        ensures { IsChanged geometry room (λ m. used_in (geometry m).metadata_blocks (counts m)) kept_counts kept_data held_root 16 self.old self.new (D.state disk.old) (D.state disk.new) result
-            (λ P. IsTrue (D.state disk.old).is_honest → (now kept : Volumes) → stands self.old (D.state disk.old) now kept → IsSome (slot_of device block now) → P now kept)
-            (λ done now kept. stands self.new (D.state disk.new) (without_slot device block now) kept
-            × (held_root self.old ≡ 0 → used_in (geometry self.new).metadata_blocks (counts self.new) ≤ used_in (geometry self.old).metadata_blocks (counts self.old) + 8)) };
 
     /// Takes the data blocks of `count` virtual blocks of a device that exists, from `first` on, where they have one. The device
     /// is taken out of its place once for all of them: it takes 7 metadata blocks for each at most, and 7 more, and at most as many more are

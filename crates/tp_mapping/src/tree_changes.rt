@@ -5,7 +5,7 @@ ghost use Rattle.tp_model.specs.Geometry.{Geometry, sectors_of_image};
 ghost use Rattle.tp_model.specs.Told.{IsToldSize, told_blocks};
 ghost use Rattle.tp_counts.specs.StoreErrors.{is_fault};
 ghost use Rattle.tp_model.specs.Disk.{DiskState};
-ghost use Rattle.tp_sharing.specs.Volumes.{BlockSlot, Volumes, device_of, devices_in, place_in, resized, size_of, slot_of, with_device, with_place, with_slot, without_device, without_place, without_slot};
+ghost use Rattle.tp_sharing.specs.Volumes.{BlockSlot, Volumes, device_of, devices_in, resized, size_of, with_device, with_place, with_slot, without_device};
 ghost use Rattle.tp_tm.specs.Tm.{free_metadata, used_metadata};
 ghost use Rattle.tp_btree.specs.Inserts.{Ran};
 ghost use Rattle.tp_mapping.specs.Held.{ChangesBelow, HoldTrees, HoldVolume, in_use};
@@ -15,9 +15,7 @@ ghost use Rattle.tp_mapping.specs.Trees.{ChangesTrees, StandForVolumes};
 use crate::forest::{Taken, put_new, put_over, take_out, take_volume};
 use crate::sizes::size_for;
 use crate::trees::TreeMapping;
-use crate::volume::{
-    Volume, known_at, new_volume, same_volume, with_size, with_slot, without_slot,
-};
+use crate::volume::{Volume, known_at, new_volume, same_volume, with_size, with_slot};
 use tp_counts::StoreError;
 use tp_disk::Disk;
 use tp_model::{DevId, Mb, Pb, Vb};
@@ -53,41 +51,6 @@ fn named_again<D: Disk>(
     };
     same_volume(tm, same)?;
     Ok(volume)
-}
-
-/// The volume of a device, taken out of its entry, of which a virtual block lost its data block.
-fn take_without<D: Disk>(
-    tm: &mut Tm,
-    disk: &mut D,
-    root: Mb,
-    device: DevId,
-    block: Vb,
-) -> Result<Taken, StoreError>
-    requires disk { sectors_of_image tm.old.geometry ≤ (D.state disk.old).size }
-    requires inside { root < tm.old.geometry.metadata_blocks }
-    requires room { 11 ≤ free_metadata tm.old }
-    ensures changed { IfOk result (λ taken. IsTrue (D.state disk.old).is_honest → (g : Geometry) (now : Volumes)
-        → HoldTrees g tm.old (D.state disk.old) root [] now
-        → (slots : List BlockSlot) → device_of device now ≡ Some slots → IsSome (place_in block slots)
-        → HoldVolume g tm.new (D.state disk.new) taken.root taken.volume (without_place block slots) (with_device (record { id = device; size = 0; slots = [] }) now)) }
-    ensures told { IfOk result (λ taken. IsTrue (D.state disk.old).is_honest → (g : Geometry) (now : Volumes)
-        → HoldTrees g tm.old (D.state disk.old) root [] now → IsSome (device_of device now) → size_of device now ≡ Some taken.volume.size) }
-    ensures inside { IfOk result (λ taken. taken.root < tm.old.geometry.metadata_blocks) }
-    ensures damaged { result ≡ Err StoreError.Damaged → IsTrue (D.state disk.old).is_honest → (g : Geometry) (now : Volumes)
-        → HoldTrees g tm.old (D.state disk.old) root [] now
-        → IsSome (slot_of device block now) → ⊥ }
-    ensures used { IfOk result (λ taken. tm.old.held_root ≡ 0 → IsTrue (D.state disk.old).is_honest → (g : Geometry) (now : Volumes)
-        → HoldTrees g tm.old (D.state disk.old) root [] now
-        → IsSome (slot_of device block now) → in_use tm.new ≤ in_use tm.old + 8) }
-    ensures ran { Ran 11 (is_fault result) tm.old tm.new (D.state disk.old) (D.state disk.new) }
-{
-    let taken = take_volume(tm, disk, root, device)?;
-    let volume = without_slot(tm, disk, taken.volume, block)?;
-    let _ = tm.geometry();
-    Ok(Taken {
-        root: taken.root,
-        volume,
-    })
 }
 
 /// The volume of a device, taken out of its entry, of which a virtual block got a data block, to which a reference is
@@ -188,29 +151,6 @@ fn grow_below<D: Disk>(
     let taken = take_volume(tm, disk, root, device)?;
     let volume = with_size(taken.volume, size);
     put_over(tm, disk, taken.root, device, volume)
-}
-
-/// Takes the data block of a virtual block of a device of the device tree below a root.
-fn unmap_below<D: Disk>(
-    tm: &mut Tm,
-    disk: &mut D,
-    root: Mb,
-    device: DevId,
-    block: Vb,
-) -> Result<Mb, StoreError>
-    requires disk { sectors_of_image tm.old.geometry ≤ (D.state disk.old).size }
-    requires inside { root < tm.old.geometry.metadata_blocks }
-    requires room { 14 ≤ free_metadata tm.old }
-    ensures changed { ChangesBelow 14 tm.old tm.new (D.state disk.old) (D.state disk.new) result
-        (λ P. IsTrue (D.state disk.old).is_honest → (g : Geometry) (now : Volumes) → HoldTrees g tm.old (D.state disk.old) root [] now → IsSome (slot_of device block now)
-        → P g now)
-        (λ top g now. HoldTrees g tm.new (D.state disk.new) top [] (without_slot device block now)) }
-    ensures used { IfOk result (λ top. tm.old.held_root ≡ 0 → IsTrue (D.state disk.old).is_honest → (g : Geometry) (now : Volumes)
-        → HoldTrees g tm.old (D.state disk.old) root [] now
-        → IsSome (slot_of device block now) → in_use tm.new ≤ in_use tm.old + 8) }
-{
-    let taken = take_without(tm, disk, root, device, block)?;
-    put_over(tm, disk, taken.root, device, taken.volume)
 }
 
 /// Gives a virtual block of a device of the device tree below a root a data block, to which a reference is held.
@@ -315,27 +255,6 @@ impl TreeMapping {
         let _ = self.tm.geometry();
         let root = self.device_root()?;
         let top = take_out(&mut self.tm, disk, root, device)?;
-        self.root = top;
-        Ok(())
-    }
-
-    pub(crate) fn unmap_block<D: Disk>(
-        &mut self,
-        disk: &mut D,
-        device: DevId,
-        block: Vb,
-    ) -> Result<(), StoreError>
-        requires disk { sectors_of_image self.old.tm.geometry ≤ (D.state disk.old).size }
-        requires room { 16 ≤ free_metadata self.old.tm }
-        ensures { ChangesTrees 16 self.old self.new (D.state disk.old) (D.state disk.new) result
-            (λ P. IsTrue (D.state disk.old).is_honest → (now kept : Volumes) → StandForVolumes self.old (D.state disk.old) now kept → IsSome (slot_of device block now)
-            → P now kept)
-            (λ done now kept. StandForVolumes self.new (D.state disk.new) (without_slot device block now) kept
-            × (self.old.tm.held_root ≡ 0 → used_metadata self.new.tm ≤ used_metadata self.old.tm + 8)) }
-    {
-        let _ = self.tm.geometry();
-        let root = self.device_root()?;
-        let top = unmap_below(&mut self.tm, disk, root, device, block)?;
         self.root = top;
         Ok(())
     }

@@ -113,10 +113,6 @@ impl Mapping for TreeMapping {
         self.map_block(disk, device, block)
     }
 
-    fn unmap<D: Disk>(&mut self, disk: &mut D, device: DevId, block: Vb) -> Result<(), StoreError> {
-        self.unmap_block(disk, device, block)
-    }
-
     fn unmap_run<D: Disk>(
         &mut self,
         disk: &mut D,

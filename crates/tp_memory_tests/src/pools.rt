@@ -10,6 +10,7 @@ use tp_disk::MemDisk;
 use tp_hub::Hub;
 use tp_meta::Meta;
 use tp_model::{DevId, Geometry, Refusal};
+use tp_msg::Message;
 use tp_served::{Room, Served};
 
 pub(crate) type MemServed = Served<ReadCache<MemDisk>, Meta>;
@@ -28,7 +29,7 @@ pub(crate) fn sizes() -> Result<Geometry, Refusal> {
 /// Makes volume 0, and fills its first sector.
 fn fill(pool: &mut MemServed) -> Result<(), Refusal> {
     let id = DevId::new(0);
-    pool.create_thin(id)?;
+    pool.order(&Message::CreateThin { id })?;
     if pool.geometry().volume_sectors() == 0 {
         return Err(Refusal::BadGeometry);
     }

@@ -9,7 +9,7 @@ use Rattle.tp_model.specs.Geometry.{Geometry}
 use Rattle.tp_model.specs.Disk.{DiskState, seen}
 use Rattle.tp_model.proofs.DiskStopLaws.{AfterStop-seen}
 use Rattle.tp_layout.specs.declared.superblock.Superblock.{Superblock}
-use Rattle.tp_sharing.specs.Volumes.{BlockSlot, DeviceSlots, Volumes, as_copy, device_of, devices_in, place_in, place_or_none, resized, size_of, slot_of, with_device, with_slot, without_device, without_slot}
+use Rattle.tp_sharing.specs.Volumes.{BlockSlot, DeviceSlots, Volumes, as_copy, device_of, devices_in, place_in, place_or_none, resized, size_of, slot_of, with_device, with_slot, without_device}
 use Rattle.tp_sharing.proofs.Changes.{device_changes, slot_changes}
 use Rattle.tp_sharing.proofs.Sized.{resized_devices}
 use Rattle.tp_sharing.proofs.Slots.{device_here, device_later, place_here, place_later}
@@ -235,12 +235,6 @@ module _ (m : Meta) (disk : DiskState) (now kept : Contents) (st : StandsFor m d
   tracked_slot id block place =
       let x : BlockSlot = record { block = block; place = place } in
       tracked_changed id block (with_slot id x now.volumes) (λ other at differ. slot_changes.with_other id x other at now.volumes differ)
-
-  -- a slot lost its data block
-  pub tracked_unmapped : (id block : ℕ)
-      → IsTracked (without_slot id block now.volumes) kept.volumes (marked (slot_of id block now.volumes) m.marks)
-  tracked_unmapped id block =
-      tracked_changed id block (without_slot id block now.volumes) (λ other at differ. slot_changes.without_other id block other at now.volumes differ)
 
   -- slots of a run lost their data blocks
   pub tracked_run : (id first n : ℕ) → IsTracked (without_run id first n now.volumes) kept.volumes (marked_run id first n now.volumes m.marks)

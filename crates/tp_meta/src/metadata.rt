@@ -6,7 +6,7 @@ ghost use Rattle.tp_model.specs.Geometry.{Geometry, sectors_of_image};
 ghost use Rattle.tp_model.specs.Told.{IsToldSize, told_blocks};
 ghost use Rattle.tp_model.specs.Disk.{DiskState, IsSameDisk, seen};
 ghost use Rattle.tp_model.specs.DiskStops.{Leaves};
-ghost use Rattle.tp_sharing.specs.Volumes.{as_copy, device_of, devices_in, mapped_of, resized, size_of, slot_of, used, with_device, with_slot, without_device, without_slot};
+ghost use Rattle.tp_sharing.specs.Volumes.{as_copy, device_of, devices_in, mapped_of, resized, size_of, slot_of, used, with_device, with_slot, without_device};
 ghost use Rattle.tp_model.specs.Pool.{PlainPool, copy_id};
 ghost use Rattle.tp_image.specs.Stands.{HasTrees};
 ghost use Rattle.tp_stored.specs.Contents.{Contents, HasContents, HoldsContents};
@@ -15,7 +15,7 @@ ghost use Rattle.tp_mapping.specs.Mapping.{IsFilled, IsHighest, IsLeastFree, Non
 ghost use Rattle.tp_mapping.specs.Next.{IsNext};
 ghost use Rattle.tp_mapping.specs.Runs.{without_run};
 ghost use Rattle.tp_mapping.specs.Telling.{AreCopied};
-ghost use Rattle.tp_meta.specs.Metadata.{AreInside, AreTold, AreWithin, IsAltered, IsBetween, IsCommitted, IsTold, KeepsMetadata, LooksUp, StandsWith, marked, marked_all, marked_run};
+ghost use Rattle.tp_meta.specs.Metadata.{AreInside, AreTold, AreWithin, IsAltered, IsBetween, IsCommitted, KeepsMetadata, LooksUp, StandsWith, marked, marked_all, marked_run};
 
 use tp_counts::StoreError;
 use tp_disk::{Disk, Fault};
@@ -90,17 +90,6 @@ pub trait Metadata {
     /// How many data blocks are free: no slot has them, and none had them at the last commit.
     fn free_data(&self) -> u64
         ensures { (disk : DiskState) (now kept : Contents) → stands self.now disk now kept → result ≡ free_places (geometry self.now) now.volumes kept.volumes };
-
-    /// Where a virtual block of a device stands. `None` where it has no data block, or there is no such device.
-    fn look_up<D: Disk>(
-        &self,
-        disk: &mut D,
-        device: DevId,
-        block: Vb,
-    ) -> Result<Option<Home>, StoreError>
-        requires disk { sectors_of_image (geometry self.now) ≤ (D.state disk.old).size }
-        ensures looked { LooksUp (stands self.now) (D.state disk.old) (D.state disk.new) result (λ answer now. IsTold device block now.volumes (marks self.now) answer) }
-        ensures inside { IfOk result (λ answer. IfSome answer (λ home. home.place < (geometry self.now).data_blocks)) };
 
     /// Looks up the virtual blocks of a device from `first` on, one for each place, 17 at most. It tells whether there is such a
     /// device; where there is none, no block has a data block. After an `Err` some places may have been told.
@@ -202,20 +191,6 @@ pub trait Metadata {
         ensures none { result ≡ Ok None → (self.new ≡ self.old) × (D.state disk.new ≡ D.state disk.old) }
         ensures used { (now kept next last : Contents) → stands self.old (D.state disk.old) now kept → stands self.new (D.state disk.new) next last
             → next.meta_used ≤ now.meta_used + 16 };
-
-    /// Takes the data block of a virtual block, which is marked. Where it has none, or there is no such device, nothing changes. It takes
-    /// 16 metadata blocks at most, and at most 8 more are named then, where no root is held.
-    fn unmap<D: Disk>(&mut self, disk: &mut D, device: DevId, block: Vb) -> Result<(), StoreError>
-        requires disk { sectors_of_image (geometry self.old) ≤ (D.state disk.old).size }
-        requires room { 16 ≤ room self.old }
-        ensures altered { IsAltered geometry stands room 16 self.old self.new (D.state disk.old) (D.state disk.new) result
-            (λ P. (now kept : Contents) → stands self.old (D.state disk.old) now kept → P now kept)
-            (λ done now kept. IsSome (slot_of device block now.volumes)
-            → StandsWith stands marks self.new (D.state disk.new) now kept (without_slot device block now.volumes) (marked (slot_of device block now.volumes) (marks self.old))) }
-        ensures none { OnOk result ((now kept : Contents) → stands self.old (D.state disk.old) now kept → slot_of device block now.volumes ≡ None
-            → (self.new ≡ self.old) × (D.state disk.new ≡ D.state disk.old)) }
-        ensures used { OnOk result ((now kept next last : Contents) → stands self.old (D.state disk.old) now kept → stands self.new (D.state disk.new) next last
-            → now.held_root ≡ 0 → next.meta_used ≤ now.meta_used + 8) };
 
     /// Takes the data blocks of `count` virtual blocks of a device from `first` on, 17 at most, where they have one, and marks them. Where
     /// none has one, or there is no such device, nothing changes. It takes 7 metadata blocks for each at most, and 7 more, and at most as

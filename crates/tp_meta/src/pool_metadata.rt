@@ -62,23 +62,6 @@ impl Metadata for Meta {
         self.mapping.free_data()
     }
 
-    fn look_up<D: Disk>(
-        &self,
-        disk: &mut D,
-        device: DevId,
-        block: Vb,
-    ) -> Result<Option<Home>, StoreError> {
-        let Some(at) = self.mapping.look_up(disk, device, block)? else {
-            return Ok(None);
-        };
-        let is_hot = self.marks.has(at.place);
-        Ok(Some(Home {
-            place: at.place,
-            is_shared: at.is_shared,
-            is_hot,
-        }))
-    }
-
     fn look_up_run<D: Disk>(
         &self,
         disk: &mut D,
@@ -152,18 +135,6 @@ impl Metadata for Meta {
         lose(&mut self.marks, lost);
         self.is_changed = true;
         Ok(Some(place))
-    }
-
-    fn unmap<D: Disk>(&mut self, disk: &mut D, device: DevId, block: Vb) -> Result<(), StoreError> {
-        let taken = self.mapping.look_up(disk, device, block)?;
-        if taken.is_none() {
-            return Ok(());
-        }
-        self.mapping.unmap(disk, device, block)?;
-        let _ = self.mapping.store().geometry();
-        lose(&mut self.marks, taken);
-        self.is_changed = true;
-        Ok(())
     }
 
     fn unmap_run<D: Disk>(

@@ -4,15 +4,15 @@ use Rattle.std.specs.Prelude.{IsSome, IsTrue, MatchOption, ◌&&◌, ◌-◌, �
 use Rattle.std.specs.Bool.{MatchBool}
 use Rattle.std.specs.Option.{option_map_or}
 use Rattle.std.specs.Ordering.{nat_cmp}
-use Rattle.std.specs.FinMap.{FinMap, contains_key, get, insert}
+use Rattle.std.specs.FinMap.{FinMap, contains_key, empty, entries, get, insert}
 use Rattle.std.proofs.lemmas.Bool.{and_parts, ne_eqb}
 use Rattle.tp_model.specs.declared.mode.Mode.{Mode}
 use Rattle.tp_model.specs.declared.mode.Mode.TheVariants as mode
 use Rattle.tp_model.specs.declared.refusal.Refusal.{Refusal}
 use Rattle.tp_model.specs.declared.refusal.Refusal.TheVariants.{Damaged, Failed, Fault, NoSuchDevice}
 use Rattle.tp_model.specs.Sectors.{Sector}
-use Rattle.tp_model.specs.Pool.{FindsHeld, Outline, PlainPool, Volume, hold_count, is_now, volume_sectors}
-use Rattle.tp_model.specs.Calls.{Answer, Call, Read, Write, Trim, WriteZeroes, Flush, CreateThin, CreateSnap, Delete, SetTransactionId, Grow, Hold, LetGo, Status, ThinStatus, NextId, VolumeBlocks, Walk, Close, HeldRead, ReserveMetadataSnap, ReleaseMetadataSnap, Done, Edits, Gave, HasCause, IsOneOf, Makes, MayAnswer, Refused, Step, Takes, accepted_commits, after_refusal, changes_nothing, commits, ends_in_commit, first_failed, grown, holds_after, is_failed, is_flush, is_in_memory, is_message, is_read_only, is_silent, is_writing, may_accept, may_reclaim, most_flushes, new_volume, refusal_of, refusals_in_writable, refused_commits, reply, is_failure, volume_of}
+use Rattle.tp_model.specs.Pool.{FindsHeld, Outline, PlainPool, Volume, hold_count, is_now, volume_sectors, volume_slots}
+use Rattle.tp_model.specs.Calls.{Answer, Call, Read, Write, Trim, WriteZeroes, Flush, CreateThin, CreateSnap, Delete, SetTransactionId, Grow, Hold, LetGo, Status, ThinStatus, NextId, VolumeBlocks, Walk, Close, HeldRead, ReserveMetadataSnap, ReleaseMetadataSnap, Done, Edits, Gave, HasCause, IsOneOf, Listed, Makes, MayAnswer, Refused, Step, Takes, accepted_commits, after_refusal, changes_nothing, commits, ends_in_commit, first_failed, grown, holds_after, is_failed, is_flush, is_in_memory, is_message, is_read_only, is_silent, is_writing, may_accept, may_reclaim, most_flushes, new_volume, piece_from, refusal_of, refusals_in_writable, refused_commits, reply, is_failure, volume_of}
 use Rattle.tp_model.specs.PoolStops.{During, Event, GivenBy, MayReopen, Nothing, StopsWithin, keeps}
 use Rattle.tp_model.specs.Clauses.{Called, Flushes, GoesOn, IsQuiet, Meets, OpensSince, Unkept, View, ViewLaws, found_now, found_since}
 use Rattle.tp_model.proofs.Found.{MayReopen-nothing}
@@ -643,5 +643,81 @@ module _ {D : Type 0} (v : View D) (laws : ViewLaws v) (old mid : D) (call : Cal
           let one = u.meets s shown in
           let two = r.called.meets one.0 one.3 in
           (s, s, inl (step_in s one.0 shown one.1 one.2 (gave_by one.0 two.0 two.1 two.2), refl), shown, stops_alone s);
+    };
+  }
+
+-- ---- and so does a walk over one that is held
+
+module _ {D : Type 0} (v : View D) (laws : ViewLaws v) (old mid : D) (call : Call) (id from : ℕ) (slots : List (ℕ × ℕ)) (message : is_message call ≡ true)
+    (held : 0 < hold_count (v.outline old).holds id) (u : Unkept v old mid call) where
+  abbrev walk : Call
+  walk = Walk id from
+
+  still_held : (s : PlainPool) → v.shows old s → 0 < hold_count s.holds id
+  still_held s shown = held_in v laws old mid call id 0 0 [] message held u s shown
+
+  found_held : (s : PlainPool) → v.shows old s → FindsHeld s
+  found_held s shown = finds v laws old mid call id 0 0 [] message held u s shown
+
+  no_walk_refused : (s : PlainPool) → v.shows old s → refusal_of s walk ≡ None
+  no_walk_refused s shown =
+      ap₂ (λ (m : Mode) (b : Bool). first_failed ((is_failed m, Failed) ∷ (not b, NoSuchDevice) ∷ [])) (works_at v laws old mid call id 0 0 [] message held u s shown) (found_held s shown id (still_held s shown))
+
+  listed_by : (p made after : PlainPool) → Takes p walk (Listed slots) made after → Listed slots ≡ Listed (piece_from from (entries (volume_slots p id)))
+  listed_by p made after (inr fault) = let wrong : Listed slots ≡ Refused Fault = fault.0 in absurd cc
+  listed_by p made after (inl step) = by_test (refusal_of p walk) step.0
+    where
+      by_test : (o : Option Refusal) → MatchOption o ((Listed slots ≡ reply p walk) × Makes p walk after) (λ reason. (Listed slots ≡ Refused reason) × (after ≡ after_refusal reason p))
+          → Listed slots ≡ Listed (piece_from from (entries (volume_slots p id)))
+      by_test None h = h.0
+      by_test (Some reason) h = let wrong : Listed slots ≡ Refused reason = h.0 in absurd cc
+
+  walk_in : (s made : PlainPool) → v.shows old s → refusal_of s call ≡ None → Makes s call made → Listed slots ≡ Listed (piece_from from (entries (volume_slots made id))) → Step s walk (Listed slots) s
+  walk_in s made shown none makes told =
+      let volume : get made.volumes id ≡ get s.volumes id = spared s call made message none makes (found_held s shown) id (still_held s shown) in
+      let same : volume_slots made id ≡ volume_slots s id = ap {B = FinMap nat_cmp ℕ} (λ (o : Option Volume). option_map_or (λ (x : Volume). x.slots) o empty) volume in
+      let is : Listed slots ≡ reply s walk = told ∙ ap (λ (m : FinMap nat_cmp ℕ). Listed (piece_from from (entries m))) same in
+      subst (λ (a : Answer). Step s walk a s) (sym is) (step_accepted s walk s (no_walk_refused s shown) refl)
+
+  left_by_walk : (s P : PlainPool) → found_now v old P → During (found_now v old) (event_of s walk (Listed slots) s) P
+  left_by_walk s P found =
+      let given : ℕ → ℕ → Sector → Type 0 = GivenBy (event_of s walk (Listed slots) s) in
+      inl (P, inl found, subst (λ (Q : PlainPool). MayReopen P given Q) (sym (laws.at_rest found.0 P found.2)) (MayReopen-reopened P given))
+
+  stops_of_walk : (s : PlainPool) → StopsWithin (found_now v old) (event_of s walk (Listed slots) s) (found_since v old (v.moment old)) (found_now v old)
+  stops_of_walk s = record {
+    any_moment = λ P found. left_by_walk s P (found.0, laws.only_now old found.0 found.1, found.2);
+    now = λ P found. left_by_walk s P found;
+    kept = λ keeping. absurd (true≢false (sym keeping));
+  }
+
+  pub walk_before : Meets v mid mid walk (Listed slots) → Meets v old old walk (Listed slots)
+  walk_before r = record {
+    geometry = refl;
+    holds = refl;
+    more = λ i before after. refl;
+    told = λ i blocks is tells holds. absurd (no_size walk refl i is);
+    answered = record {
+      may = subst (λ (m : Mode). IsTrue (may_accept m walk)) (sym u.works) refl;
+      mode = refl;
+      reads = λ is. refl;
+      silent = λ silent. record { failures = refl; flushes = refl; moment = refl };
+    };
+    flushes = record {
+      no_fewer = omega arith;
+      most = within (v.flushes old) (most_flushes (v.outline old).mode walk);
+      few = λ s shown any. within (v.flushes old) (if commits s walk then 2 else 0);
+      exact = λ is. absurd (true≢false (sym is));
+      committed = λ works is. absurd (true≢false (sym is));
+      unchanged = λ is. refl;
+    };
+    called = record {
+      time = no_time v laws old mid call id 0 0 [] message held u;
+      cause = refl;
+      opens = λ s shown image left. let now : v.moment old ≤ v.moment old = omega arith in u.opens s shown image (u.time.still (v.moment old) image now left);
+      meets = λ s shown.
+          let one = u.meets s shown in
+          let two = r.called.meets one.0 one.3 in
+          (s, s, inl (walk_in s one.0 shown one.1 one.2 (listed_by one.0 two.0 two.1 two.2), refl), shown, stops_of_walk s);
     };
   }

@@ -6,7 +6,7 @@ ghost use Rattle.tp_model.specs.Sectors.{Sector};
 ghost use Rattle.tp_model.specs.Disk.{DiskState, Writes, after_read, after_flush};
 ghost use Rattle.tp_model.specs.DiskStops.{Leaves, LeavesOnly, PartlyOverlaid, StoppedSince, moment as moment_of};
 ghost use Rattle.tp_model.specs.Pool.{FindsHeld, IsExclusive, IsLawful, IsRenamed, IsShared, IsSound, PlainPool, copy_id, hold_count, slot_at, volume_sector, volume_size, volume_slots};
-ghost use Rattle.tp_model.specs.Calls.{Answer, Call, CreateSnap, Delete, Done, Edits, Flush, Gave, IsAllowed, Makes, Read, Refused, ReleaseMetadataSnap, ReserveMetadataSnap, Step, Takes, Write, ends_in_commit, is_flush, is_message, volume_asked, IsOneOf, may_accept, piece_from, refusal_of, refusals};
+ghost use Rattle.tp_model.specs.Calls.{Answer, Call, CreateSnap, Delete, Done, Edits, Flush, Gave, IsAllowed, Listed, Makes, Read, Refused, ReleaseMetadataSnap, ReserveMetadataSnap, Step, Takes, Walk, Write, ends_in_commit, is_flush, is_message, volume_asked, IsOneOf, may_accept, piece_from, refusal_of, refusals};
 ghost use Rattle.tp_model.specs.PoolStops.{Event, GivenBy, GivenIn, MayBeLeftSince, MayReopen, Nothing, keeps, reopened};
 ghost use Rattle.tp_model.specs.Clauses.{AreCalls, AreTraced, Asked, Called, Continues, HasTrace, Meets, OpensSince, Traced, Unkept, found_now, traced, PoolCall};
 
@@ -200,4 +200,8 @@ pub fn unkept_calls_are_flushed<V: Volumes>()
     // A READ of a volume that is held, of what a message has made, is one of the pool before the message.
     ensures reads { (old mid : V) (call : Call) (id sector count : ℕ) (sectors : List Sector) → is_message call ≡ true → 0 < hold_count (V.view.outline old).holds id
         → Unkept V.view old mid call → Meets V.view mid mid (Read id sector count) (Gave sectors) → Meets V.view old old (Read id sector count) (Gave sectors) }
+
+    // And so is a walk over one.
+    ensures walks { (old mid : V) (call : Call) (id from : ℕ) (slots : List (ℕ × ℕ)) → is_message call ≡ true → 0 < hold_count (V.view.outline old).holds id
+        → Unkept V.view old mid call → Meets V.view mid mid (Walk id from) (Listed slots) → Meets V.view old old (Walk id from) (Listed slots) }
 {}

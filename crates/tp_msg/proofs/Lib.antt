@@ -2,3 +2,4 @@ mod Numbers
 mod Words
 mod Spelled
 mod Lines
+pub mod Asking

@@ -10,7 +10,7 @@ mod numeral;
 mod reading;
 mod status;
 
-pub use managed::Managed;
+pub use managed::{Managed, order};
 pub use message::Message;
 pub use reading::read_message;
 pub use status::{LineBuffer, PoolStatus, VolumeStatus, print_status, print_thin};

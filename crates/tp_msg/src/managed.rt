@@ -1,54 +1,22 @@
 //! A pool that takes messages and tells its status lines.
 ghost use Rattle.std.specs.Prelude.{◌≡◌, ◌≤◌, IfOk, MatchResult, take};
-ghost use Rattle.tp_model.specs.Calls.{CreateThin, Done, Grow, Line, Refused, ReleaseMetadataSnap, ReserveMetadataSnap, SetTransactionId, Status, ThinStatus};
+ghost use Rattle.tp_model.specs.Calls.{Done, Line, Refused, Status, ThinStatus};
 ghost use Rattle.tp_model.specs.Clauses.{Meets};
+ghost use Rattle.tp_msg.specs.Asked.{IsMessageBegun, call_of};
 
+use crate::message::Message;
 use crate::status::LineBuffer;
 use tp_model::{Cloned, DevId, Refusal};
 
-/// The calls of a pool that are no requests of those who are served: its messages, of which `Cloned` has two, its status lines, and the walks over its volumes.
+/// The calls of a pool that are no requests of those who are served: its messages, of which `Cloned` has two as calls of their own, its status lines, and the walks
+/// over its volumes. `order` makes a whole message.
 pub trait Managed: Cloned {
-    /// Creates a volume of which nothing is mapped, and keeps it.
+    /// Makes what a message asks for, but for the commit behind it: its answer where that is all of it, as where it is refused, and else None.
     ///
-    /// Refused by `Failed`, `ReadOnly`, `Exists`, `TooManyDevices`, `NoMetadataSpace`, `Fault` or `Damaged`.
-    fn create_thin(&mut self, id: DevId) -> Result<(), Refusal>
-        ensures { MatchResult result
-            (λ _. Meets Self.view self.old self.new (CreateThin id) Done)
-            (λ reason. Meets Self.view self.old self.new (CreateThin id) (Refused reason)) };
-
-    /// Makes the transaction id the next one, where it is the current one, and keeps that.
-    ///
-    /// Refused by `Failed`, `ReadOnly`, `StaleTransactionId`, `Fault` or `Damaged`.
-    fn set_transaction_id(&mut self, current: u64, next: u64) -> Result<(), Refusal>
-        ensures { MatchResult result
-            (λ _. Meets Self.view self.old self.new (SetTransactionId current next) Done)
-            (λ reason. Meets Self.view self.old self.new (SetTransactionId current next) (Refused reason)) };
-
-    /// Gives a volume that nobody holds so many blocks, and keeps that. Those behind its old end have no data block; at its present
-    /// size nothing changes.
-    ///
-    /// Refused by `Failed`, `ReadOnly`, `NoSuchDevice`, `Busy`, `BadSize` (fewer blocks than it has, or more than 16777216), `NoMetadataSpace`,
-    /// `Fault` or `Damaged`.
-    fn grow(&mut self, id: DevId, blocks: u64) -> Result<(), Refusal>
-        ensures { MatchResult result
-            (λ _. Meets Self.view self.old self.new (Grow id blocks) Done)
-            (λ reason. Meets Self.view self.old self.new (Grow id blocks) (Refused reason)) };
-
-    /// Holds the mapping of all volumes as it is now, and keeps that.
-    ///
-    /// Refused by `Failed`, `ReadOnly`, `HeldRootExists`, `NoMetadataSpace`, `Fault` or `Damaged`.
-    fn reserve_metadata_snap(&mut self) -> Result<(), Refusal>
-        ensures { MatchResult result
-            (λ _. Meets Self.view self.old self.new ReserveMetadataSnap Done)
-            (λ reason. Meets Self.view self.old self.new ReserveMetadataSnap (Refused reason)) };
-
-    /// Gives up the mapping that is held, and keeps that.
-    ///
-    /// Refused by `Failed`, `ReadOnly`, `NoHeldRoot`, `Fault` or `Damaged`.
-    fn release_metadata_snap(&mut self) -> Result<(), Refusal>
-        ensures { MatchResult result
-            (λ _. Meets Self.view self.old self.new ReleaseMetadataSnap Done)
-            (λ reason. Meets Self.view self.old self.new ReleaseMetadataSnap (Refused reason)) };
+    /// Then nothing is kept yet, and a FLUSH behind it makes it the message, with the FLUSH's answer (`tp_model::unkept_calls_are_flushed`); a stop before that leaves
+    /// the pool with what the message does or without it. So whoever makes that FLUSH in parts has READs go on while the device keeps what the message did.
+    fn change(&mut self, message: &Message) -> Option<Result<(), Refusal>>
+        ensures { IsMessageBegun Self.view self.old self.new message.now result };
 
     /// Writes the pool's status line into a buffer, and answers its length in bytes; those behind it mean nothing.
     fn status(&mut self, out: &mut LineBuffer) -> usize
@@ -63,4 +31,16 @@ pub trait Managed: Cloned {
             (λ length. Meets Self.view self.old self.new (ThinStatus id) (Line (take length out.new)))
             (λ reason. Meets Self.view self.old self.new (ThinStatus id) (Refused reason)) }
         ensures fits { IfOk result (λ length. length ≤ 192) };
+}
+
+/// Makes the call that a message asks for, and keeps it: what it changes, and the FLUSH behind that. What each message is refused for stands at `Message`.
+pub fn order<V: Managed>(pool: &mut V, message: &Message) -> Result<(), Refusal>
+    ensures { MatchResult result
+        (λ _. Meets V.view pool.old pool.new (call_of message.now) Done)
+        (λ reason. Meets V.view pool.old pool.new (call_of message.now) (Refused reason)) }
+{
+    match pool.change(message) {
+        Some(answer) => answer,
+        None => pool.flush(),
+    }
 }

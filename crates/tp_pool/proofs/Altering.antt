@@ -22,6 +22,7 @@ use Rattle.tp_mapping.specs.Mapping.{IsWithin}
 use Rattle.tp_stored.specs.Contents.{Contents, HasContents}
 use Rattle.tp_meta.specs.Metadata.{IsLater}
 use Rattle.tp_pool.specs.Held.{Held, HasPool, PoolCalled, PoolRefused, PoolTried, failed_by, shows}
+use Rattle.tp_pool.specs.Unkept.{HasReclaimed, IsUnkept}
 use Rattle.tp_pool.specs.Writing.{IsAsBefore, IsHalf, IsKept, IsReclaiming, LacksBlocks}
 use Rattle.tp_pool.proofs.Calling.{Laws, called_working, met_done, met_fault}
 use Rattle.tp_pool.proofs.Ranges.{known_after}
@@ -29,6 +30,7 @@ use Rattle.tp_pool.proofs.Keeping.{same_data_shows, not_read_only, shows_kept}
 use Rattle.tp_pool.proofs.Phases.{EndStop, WriteStop, first_phase, found_at_end, found_in_write, second_phase, second_phase_kept, third_phase, third_phase_kept}
 use Rattle.tp_pool.proofs.Serving.{KeepsOutline, possible}
 use Rattle.tp_pool.proofs.Stops.{Given, IsLeft, reopens_made}
+use Rattle.tp_pool.proofs.Unkeeping.{IsChanged, unkept_by}
 use Rattle.tp_pool.proofs.Times.{then_later as after_later}
 
 -- a call that changes volumes, slots or sectors
@@ -242,6 +244,25 @@ module _ {M : Type 0} {geometry : M → Geometry} {stands : M → DiskState → 
           met_done laws old new s w.made.pool call (accepted s now kept pool) (is.says s) w.made.makes
           (inl (w.made.contents, w.before, shown s now kept pool)) (found s now kept pool Done w.made.pool last (left_altered s now kept pool))
           (λ wants. absurd (false≢true (sym keeps_none ∙ wants)))))
+
+      changed_by : (s : PlainPool) (now kept : Contents) → HasPool geometry stands old now kept s
+          → IsChanged laws old works call metadata last same_last (after_later later last_later) (no_fault ∙ none_failed) s
+      changed_by s now kept pool =
+          let w = over s now kept pool in
+          record {
+            made = w.made.pool;
+            accepted = accepted s now kept pool;
+            makes = w.made.makes;
+            shown = inl (w.made.contents, w.before, shown s now kept pool);
+            left = found s now kept pool Done w.made.pool last (left_altered s now kept pool);
+          }
+
+      -- and not kept yet
+      pub alter_unkept : (changed : M → Bool) → HasReclaimed geometry stands marks room old last call
+          → IsUnkept geometry stands marks room changed start (record old { disk = last; metadata = metadata }) call
+      alter_unkept changed counted =
+          subst (λ (h : Held M). IsUnkept geometry stands marks room changed h (record old { disk = last; metadata = metadata }) call) same_start
+          (unkept_by laws old works call metadata last same_last (after_later later last_later) (no_fault ∙ none_failed) changed_by changed counted)
 
       abbrev IsKeptThen : M → DiskState → Result (Unit {0}) Refusal → Type 0
       IsKeptThen end_metadata end result =

@@ -11,10 +11,11 @@ use Rattle.tp_stored.specs.Contents.{Contents}
 use Rattle.tp_pool.specs.Held.{Held, shows}
 use Rattle.tp_pool.specs.Flushes.{HasFlushed, Lacks}
 use Rattle.tp_pool.specs.Messages.{create_call}
+use Rattle.tp_pool.specs.Unkept.{HasReclaimed}
 use Rattle.tp_pool.specs.Writing.{LacksMetadata}
 use Rattle.tp_pool.proofs.Calling.{Laws}
 use Rattle.tp_pool.proofs.Creating.{IsCreation, IsReady, create_accepts, create_short, is_creation}
-use Rattle.tp_pool.proofs.Flushing.{counted_before, counted_behind, counted_short}
+use Rattle.tp_pool.proofs.Flushing.{counted_before, counted_short, reclaimed}
 
 -- it wants metadata room
 lacks_room : {M : Type 0} (geometry : M → Geometry) (stands : M → DiskState → Contents → Contents → Type 0) (marks : M → List Bool) (room : M → ℕ) (h : Held M) (id : ℕ) (origin : Option ℕ)
@@ -55,6 +56,5 @@ module _ {M : Type 0} {geometry : M → Geometry} {stands : M → DiskState → 
     create_before new same =
         subst (λ (h : Held M). From h new) ready_is.same (counted_before geometry stands marks room old call ready_is.works is.reclaims accepted d some rests new same)
 
-    pub create_behind : (last new : DiskState) → last.flushes ≡ d.flushes → (last.flushes ≤ new.flushes) × (new.flushes ≤ last.flushes + 2) → From start new
-    create_behind last new same more =
-        subst (λ (h : Held M). From h new) ready_is.same (counted_behind geometry stands marks room old call ready_is.works is.reclaims accepted d some rests last new is.ends same more)
+    pub create_reclaimed : (new : DiskState) → new.flushes ≡ d.flushes → HasReclaimed geometry stands marks room old new call
+    create_reclaimed new same = reclaimed geometry stands marks room old call ready_is.works is.reclaims accepted d some rests new same

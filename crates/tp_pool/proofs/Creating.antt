@@ -1,6 +1,6 @@
 -- The creation of a volume in a pool that works.
-use Rattle.std.proofs.Common.{◌≡◌, ◌⊎◌, inl, inr, ℕ, ◌+◌, ◌^◌, ◌≤◌, ◌<◌, ◌↔◌, Bool, true, false, not, Option, None, Some, is_some, Result, Ok, Err, List, [], refl, sym, ◌∙◌, ap, subst, arith}
-use Rattle.std.specs.Prelude.{IfErr, IfSome, IsSome, IsTrue, OnOk, nat_le}
+use Rattle.std.proofs.Common.{◌≡◌, ◌⊎◌, inl, inr, ℕ, ◌+◌, ◌^◌, ◌≤◌, ◌<◌, ◌↔◌, Bool, true, false, not, Option, None, Some, is_some, Result, Err, List, [], refl, sym, ◌∙◌, ap, subst, arith}
+use Rattle.std.specs.Prelude.{IfSome, IsSome, IsTrue, nat_le}
 use Rattle.std.proofs.lemmas.Bool.{cases_lt, false≢true, le-leb, lt-ltb, true≢false}
 use Rattle.tp_model.specs.declared.mode.Mode.TheVariants as mode
 use Rattle.tp_model.specs.declared.refusal.Refusal.{Refusal}
@@ -8,8 +8,8 @@ use Rattle.tp_model.specs.declared.refusal.Refusal.TheVariants.{Damaged, Exists,
 use Rattle.tp_model.specs.Geometry.{Geometry, IsWithinLimits}
 use Rattle.tp_model.specs.Sectors.{Sector}
 use Rattle.tp_model.specs.Pool.{PlainPool, device_count}
-use Rattle.tp_model.specs.Refusals.{is_fault, is_fault_refusal}
-use Rattle.tp_model.specs.Calls.{Answer, Call, Done, IsAllowed, Flush, Makes, Refused, ends_in_commit, exists, has_metadata_room, is_failed, is_read_only, is_writing, may_reclaim, refusal_of, reply}
+use Rattle.tp_model.specs.Refusals.{is_fault_refusal}
+use Rattle.tp_model.specs.Calls.{Answer, Call, Done, IsAllowed, Flush, Makes, Refused, exists, has_metadata_room, is_failed, is_flush, is_read_only, is_told_of_failed, is_writing, may_reclaim, refusal_of, reply}
 use Rattle.tp_model.specs.PoolStops.{Event, GivenBy, keeps}
 use Rattle.tp_model.specs.Disk.{DiskState, FaultHasCause, after_read, seen}
 use Rattle.tp_model.specs.DiskStops.{LeavesOnly}
@@ -24,15 +24,16 @@ use Rattle.tp_shown.proofs.Made.{create_makes, snapshot_makes}
 use Rattle.tp_shown.proofs.Tests.{count_is_listed, exists_is_listed}
 use Rattle.tp_meta.specs.Metadata.{IsChanging, IsLater, Ran}
 use Rattle.tp_pool.specs.Held.{Held, HasPool, LacksRoom, PoolCalled, PoolRefused, PoolTried, failed_by, shows}
+use Rattle.tp_pool.specs.Unkept.{HasReclaimed, IsUnkept}
 use Rattle.tp_pool.specs.Messages.{CountsBlocks, RefusesNew, TestedSo, blocks_of_new, create_call, misses_origin, new_tests, with_new, with_volume}
 use Rattle.tp_pool.specs.Writing.{IsAsBefore, IsHalf, IsKept, IsReclaiming, LacksMetadata}
-use Rattle.tp_pool.proofs.Behind.{Over, kept_behind}
+use Rattle.tp_pool.proofs.Behind.{Over, unkept_before}
 use Rattle.tp_pool.proofs.Calling.{Laws, called_working, met_fault}
 use Rattle.tp_pool.proofs.Create.{create_verdict, lacks_origin, no_room_is, three_pass, passes_room, room_is, tests_are, verdict_first}
 use Rattle.tp_pool.proofs.Halves.{half_changing}
 use Rattle.tp_pool.proofs.Ranges.{known_after}
 use Rattle.tp_pool.proofs.Keeping.{not_read_only, same_data_shows}
-use Rattle.tp_pool.proofs.Phases.{EndStop, WriteStop, first_phase, found_in_write, second_phase, second_phase_kept, third_phase, third_phase_kept}
+use Rattle.tp_pool.proofs.Phases.{WriteStop, first_phase, found_in_write, second_phase, second_phase_kept}
 use Rattle.tp_pool.proofs.Putting.{writable_is}
 use Rattle.tp_pool.proofs.Serving.{KeepsOutline, called_tested, write_refused}
 use Rattle.tp_pool.proofs.Stops.{Given, IsLeft, nothing_given}
@@ -44,11 +45,12 @@ use Rattle.tp_pool.proofs.Times.{then_later as after_later}
 pub record IsCreation (call : Call) : Type 0 where
   pub writes : is_writing call ≡ true
   pub says : (s : PlainPool) → reply s call ≡ Done
-  pub ends : ends_in_commit call ≡ true
   pub reclaims : may_reclaim call ≡ true
   pub fault : keeps call (Refused Fault) ≡ false
   pub failed : keeps call (Refused Failed) ≡ false
   pub read_only : keeps call (Refused ReadOnly) ≡ false
+  pub other : is_flush call ≡ false
+  pub untold : is_told_of_failed call ≡ false
   pub missed : keeps call (Refused NoSuchDevice) ≡ false
   pub there : keeps call (Refused Exists) ≡ false
   pub many : keeps call (Refused TooManyDevices) ≡ false
@@ -58,11 +60,12 @@ pub is_creation : (id : ℕ) (origin : Option ℕ) → IsCreation (create_call i
 is_creation id None = record {
   writes = refl;
   says = λ s. refl;
-  ends = refl;
   reclaims = refl;
   fault = refl;
   failed = refl;
   read_only = refl;
+  other = refl;
+  untold = refl;
   missed = refl;
   there = refl;
   many = refl;
@@ -71,11 +74,12 @@ is_creation id None = record {
 is_creation id (Some origin) = record {
   writes = refl;
   says = λ s. refl;
-  ends = refl;
   reclaims = refl;
   fault = refl;
   failed = refl;
   read_only = refl;
+  other = refl;
+  untold = refl;
   missed = refl;
   there = refl;
   many = refl;
@@ -273,15 +277,13 @@ module _ {M : Type 0} {geometry : M → Geometry} {stands : M → DiskState → 
 
   -- ---- the change between two commits
 
-  -- The volume was created in s, and a commit behind it leaves that or what a stop left before it.
+  -- the volume was created in s
   record HasCreated (metadata : M) (last : DiskState) (s : PlainPool) (now kept : Contents) : Type 0 where
     pub meta_used : ℕ
     pub before : Contents
     pub standing : stands metadata last (with_new now id origin meta_used) before
     pub few : TakesFew origin s meta_used
     pub has : HasContents g (with_new now id origin meta_used) (seen last.cells) (with_volume s id origin meta_used)
-    pub ends : (end : DiskState) → LeavesOnly last end (IsReclaiming g (with_new now id origin meta_used) before last)
-        → LeavesOnly last end (EndStop g Flush 0 [] now kept old.disk (with_new now id origin meta_used) last)
 
   -- nothing was committed before the change, or what stood then
   abbrev IsUnchanged : M → DiskState → Type 0
@@ -341,27 +343,23 @@ module _ {M : Type 0} {geometry : M → Geometry} {stands : M → DiskState → 
           let standing = stood now kept pool.standing before in
           let a = added now kept standing passed.absent passed.few passed.there in
           let has = subst (λ (x : DiskState). HasContents g now (seen x.cells) s) (sym before.disk) pool.has in
-          let half_still = half_before now kept pool.standing before in
           record {
             meta_used = a.0.0;
             before = kept;
             standing = a.0.1;
             few = few_new s now kept (seen old.disk.cells) a.0.0 pool.has standing a.0.1 passed;
             has = has_new s now kept a.0.0 within.volumes_now passed.absent passed.there standing has;
-            ends = λ end left. third_phase g Flush 0 [] now kept (with_new now id origin a.0.0) old.disk last end half_still left;
           }
       created s now kept pool passed (inr is_kept) =
           let within = laws.within old.metadata old.disk now kept pool.standing in
           let a = added now now is_kept.standing passed.absent passed.few passed.there in
           let has = same_data_shows g now (seen old.disk.cells) (seen d.cells) s is_kept.same_data pool.has in
-          let half_kept = half now now is_kept.standing in
           record {
             meta_used = a.0.0;
             before = now;
             standing = a.0.1;
             few = few_new s now now (seen old.disk.cells) a.0.0 pool.has is_kept.standing a.0.1 passed;
             has = has_new s now now a.0.0 within.volumes_now passed.absent passed.there is_kept.standing has;
-            ends = λ end left. third_phase_kept g Flush 0 [] now kept (with_new now id origin a.0.0) old.disk d last end is_kept.left half_kept left;
           }
 
   -- ---- the answers of the call
@@ -475,7 +473,7 @@ module _ {M : Type 0} {geometry : M → Geometry} {stands : M → DiskState → 
             create_broken reason metadata last (ran.geometry ∙ same) (after_later later ran.time) failing left_created
             (λ e now kept st. let m = stood_or_kept now kept st in never e now m.0 m.1 (passed now kept st).absent (passed now kept st).few (passed now kept st).there) only
 
-        -- it was done, and then kept
+        -- it was done, and is not kept yet
         module _ (ran : Ran 64 false (room mid) (room metadata) (geometry mid) (geometry metadata) d last) (enough : 512 ≤ room mid)
             (added : (now kept : Contents) → stands mid d now kept → device_of id now.volumes ≡ None → devices_in now.volumes < 65536
             → misses_origin origin now ≡ false → ((meta_used : ℕ) × stands metadata last (with_new now id origin meta_used) kept) × (marks metadata ≡ marks mid))
@@ -494,7 +492,7 @@ module _ {M : Type 0} {geometry : M → Geometry} {stands : M → DiskState → 
           all_later = after_later later ran.time
 
           over : (s : PlainPool) (now kept : Contents) → HasPool geometry stands old now kept s
-              → Over laws old works call is.writes is.fault is.says metadata last same_last all_later none_failed_last s now kept
+              → Over laws old works call metadata last same_last all_later none_failed_last s now kept
           over s now kept pool =
               let w = created mid d same last changing metadata added more s now kept pool (passed now kept pool.standing) (reclaimed now kept pool.standing) in
               let passes_all = accepted s now kept pool in
@@ -505,22 +503,11 @@ module _ {M : Type 0} {geometry : M → Geometry} {stands : M → DiskState → 
                 accepted = passes_all;
                 makes = makes_it s id origin w.meta_used w.few;
                 shown = created_shown s now kept pool metadata last w.meta_used w.before same_last still_enough w.standing w.has passes_all w.few;
-                geometry_is = refl;
-                holds_are = refl;
                 left = left_created now kept pool.standing;
-                ends = w.ends;
               }
 
-          pub create_then_kept : (end_metadata : M) (end : DiskState) → geometry end_metadata ≡ geometry metadata → IsLater last end
-              → ((now kept : Contents) → stands metadata last now kept → now.meta_used + 128 ≤ (geometry metadata).metadata_blocks
-              → LeavesOnly last end (IsReclaiming (geometry metadata) now kept last))
-              → (result : Result (Unit {0}) Refusal)
-              → OnOk result ((now kept : Contents) → stands metadata last now kept → now.meta_used + 128 ≤ (geometry metadata).metadata_blocks
-              → IsKept geometry stands marks metadata end_metadata last end now
-              × (room end_metadata + now.meta_used ≡ (geometry metadata).metadata_blocks))
-              → IfErr result (λ refusal. refusal ≡ Fault) → FaultHasCause (is_fault result) last end
-              → PoolTried geometry stands start (record old { disk = end; metadata = end_metadata }) call result
-          create_then_kept end_metadata end end_same end_later end_left result is_kept only end_cause =
-              subst (λ (h : Held M). PoolTried geometry stands h (record old { disk = end; metadata = end_metadata }) call result) ready_is.same
-              (kept_behind laws old works call is.writes is.fault is.says metadata last same_last all_later none_failed_last over end_metadata end end_same end_later
-              end_left result is_kept only end_cause)
+          pub create_unkept : (changed : M → Bool) → HasReclaimed geometry stands marks room old last call
+              → IsUnkept geometry stands marks room changed start (record old { disk = last; metadata = metadata }) call
+          create_unkept changed counted =
+              subst (λ (h : Held M). IsUnkept geometry stands marks room changed h (record old { disk = last; metadata = metadata }) call) ready_is.same
+              (unkept_before laws old works call metadata last same_last all_later none_failed_last over changed counted)

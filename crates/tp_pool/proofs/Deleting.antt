@@ -1,6 +1,6 @@
 -- The removal of a volume from a pool that works.
 use Rattle.std.proofs.Common.{◌≡◌, ◌⊎◌, inl, inr, ℕ, ◌+◌, ◌-◌, ◌^◌, ◌==◌, ◌≤◌, ◌<◌, ◌↔◌, Bool, true, false, not, Option, None, Some, is_some, Result, Ok, Err, List, [], ◌∷◌, refl, sym, ◌∙◌, ap, subst, arith}
-use Rattle.std.specs.Prelude.{IfErr, IsSome, IsTrue, OnOk, nat_lt, ◌&&◌, if◌then◌else◌}
+use Rattle.std.specs.Prelude.{IfErr, IsSome, IsTrue, nat_lt, ◌&&◌, if◌then◌else◌}
 use Rattle.std.specs.Ordering.{nat_cmp}
 use Rattle.std.specs.FinMap.{FinMap}
 use Rattle.std.proofs.lemmas.Bool.{cases_eq, cases_lt, eq-eqb, false≢true, ne_eqb, true≢false}
@@ -12,7 +12,7 @@ use Rattle.tp_model.specs.declared.refusal.Refusal.TheVariants.{Busy, Damaged, F
 use Rattle.tp_model.specs.Geometry.{Geometry}
 use Rattle.tp_model.specs.Sectors.{Sector}
 use Rattle.tp_model.specs.Pool.{PlainPool, hold_count}
-use Rattle.tp_model.specs.Refusals.{is_fault, is_fault_refusal}
+use Rattle.tp_model.specs.Refusals.{is_fault_refusal}
 use Rattle.tp_model.specs.Calls.{Answer, Call, Delete, Flush, IsOneOf, Makes, MayAnswer, Refused, exists, first_failed, has_metadata_room, is_failed, is_read_only, refusal_of, refusals_in_writable, refused_commits, reply}
 use Rattle.tp_model.specs.PoolStops.{Event, GivenBy}
 use Rattle.tp_model.specs.Disk.{DiskState, FaultHasCause, after_read, seen}
@@ -30,18 +30,19 @@ use Rattle.tp_meta.specs.Metadata.{IsChanging, IsLater, Ran}
 use Rattle.tp_pool.specs.Held.{EndsShort, Held, HasPool, IsTried, LacksRoom, PoolAnswered, PoolCalled, PoolRefused, PoolTried, failed_by, shows}
 use Rattle.tp_holders.specs.Holders.{holds_of}
 use Rattle.tp_pool.specs.Flushes.{HasFlushed, Lacks}
+use Rattle.tp_pool.specs.Unkept.{HasReclaimed, IsUnkept}
 use Rattle.tp_pool.specs.Messages.{RefusesOld, TestedSo, old_tests, without_contents, without_plain}
 use Rattle.tp_pool.specs.Writing.{IsAsBefore, IsHalf, IsKept, IsReclaiming, LacksForRemoval}
 use Rattle.tp_pool.proofs.Answering.{tried_short, tried_writable}
-use Rattle.tp_pool.proofs.Behind.{Over, kept_behind}
+use Rattle.tp_pool.proofs.Behind.{Over, unkept_before}
 use Rattle.tp_pool.proofs.Calling.{Laws, called_working, met_fault}
 use Rattle.tp_pool.proofs.Create.{enough_blocks_are, lacking_blocks_are}
-use Rattle.tp_pool.proofs.Flushing.{counted_before, counted_behind, counted_short}
+use Rattle.tp_pool.proofs.Flushing.{counted_before, counted_short, reclaimed}
 use Rattle.tp_pool.proofs.Halves.{half_changing}
 use Rattle.tp_pool.proofs.Lasting.{lacking, removal_lasts}
 use Rattle.tp_pool.proofs.Ranges.{known_after}
 use Rattle.tp_pool.proofs.Keeping.{not_read_only, same_data_shows}
-use Rattle.tp_pool.proofs.Phases.{EndStop, WriteStop, first_phase, found_in_write, second_phase, second_phase_kept, third_phase, third_phase_kept}
+use Rattle.tp_pool.proofs.Phases.{WriteStop, first_phase, found_in_write, second_phase, second_phase_kept}
 use Rattle.tp_pool.proofs.Putting.{writable_is}
 use Rattle.tp_pool.proofs.Serving.{KeepsOutline, called_tested, write_refused}
 use Rattle.tp_pool.proofs.Stops.{Given, IsLeft, nothing_given}
@@ -323,15 +324,13 @@ module _ {M : Type 0} {geometry : M → Geometry} {stands : M → DiskState → 
         known = known_after g (geometry metadata) old.holders s call (without_plain s id meta_used) same accepts (removes_it s id meta_used few) refl pool.found pool.known;
       }
 
-    -- The volume was removed from s, and a commit behind it leaves that or what a stop left before it.
+    -- the volume was removed from s
     record HasDeleted (metadata : M) (last : DiskState) (s : PlainPool) (now kept : Contents) : Type 0 where
       pub meta_used : ℕ
       pub few : meta_used ≤ now.meta_used + more_of now
       pub before : Contents
       pub standing : stands metadata last (without_contents now id meta_used) before
       pub has : HasContents g (without_contents now id meta_used) (seen last.cells) (without_plain s id meta_used)
-      pub ends : (end : DiskState) → LeavesOnly last end (IsReclaiming g (without_contents now id meta_used) before last)
-          → LeavesOnly last end (EndStop g Flush 0 [] now kept old.disk (without_contents now id meta_used) last)
 
     -- nothing was committed before the change, or what stood then
     abbrev IsUnchanged : M → DiskState → Type 0
@@ -384,27 +383,23 @@ module _ {M : Type 0} {geometry : M → Geometry} {stands : M → DiskState → 
             let standing = stood now kept pool.standing before in
             let a = removed now kept standing (there now kept pool.standing) in
             let has = subst (λ (x : DiskState). HasContents g now (seen x.cells) s) (sym before.disk) pool.has in
-            let half_still = half_before now kept pool.standing before in
             record {
               meta_used = a.0;
               few = a.1;
               before = kept;
               standing = a.2;
               has = has_less s now kept a.0 within.volumes_now standing has;
-              ends = λ end left. third_phase g Flush 0 [] now kept (without_contents now id a.0) old.disk last end half_still left;
             }
         deleted s now kept pool (inr is_kept) =
             let within = laws.within old.metadata old.disk now kept pool.standing in
             let a = removed now now is_kept.standing (there now kept pool.standing) in
             let has = same_data_shows g now (seen old.disk.cells) (seen d.cells) s is_kept.same_data pool.has in
-            let half_kept = half now now is_kept.standing in
             record {
               meta_used = a.0;
               few = a.1;
               before = now;
               standing = a.2;
               has = has_less s now now a.0 within.volumes_now is_kept.standing has;
-              ends = λ end left. third_phase_kept g Flush 0 [] now kept (without_contents now id a.0) old.disk d last end is_kept.left half_kept left;
             }
 
     -- ---- the answers of the call
@@ -483,7 +478,7 @@ module _ {M : Type 0} {geometry : M → Geometry} {stands : M → DiskState → 
           delete_broken reason metadata last (ran.geometry ∙ same) (after_later later ran.time) failing left_deleted
           (λ e now kept st spare. let m = stood_or_kept now kept st spare in never e now m.0 m.1 (there now kept st)) only
 
-      -- it was done, and then kept
+      -- it was done, and is not kept yet
       module _ (ran : Ran 16 false (room mid) (room metadata) (geometry mid) (geometry metadata) d last) (removed : Removes mid d metadata last) where
         same_last : geometry metadata ≡ g
         same_last = ran.geometry ∙ same
@@ -495,7 +490,7 @@ module _ {M : Type 0} {geometry : M → Geometry} {stands : M → DiskState → 
         all_later = after_later later ran.time
 
         over : (s : PlainPool) (now kept : Contents) → HasPool geometry stands old now kept s
-            → Over laws old works call refl refl (λ p. refl) metadata last same_last all_later none_failed_last s now kept
+            → Over laws old works call metadata last same_last all_later none_failed_last s now kept
         over s now kept pool =
             let w = deleted mid d same last changing metadata removed s now kept pool (done now kept pool.standing pool.spare) in
             let few : s.held_root ≡ 0 → w.meta_used ≤ s.meta_used = λ none. omega (arith, w.few, none_more now (sym pool.has.held_root ∙ none), pool.has.meta_used) in
@@ -506,25 +501,14 @@ module _ {M : Type 0} {geometry : M → Geometry} {stands : M → DiskState → 
               accepted = accepts s now kept pool;
               makes = removes_it s id w.meta_used few;
               shown = deleted_shown s now kept pool metadata last w.meta_used w.before same_last (spare_then now kept pool.standing pool.spare w.meta_used w.few) w.standing w.has few;
-              geometry_is = refl;
-              holds_are = refl;
               left = left_deleted now kept pool.standing pool.spare;
-              ends = w.ends;
             }
 
-        pub delete_then_kept : (end_metadata : M) (end : DiskState) → geometry end_metadata ≡ geometry metadata → IsLater last end
-            → ((now kept : Contents) → stands metadata last now kept → now.meta_used + 128 ≤ (geometry metadata).metadata_blocks
-            → LeavesOnly last end (IsReclaiming (geometry metadata) now kept last))
-            → (result : Result (Unit {0}) Refusal)
-            → OnOk result ((now kept : Contents) → stands metadata last now kept → now.meta_used + 128 ≤ (geometry metadata).metadata_blocks
-            → IsKept geometry stands marks metadata end_metadata last end now
-            × (room end_metadata + now.meta_used ≡ (geometry metadata).metadata_blocks))
-            → IfErr result (λ refusal. refusal ≡ Fault) → FaultHasCause (is_fault result) last end
-            → PoolTried geometry stands start (record old { disk = end; metadata = end_metadata }) call result
-        delete_then_kept end_metadata end end_same end_later end_left result is_kept only end_cause =
-            subst (λ (h : Held M). PoolTried geometry stands h (record old { disk = end; metadata = end_metadata }) call result) ready_is.same
-            (kept_behind laws old works call refl refl (λ p. refl) metadata last same_last all_later none_failed_last over end_metadata end end_same end_later
-            end_left result is_kept only end_cause)
+        pub delete_unkept : (changed : M → Bool) → HasReclaimed geometry stands marks room old last call
+            → IsUnkept geometry stands marks room changed start (record old { disk = last; metadata = metadata }) call
+        delete_unkept changed counted =
+            subst (λ (h : Held M). IsUnkept geometry stands marks room changed h (record old { disk = last; metadata = metadata }) call) ready_is.same
+            (unkept_before laws old works call metadata last same_last all_later none_failed_last over changed counted)
 
     -- ---- how often it flushes
 
@@ -542,6 +526,5 @@ module _ {M : Type 0} {geometry : M → Geometry} {stands : M → DiskState → 
       delete_before new same =
           subst (λ (h : Held M). From h new) ready_is.same (counted_before geometry stands marks room old call works refl delete_accepts d some rests new same)
 
-      pub delete_behind : (last new : DiskState) → last.flushes ≡ d.flushes → (last.flushes ≤ new.flushes) × (new.flushes ≤ last.flushes + 2) → From start new
-      delete_behind last new same more =
-          subst (λ (h : Held M). From h new) ready_is.same (counted_behind geometry stands marks room old call works refl delete_accepts d some rests last new refl same more)
+      pub delete_reclaimed : (new : DiskState) → new.flushes ≡ d.flushes → HasReclaimed geometry stands marks room old new call
+      delete_reclaimed new same = reclaimed geometry stands marks room old call works refl delete_accepts d some rests new same

@@ -1,6 +1,6 @@
 -- The transaction id is set.
 use Rattle.std.proofs.Common.{◌≡◌, inl, inr, ℕ, ◌+◌, ◌≤◌, ◌==◌, Bool, true, false, not, None, Result, Ok, Err, List, [], ◌∷◌, refl, sym, ◌∙◌, ap, subst}
-use Rattle.std.specs.Prelude.{IfErr, OnOk}
+use Rattle.std.specs.Prelude.{IfErr}
 use Rattle.std.proofs.lemmas.Bool.{false≢true}
 use Rattle.tp_model.specs.declared.mode.Mode.{Mode}
 use Rattle.tp_model.specs.declared.mode.Mode.TheVariants as mode
@@ -8,27 +8,25 @@ use Rattle.tp_model.specs.declared.refusal.Refusal.{Refusal}
 use Rattle.tp_model.specs.declared.refusal.Refusal.TheVariants.{Failed, Fault, ReadOnly, StaleTransactionId}
 use Rattle.tp_model.specs.Geometry.{Geometry}
 use Rattle.tp_model.specs.Pool.{PlainPool}
-use Rattle.tp_model.specs.Refusals.{is_fault}
 use Rattle.tp_model.specs.Calls.{Call, Done, Flush, MayAnswer, Refused, SetTransactionId, first_failed, is_failed, is_read_only, refusal_of}
-use Rattle.tp_model.specs.Disk.{DiskState, FaultHasCause, seen}
+use Rattle.tp_model.specs.Disk.{DiskState, seen}
 use Rattle.tp_model.specs.DiskStops.{Leaves, LeavesOnly}
 use Rattle.tp_model.proofs.DiskStopLaws.{starts}
 use Rattle.tp_model.proofs.Holds.{Makes-FindsHeld}
 use Rattle.tp_model.proofs.Shape.{Step-IsSound}
 use Rattle.tp_model.proofs.Steps.{step_accepted}
 use Rattle.tp_stored.specs.Contents.{Contents, HasContents, HoldsContents}
-use Rattle.tp_meta.specs.Metadata.{IsLater}
-use Rattle.tp_pool.specs.Held.{Held, HasPool, IsTried, PoolCalled, PoolTried, shows}
-use Rattle.tp_pool.specs.Flushes.{HasFlushed}
-use Rattle.tp_pool.specs.Writing.{IsHalf, IsKept, IsReclaiming}
+use Rattle.tp_pool.specs.Held.{Held, HasPool, IsTried, PoolCalled}
+use Rattle.tp_pool.specs.Unkept.{IsUnkept}
+use Rattle.tp_pool.specs.Writing.{IsHalf}
 use Rattle.tp_pool.proofs.Answering.{tried_writable}
-use Rattle.tp_pool.proofs.Behind.{Over, kept_behind}
+use Rattle.tp_pool.proofs.Behind.{Over, unkept_before}
 use Rattle.tp_pool.proofs.Calling.{Laws}
-use Rattle.tp_pool.proofs.Flushing.{counted_only}
+use Rattle.tp_pool.proofs.Flushing.{reclaimed_nothing}
 use Rattle.tp_pool.proofs.Halves.{still_half}
 use Rattle.tp_pool.proofs.Ranges.{known_after}
 use Rattle.tp_pool.proofs.Keeping.{not_read_only}
-use Rattle.tp_pool.proofs.Phases.{second_phase, third_phase}
+use Rattle.tp_pool.proofs.Phases.{second_phase}
 use Rattle.tp_pool.proofs.Serving.{called_tested}
 use Rattle.tp_pool.proofs.Times.{at_once}
 
@@ -75,15 +73,6 @@ module _ {M : Type 0} {geometry : M → Geometry} {stands : M → DiskState → 
   exchange_stale told =
       called_tested laws old call StaleTransactionId (ap is_failed works) refl (λ s. refl) refl (λ s now kept pool. verdict false told s now kept pool)
 
-  module _ (told : (now kept : Contents) → stands old.metadata old.disk now kept → (current == now.transaction_id) ≡ true) where
-    accepts : (s : PlainPool) → shows geometry stands old s → refusal_of s call ≡ None
-    accepts s (inl w) = verdict true told s w.0 w.1 w.2
-    accepts s (inr f) = absurd (false≢true (sym (ap is_failed works) ∙ ap is_failed f.failed))
-
-    pub exchange_flushed : (new : DiskState) → (old.disk.flushes ≤ new.flushes) × (new.flushes ≤ old.disk.flushes + 2)
-        → HasFlushed geometry stands marks room old new call
-    exchange_flushed new some = counted_only geometry stands marks room old call works refl accepts new some
-
   module _ (told : (now kept : Contents) → stands old.metadata old.disk now kept → (current == now.transaction_id) ≡ true) (metadata : M)
       (same : geometry metadata ≡ geometry old.metadata)
       (set : (disk : DiskState) (now kept : Contents) → stands old.metadata disk now kept → stands metadata disk (record now { transaction_id = next }) kept) where
@@ -91,7 +80,7 @@ module _ {M : Type 0} {geometry : M → Geometry} {stands : M → DiskState → 
     accepted s now kept pool = verdict true told s now kept pool
 
     over : (s : PlainPool) (now kept : Contents) → HasPool geometry stands old now kept s
-        → Over laws old works call refl refl (λ p. refl) metadata old.disk same (at_once old.disk) refl s now kept
+        → Over laws old works call metadata old.disk same (at_once old.disk) refl s now kept
     over s now kept pool =
         let g = geometry old.metadata in
         let made : PlainPool = record s { transaction_id = next } in
@@ -117,24 +106,13 @@ module _ {M : Type 0} {geometry : M → Geometry} {stands : M → DiskState → 
             found = Makes-FindsHeld s call made passes refl pool.found;
             known = known_after g (geometry metadata) old.holders s call made same passes refl refl pool.found pool.known;
           };
-          geometry_is = refl;
-          holds_are = refl;
           left = second_phase g Flush 0 [] now kept old.disk old.disk half;
-          ends = λ end left. third_phase g Flush 0 [] now kept then old.disk old.disk end half left;
         }
 
-    pub exchange_then_kept : (end_metadata : M) (end : DiskState) → geometry end_metadata ≡ geometry metadata → IsLater old.disk end
-        → ((now kept : Contents) → stands metadata old.disk now kept → now.meta_used + 128 ≤ (geometry metadata).metadata_blocks
-        → LeavesOnly old.disk end (IsReclaiming (geometry metadata) now kept old.disk))
-        → (result : Result (Unit {0}) Refusal)
-        → OnOk result ((now kept : Contents) → stands metadata old.disk now kept → now.meta_used + 128 ≤ (geometry metadata).metadata_blocks
-        → IsKept geometry stands marks metadata end_metadata old.disk end now
-        × (room end_metadata + now.meta_used ≡ (geometry metadata).metadata_blocks))
-        → IfErr result (λ refusal. refusal ≡ Fault) → FaultHasCause (is_fault result) old.disk end
-        → PoolTried geometry stands old (record old { disk = end; metadata = end_metadata }) call result
-    exchange_then_kept end_metadata end end_same end_later end_left result is_kept only cause =
-        kept_behind laws old works call refl refl (λ p. refl) metadata old.disk same (at_once old.disk) refl over end_metadata end end_same end_later end_left
-        result is_kept only cause
+    -- nothing was flushed
+    pub exchange_unkept : (changed : M → Bool) → IsUnkept geometry stands marks room changed old (record old { metadata = metadata }) call
+    exchange_unkept changed =
+        unkept_before laws old works call metadata old.disk same (at_once old.disk) refl over changed (reclaimed_nothing geometry stands marks room old old.disk call refl)
 
 -- a pool that is read-only
 pub exchange_read_only_called : {M : Type 0} {geometry : M → Geometry} {stands : M → DiskState → Contents → Contents → Type 0} {marks : M → List Bool} {room : M → ℕ}

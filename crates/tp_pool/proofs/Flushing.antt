@@ -19,6 +19,7 @@ use Rattle.tp_stored.specs.Contents.{Contents}
 use Rattle.tp_shown.specs.Shown.{blocks_touched, blocks_wanted, first_block}
 use Rattle.tp_pool.specs.Held.{AnswersSo, EndsShort, Held, IsFlush, LiesIn, PoolAnswered, failed_by, shows}
 use Rattle.tp_pool.specs.Flushes.{FlushesSo, HasChanged, HasFlushed, IsInPlace, Lacks, PoolClosed, StaysInPlace, served}
+use Rattle.tp_pool.specs.Unkept.{HasReclaimed}
 use Rattle.tp_pool.specs.Writing.{LacksMetadata, blocks_taken}
 use Rattle.tp_pool.proofs.Calling.{Laws}
 use Rattle.tp_pool.proofs.Create.{passes_room}
@@ -135,6 +136,13 @@ module _ {M : Type 0} (geometry : M → Geometry) (stands : M → DiskState → 
     few = λ s shown enough. as_before new.flushes old.disk.flushes (if commits s call then 2 else 0) same;
   }
 
+  pub reclaimed_nothing : (old : Held M) (new : DiskState) (call : Call) → new.flushes ≡ old.disk.flushes → HasReclaimed geometry stands marks room old new call
+  reclaimed_nothing old new call same = record {
+    no_fewer = omega (arith, same);
+    most = as_before new.flushes old.disk.flushes (if may_reclaim call then 2 else 0) same;
+    few = λ s shown enough. same;
+  }
+
   works_in : (h : Held M) (s : PlainPool) → h.mode ≡ mode.Writable → Shown h s → s.mode ≡ mode.Writable
   works_in h s works (inl w) = w.2.mode_is ∙ works
   works_in h s works (inr f) = absurd (false≢true (sym (ap is_failed works) ∙ ap is_failed f.failed))
@@ -193,6 +201,14 @@ module _ {M : Type 0} (geometry : M → Geometry) (stands : M → DiskState → 
         no_fewer = omega (arith, same, some);
         most = let two : new.flushes ≤ old.disk.flushes + 2 = omega (arith, same, some) in most_before new.flushes two;
         few = λ s shown enough. as_before new.flushes old.disk.flushes (if commits s call then 2 else 0) (same ∙ none_before s shown enough);
+      }
+
+      -- the same of a call that is to end in one
+      pub reclaimed : (new : DiskState) → new.flushes ≡ d.flushes → HasReclaimed geometry stands marks room old new call
+      reclaimed new same = record {
+        no_fewer = omega (arith, same, some);
+        most = let two : new.flushes ≤ old.disk.flushes + 2 = omega (arith, same, some) in within_two new.flushes old.disk.flushes (may_reclaim call) reclaims two;
+        few = λ s shown enough. same ∙ idle s shown enough;
       }
 
       -- and the one that it ends in

@@ -1,6 +1,6 @@
 -- A volume grows, in a pool that works.
 use Rattle.std.proofs.Common.{◌≡◌, ◌⊎◌, inl, inr, ℕ, ◌+◌, ◌*◌, ◌/◌, ◌^◌, ◌≤◌, ◌<◌, ◌↔◌, Bool, true, false, not, Option, None, Some, is_some, Result, Ok, Err, List, [], ◌∷◌, length, refl, sym, ◌∙◌, ap, subst, arith}
-use Rattle.std.specs.Prelude.{IfErr, IsSome, IsTrue, OnOk, is_err, nat_lt, if◌then◌else◌}
+use Rattle.std.specs.Prelude.{IsSome, IsTrue, OnOk, is_err, nat_lt, if◌then◌else◌}
 use Rattle.std.specs.Option.{option_map, option_map_or}
 use Rattle.std.specs.FinMap.{get}
 use Rattle.std.proofs.lemmas.Bool.{cases_eq, cases_lt, eq-eqb, false≢true, ne_eqb, true≢false}
@@ -15,7 +15,7 @@ use Rattle.tp_model.specs.Sectors.{Sector}
 use Rattle.tp_model.specs.Pool.{PlainPool, Volume, hold_count}
 use Rattle.tp_model.specs.PoolStops.{Given as GivenIn}
 use Rattle.tp_model.specs.Refusals.{is_fault, is_fault_refusal}
-use Rattle.tp_model.specs.Calls.{Call, Flush, Grow, IsAllowed, Refused, exists, first_failed, has_metadata_room, is_failed, is_failure, is_read_only, refusal_of, volume_blocks}
+use Rattle.tp_model.specs.Calls.{Call, Flush, Grow, IsAllowed, Refused, exists, first_failed, has_metadata_room, is_failed, is_failure, is_read_only, refusal_of, volume_blocks, refused_commits}
 use Rattle.tp_model.specs.Disk.{DiskState, FaultHasCause, after_read, seen}
 use Rattle.tp_model.specs.DiskStops.{LeavesOnly}
 use Rattle.tp_model.proofs.DiskStopLaws.{starts}
@@ -37,11 +37,12 @@ use Rattle.tp_pool.specs.Flushes.{HasFlushed, Lacks}
 use Rattle.tp_pool.specs.Held.{Held, HasPool, LacksRoom, PoolCalled, PoolRefused, PoolTried, failed_by, shows}
 use Rattle.tp_pool.specs.Messages.{HasBlocks, RefusesGrown, SizedSo, grown_tests, is_bad_size, size_verdict, with_blocks, with_grown}
 use Rattle.tp_pool.specs.Shown.{told_within}
+use Rattle.tp_pool.specs.Unkept.{HasReclaimed, IsUnkept}
 use Rattle.tp_pool.specs.Writing.{IsAsBefore, IsHalf, IsKept, IsReclaiming, LacksMetadata}
-use Rattle.tp_pool.proofs.Altering.{HasMade, IsAlteration, alter_accepts, alter_failed, alter_then_kept, alter_unreclaimed, stood_or_kept}
+use Rattle.tp_pool.proofs.Altering.{HasMade, IsAlteration, alter_accepts, alter_failed, alter_unkept, alter_unreclaimed, stood_or_kept}
 use Rattle.tp_pool.proofs.Calling.{Laws}
 use Rattle.tp_pool.proofs.Create.{no_room_is, passes_room, room_is}
-use Rattle.tp_pool.proofs.Flushing.{counted_before, counted_behind, counted_short}
+use Rattle.tp_pool.proofs.Flushing.{counted_before, counted_short, reclaimed}
 use Rattle.tp_pool.proofs.Halves.{half_changing}
 use Rattle.tp_pool.proofs.Keeping.{same_data_shows}
 use Rattle.tp_pool.proofs.Putting.{writable_is}
@@ -159,6 +160,13 @@ grown_failure reason (inr e) = inr (inl e)
 abbrev pub grow_verdict : Bool → Bool → Bool → Bool → Bool → Bool → Option Refusal
 grow_verdict failed read_only misses held bad short = first_failed (
     (failed, Failed) ∷ (read_only, ReadOnly) ∷ (misses, NoSuchDevice) ∷ (held, Busy) ∷ (bad, BadSize) ∷ (short, NoMetadataSpace) ∷ [])
+
+pub grown_commits : (reason : Refusal) → RefusesGrown reason → refused_commits reason ≡ false
+grown_commits reason (inl e) = ap refused_commits e
+grown_commits reason (inr (inl e)) = ap refused_commits e
+grown_commits reason (inr (inr (inl e))) = ap refused_commits e
+grown_commits reason (inr (inr (inr (inl e)))) = ap refused_commits e
+grown_commits reason (inr (inr (inr (inr e)))) = ap refused_commits e
 
 pub growth_tests : (s : PlainPool) (id blocks : ℕ) (failed read_only misses held bad short : Bool) → is_failed s.mode ≡ failed → is_read_only s.mode ≡ read_only → not (exists s id) ≡ misses
     → nat_lt 0 (hold_count s.holds id) ≡ held → is_bad_size (volume_blocks s id) blocks ≡ bad → not (has_metadata_room s 512) ≡ short
@@ -561,18 +569,12 @@ module _ {M : Type 0} {geometry : M → Geometry} {stands : M → DiskState → 
               };
             }
 
-        -- and then kept
-        pub grow_then_kept : (end_metadata : M) (end : DiskState) → geometry end_metadata ≡ geometry metadata → IsLater last end
-            → ((now kept : Contents) → stands metadata last now kept → now.meta_used + 128 ≤ (geometry metadata).metadata_blocks
-            → LeavesOnly last end (IsReclaiming (geometry metadata) now kept last))
-            → (kept_so : Result (Unit {0}) Refusal)
-            → OnOk kept_so ((now kept : Contents) → stands metadata last now kept → now.meta_used + 128 ≤ (geometry metadata).metadata_blocks
-            → IsKept geometry stands marks metadata end_metadata last end now × (room end_metadata + now.meta_used ≡ (geometry metadata).metadata_blocks))
-            → IfErr kept_so (λ refusal. refusal ≡ Fault) → FaultHasCause (is_fault kept_so) last end
-            → PoolTried geometry stands start (record old { disk = end; metadata = end_metadata }) call kept_so
-        grow_then_kept end_metadata end end_same end_later end_left =
-            alter_then_kept laws call (grow_alters id blocks) Flush 0 (λ c. []) 512 start old ready_is.same works allowed accepted spared no_values mid d same later cause left done_alone
-            metadata last same_last ran.time half no_failure still_enough made end_metadata end end_same end_later end_left
+        -- and is not kept yet
+        pub grow_unkept : (changed : M → Bool) → HasReclaimed geometry stands marks room old last call
+            → IsUnkept geometry stands marks room changed start (record old { disk = last; metadata = metadata }) call
+        grow_unkept =
+            alter_unkept laws call (grow_alters id blocks) Flush 0 (λ c. []) 512 start old ready_is.same works allowed accepted spared no_values mid d same later cause left done_alone
+            metadata last same_last ran.time half no_failure still_enough made
 
     -- ---- how often it flushes
 
@@ -590,6 +592,5 @@ module _ {M : Type 0} {geometry : M → Geometry} {stands : M → DiskState → 
       pub grow_before : (new : DiskState) → new.flushes ≡ d.flushes → From start new
       grow_before new same = subst (λ (h : Held M). From h new) ready_is.same (counted_before geometry stands marks room old call works refl accepts d few rests new same)
 
-      pub grow_behind : (last new : DiskState) → last.flushes ≡ d.flushes → (last.flushes ≤ new.flushes) × (new.flushes ≤ last.flushes + 2) → From start new
-      grow_behind last new same more_flushes =
-          subst (λ (h : Held M). From h new) ready_is.same (counted_behind geometry stands marks room old call works refl accepts d few rests last new refl same more_flushes)
+      pub grow_reclaimed : (new : DiskState) → new.flushes ≡ d.flushes → HasReclaimed geometry stands marks room old new call
+      grow_reclaimed new same = reclaimed geometry stands marks room old call works refl accepts d few rests new same

@@ -36,7 +36,9 @@ pub mod Opened
 pub mod Formatted
 mod Nexts
 mod Statuses
+mod Unkeeping
 mod Behind
+pub mod Begun
 mod Exchanging
 mod Idling
 mod Deleting

@@ -1,6 +1,6 @@
 -- A message that changes the metadata, with no commit before it, and leaves no more metadata blocks in use.
-use Rattle.std.proofs.Common.{◌≡◌, ◌⊎◌, inl, inr, ℕ, ◌+◌, ◌≤◌, ◌<◌, Bool, true, false, not, None, Result, Ok, Err, List, ◌∷◌, [], refl, sym, ◌∙◌, ap, subst, arith}
-use Rattle.std.specs.Prelude.{IfErr, OnOk}
+use Rattle.std.proofs.Common.{◌≡◌, ◌⊎◌, inl, inr, ℕ, ◌≤◌, ◌<◌, Bool, true, false, not, None, Result, Ok, Err, List, ◌∷◌, [], refl, sym, ◌∙◌, ap, subst, arith}
+use Rattle.std.specs.Prelude.{IfErr}
 use Rattle.std.proofs.lemmas.Bool.{false≢true}
 use Rattle.tp_model.specs.declared.mode.Mode.{Mode}
 use Rattle.tp_model.specs.declared.mode.Mode.TheVariants as mode
@@ -9,7 +9,7 @@ use Rattle.tp_model.specs.declared.refusal.Refusal.TheVariants.{Damaged, Fault, 
 use Rattle.tp_model.specs.Geometry.{Geometry}
 use Rattle.tp_model.specs.Sectors.{Sector}
 use Rattle.tp_model.specs.Pool.{PlainPool}
-use Rattle.tp_model.specs.Refusals.{is_fault, is_fault_refusal}
+use Rattle.tp_model.specs.Refusals.{is_fault_refusal}
 use Rattle.tp_model.specs.Calls.{Answer, Call, Done, Flush, IsAllowed, IsOneOf, Makes, MayAnswer, Refused, Step, ends_in_commit, is_failed, is_in_memory, is_read_only, is_writing, refusal_of, refusals_in_read_only, refusals_in_writable, refused_commits, reply}
 use Rattle.tp_model.specs.PoolStops.{Event, GivenBy, keeps}
 use Rattle.tp_model.specs.Disk.{DiskState, FaultHasCause, seen}
@@ -20,16 +20,16 @@ use Rattle.tp_model.proofs.Shape.{Step-IsSound}
 use Rattle.tp_model.proofs.Steps.{step_accepted}
 use Rattle.tp_stored.specs.Contents.{Contents, HasContents}
 use Rattle.tp_meta.specs.Metadata.{IsChanging, IsLater}
-use Rattle.tp_pool.specs.Held.{EndsShort, Held, HasPool, IsTried, PoolRefused, PoolTried, failed_by, shows}
-use Rattle.tp_pool.specs.Flushes.{HasFlushed}
-use Rattle.tp_pool.specs.Writing.{IsHalf, IsKept, IsReclaiming}
+use Rattle.tp_pool.specs.Held.{EndsShort, Held, HasPool, IsTried, PoolRefused, failed_by}
+use Rattle.tp_pool.specs.Unkept.{IsUnkept}
+use Rattle.tp_pool.specs.Writing.{IsHalf}
 use Rattle.tp_pool.proofs.Answering.{tried_short, tried_writable}
-use Rattle.tp_pool.proofs.Behind.{Over, kept_behind}
+use Rattle.tp_pool.proofs.Behind.{Over, unkept_before}
 use Rattle.tp_pool.proofs.Calling.{Laws, called_working, met_fault}
-use Rattle.tp_pool.proofs.Flushing.{counted_only}
+use Rattle.tp_pool.proofs.Flushing.{reclaimed_nothing}
 use Rattle.tp_pool.proofs.Halves.{half_changing}
 use Rattle.tp_pool.proofs.Keeping.{not_read_only}
-use Rattle.tp_pool.proofs.Phases.{WriteStop, found_in_write, second_phase, third_phase}
+use Rattle.tp_pool.proofs.Phases.{WriteStop, found_in_write, second_phase}
 use Rattle.tp_pool.proofs.Ranges.{known_after}
 use Rattle.tp_pool.proofs.Serving.{block_some, possible}
 use Rattle.tp_pool.proofs.Stops.{Given, IsLeft, nothing_given}
@@ -138,7 +138,7 @@ module _ {M : Type 0} {geometry : M → Geometry} {stands : M → DiskState → 
       none_failed = cause.none refl
 
       over : (s : PlainPool) (now kept : Contents) → HasPool geometry stands old now kept s
-          → Over laws old works call is.writes is.keeps_not is.says metadata last same later none_failed s now kept
+          → Over laws old works call metadata last same later none_failed s now kept
       over s now kept pool =
           let w = snapped s now kept pool in
           let passes = accepted s now kept pool in
@@ -164,32 +164,10 @@ module _ {M : Type 0} {geometry : M → Geometry} {stands : M → DiskState → 
               found = Makes-FindsHeld s call w.made passes w.makes pool.found;
               known = known_after g (geometry metadata) old.holders s call w.made same passes w.makes outline.1 pool.found pool.known;
             };
-            geometry_is = outline.0;
-            holds_are = outline.1;
             left = left now kept pool.standing;
-            ends = λ end ended. third_phase g Flush 0 [] now kept w.then old.disk last end (half now kept pool.standing) ended;
           }
 
-      -- and then kept
-      pub snap_then_kept : (end_metadata : M) (end : DiskState) → geometry end_metadata ≡ geometry metadata → IsLater last end
-          → ((now kept : Contents) → stands metadata last now kept → now.meta_used + 128 ≤ (geometry metadata).metadata_blocks
-          → LeavesOnly last end (IsReclaiming (geometry metadata) now kept last))
-          → (result : Result (Unit {0}) Refusal)
-          → OnOk result ((now kept : Contents) → stands metadata last now kept → now.meta_used + 128 ≤ (geometry metadata).metadata_blocks
-          → IsKept geometry stands marks metadata end_metadata last end now
-          × (room end_metadata + now.meta_used ≡ (geometry metadata).metadata_blocks))
-          → IfErr result (λ refusal. refusal ≡ Fault) → FaultHasCause (is_fault result) last end
-          → PoolTried geometry stands old (record old { disk = end; metadata = end_metadata }) call result
-      snap_then_kept end_metadata end end_same end_later end_left result is_kept only end_cause =
-          kept_behind laws old works call is.writes is.keeps_not is.says metadata last same later none_failed over end_metadata end end_same end_later end_left
-          result is_kept only end_cause
-
-  -- how often it flushes
-  pub snap_flushed : ((s : PlainPool) (now kept : Contents) → HasPool geometry stands old now kept s → refusal_of s call ≡ None) → (mid new : DiskState) → mid.flushes ≡ old.disk.flushes
-      → (mid.flushes ≤ new.flushes) × (new.flushes ≤ mid.flushes + 2) → HasFlushed geometry stands marks room old new call
-  snap_flushed accepted mid new same some =
-      counted_only geometry stands marks room old call works is.ends accepts new (omega (arith, same, some.0), omega (arith, same, some.1))
-    where
-      accepts : (s : PlainPool) → shows geometry stands old s → refusal_of s call ≡ None
-      accepts s (inl w) = accepted s w.0 w.1 w.2
-      accepts s (inr f) = absurd (false≢true (sym (ap is_failed works) ∙ ap is_failed f.failed))
+      -- it is not kept yet, and nothing was flushed
+      pub snap_unkept : (changed : M → Bool) → last.flushes ≡ old.disk.flushes → IsUnkept geometry stands marks room changed old (record old { disk = last; metadata = metadata }) call
+      snap_unkept changed no_flush =
+          unkept_before laws old works call metadata last same later none_failed over changed (reclaimed_nothing geometry stands marks room old last call no_flush)

@@ -14,3 +14,4 @@ pub mod Checked
 pub mod Bounds
 pub mod Shared
 pub mod Midway
+pub mod Unkept

@@ -3,7 +3,7 @@ use crate::pool::Pool;
 use tp_disk::Disk;
 use tp_meta::Metadata;
 use tp_model::{Cloned, DevId, Refusal};
-use tp_msg::{LineBuffer, Managed};
+use tp_msg::{LineBuffer, Managed, Message};
 
 impl<D: Disk, M: Metadata> Cloned for Pool<D, M> {
     fn create_snap(&mut self, id: DevId, origin: DevId) -> Result<(), Refusal> {
@@ -16,24 +16,8 @@ impl<D: Disk, M: Metadata> Cloned for Pool<D, M> {
 }
 
 impl<D: Disk, M: Metadata> Managed for Pool<D, M> {
-    fn create_thin(&mut self, id: DevId) -> Result<(), Refusal> {
-        self.create_thin(id)
-    }
-
-    fn grow(&mut self, id: DevId, blocks: u64) -> Result<(), Refusal> {
-        self.grow(id, blocks)
-    }
-
-    fn reserve_metadata_snap(&mut self) -> Result<(), Refusal> {
-        self.reserve_metadata_snap()
-    }
-
-    fn release_metadata_snap(&mut self) -> Result<(), Refusal> {
-        self.release_metadata_snap()
-    }
-
-    fn set_transaction_id(&mut self, current: u64, next: u64) -> Result<(), Refusal> {
-        self.set_transaction_id(current, next)
+    fn change(&mut self, message: &Message) -> Option<Result<(), Refusal>> {
+        self.change(message)
     }
 
     // Named by its type, since a call by the receiver is this very method: the pool's own takes it shared.

@@ -1,9 +1,13 @@
 //! The messages to a pool: calls that each end in a commit.
-ghost use Rattle.std.specs.Prelude.{◌≡◌, ◌⊎◌, ◌+◌, ◌^◌, ◌<◌, ◌≤◌, ℕ, Err, IfErr, IfOk, IfSome, IsSome, None, OnOk, Some, false, is_err, not};
+//!
+//! Each is made in two halves: the change, which leaves a pool that works in which nothing is kept yet, and a flush. Whoever has READs go on while the device
+//! works makes the second half in parts (`begin_flush`).
+ghost use Rattle.std.specs.Prelude.{◌≡◌, ◌⊎◌, ◌+◌, ◌^◌, ◌<◌, ◌≤◌, ℕ, Err, IfErr, IfOk, IfSome, IsSome, IsTrue, MatchOption, None, OnOk, Some, false, is_err, not, true};
+ghost use Rattle.tp_model.specs.declared.mode.Mode.TheVariants as mode;
 ghost use Rattle.tp_model.specs.Geometry.{sectors_of_image};
 ghost use Rattle.tp_model.specs.Refusals.{is_fault};
 ghost use Rattle.tp_counts.specs.StoreErrors as errors;
-ghost use Rattle.tp_model.specs.Calls.{CreateSnap, CreateThin, Delete, Grow, ReleaseMetadataSnap, ReserveMetadataSnap, SetTransactionId, is_failed};
+ghost use Rattle.tp_model.specs.Calls.{Call, CreateSnap, CreateThin, Delete, Grow, ReleaseMetadataSnap, ReserveMetadataSnap, SetTransactionId, ends_in_commit, is_failed, is_flush};
 ghost use Rattle.tp_model.specs.Disk.{after_read};
 ghost use Rattle.tp_model.specs.Pool.{PlainPool};
 ghost use Rattle.tp_model.specs.Told.{IsToldSize, told_blocks};
@@ -11,17 +15,20 @@ ghost use Rattle.tp_sharing.specs.Volumes.{device_of, devices_in, resized, size_
 ghost use Rattle.tp_mapping.specs.Mapping.{size_for};
 ghost use Rattle.tp_stored.specs.Contents.{Contents};
 ghost use Rattle.tp_meta.specs.Metadata.{IsAltered, StandsWith};
-ghost use Rattle.tp_pool.specs.Held.{AnswersSo, IsTried, PoolAnswered, PoolTried, shows};
-ghost use Rattle.tp_pool.specs.Flushes.{FlushesSo, HasChanged, HasFlushed};
+ghost use Rattle.tp_msg.specs.Asked.{call_of};
+ghost use Rattle.tp_pool.specs.Held.{AnswersSo, Held, IsTried, PoolAnswered, shows};
+ghost use Rattle.tp_pool.specs.Flushes.{FlushesSo, HasFlushed};
+ghost use Rattle.tp_pool.specs.Unkept.{HasLeft, HasRested, IsBegun, IsMade, PoolBegun};
 ghost use Rattle.tp_pool.specs.Messages.{CountsBlocks, RefusesGrown, RefusesNew, RefusesOld, SizedSo, TestedSo, blocks_of_new, create_call, grown_tests, misses_origin, new_tests, old_tests, size_verdict, with_new};
 
 use crate::pool::{Pool, is_failed, is_read_only};
-use crate::room::{holds_root, keep, lacks_for_removal, lacks_metadata, reclaim, reclaim_metadata};
+use crate::room::{holds_root, lacks_for_removal, lacks_metadata, reclaim, reclaim_metadata};
 use tp_counts::StoreError;
 use tp_disk::Disk;
 use tp_holders::is_held;
 use tp_meta::Metadata;
 use tp_model::{DevId, Refusal};
+use tp_msg::Message;
 
 /// At most this many volumes.
 const MOST_DEVICES: u32 = 65536;
@@ -93,6 +100,21 @@ fn enlarge<D: Disk, M: Metadata>(
 }
 
 impl<D: Disk, M: Metadata> Pool<D, M> {
+    /// Keeps what a message has made, where it is not answered yet.
+    fn keep_made(&mut self, begun: Option<Result<(), Refusal>>) -> Result<(), Refusal>
+        ensures made { (old : Held M) (call : Call) → ends_in_commit call ≡ true → is_flush call ≡ false → IsBegun M.geometry M.stands M.marks M.room M.changed old self.old call begun
+            → IsMade M.geometry M.stands M.marks M.room M.changed old self.new call result }
+        ensures flushed { MatchOption begun (self.old.mode ≡ mode.Writable → M.changed self.old.metadata ≡ false → OnOk result (self.new.disk.flushes ≡ self.old.disk.flushes + 1))
+            (λ answer. result ≡ answer) }
+        ensures held { self.new ≡ record self.old { disk = self.new.disk; metadata = self.new.metadata; mode = self.new.mode } }
+        ensures geometry { M.geometry self.new.metadata ≡ M.geometry self.old.metadata }
+    {
+        match begun {
+            Some(answer) => answer,
+            None => self.flush(),
+        }
+    }
+
     /// Whether there is such an origin, if one is wanted.
     fn has_origin(&mut self, origin: &Option<DevId>) -> Result<bool, StoreError>
         ensures held { self.new ≡ record self.old { disk = after_read (not (errors.is_fault result)) self.old.disk } }
@@ -128,13 +150,13 @@ impl<D: Disk, M: Metadata> Pool<D, M> {
         Ok(())
     }
 
-    /// Creates a volume in a pool that works.
+    /// Creates a volume in a pool that works. Nothing is kept yet.
     fn try_create(&mut self, id: DevId, origin: &Option<DevId>) -> Result<(), Refusal>
         requires works { is_failed self.old.mode ≡ false }
-        ensures called { PoolTried M.geometry M.stands self.old self.new (create_call id origin.now) result }
+        ensures called { PoolBegun M.geometry M.stands M.marks M.room M.changed self.old self.new (create_call id origin.now) result }
         ensures tried { IsTried self.old self.new (create_call id origin.now) result }
         ensures flushes { HasFlushed M.geometry M.stands M.marks M.room self.old self.new.disk (create_call id origin.now) }
-        ensures changes { HasChanged M.changed self.old.metadata self.new.metadata (create_call id origin.now) result }
+        ensures changes { HasLeft M.changed self.old.metadata self.new.metadata result }
         ensures held { self.new ≡ record self.old { disk = self.new.disk; metadata = self.new.metadata; mode = self.new.mode } }
         ensures geometry { M.geometry self.new.metadata ≡ M.geometry self.old.metadata }
     {
@@ -147,7 +169,22 @@ impl<D: Disk, M: Metadata> Pool<D, M> {
         }
         reclaim(&mut self.disk, &mut self.metadata, 0)?;
         add(&mut self.disk, &mut self.metadata, id, origin)?;
-        keep(&mut self.disk, &mut self.metadata)
+        Ok(())
+    }
+
+    /// Creates a volume, but for the commit behind it: its answer where that is all of it, and else None.
+    fn begin_create(&mut self, id: DevId, origin: &Option<DevId>) -> Option<Result<(), Refusal>>
+        ensures begun { IsBegun M.geometry M.stands M.marks M.room M.changed self.old self.new (create_call id origin.now) result }
+        ensures held { self.new ≡ record self.old { disk = self.new.disk; metadata = self.new.metadata; mode = self.new.mode } }
+        ensures geometry { M.geometry self.new.metadata ≡ M.geometry self.old.metadata }
+    {
+        if is_failed(self.mode) {
+            return Some(Err(Refusal::Failed));
+        }
+        match self.try_create(id, origin) {
+            Ok(()) => None,
+            Err(reason) => Some(self.settle(Err(reason))),
+        }
     }
 
     /// Creates a volume without data blocks, and keeps it: Ok, or 21, 20, 14, 19, 18, 5. Where it is refused with 18, the pool wants a check
@@ -159,11 +196,8 @@ impl<D: Disk, M: Metadata> Pool<D, M> {
         ensures held { self.new ≡ record self.old { disk = self.new.disk; metadata = self.new.metadata; mode = self.new.mode } }
         ensures geometry { M.geometry self.new.metadata ≡ M.geometry self.old.metadata }
     {
-        if is_failed(self.mode) {
-            return Err(Refusal::Failed);
-        }
-        let answer = self.try_create(id, &None);
-        self.settle(answer)
+        let begun = self.begin_create(id, &None);
+        self.keep_made(begun)
     }
 
     /// Creates a volume with the sectors that another one has now, and shares its data blocks, and keeps it: Ok, or 21, 20, 15 (the origin),
@@ -177,11 +211,8 @@ impl<D: Disk, M: Metadata> Pool<D, M> {
         ensures held { self.new ≡ record self.old { disk = self.new.disk; metadata = self.new.metadata; mode = self.new.mode } }
         ensures geometry { M.geometry self.new.metadata ≡ M.geometry self.old.metadata }
     {
-        if is_failed(self.mode) {
-            return Err(Refusal::Failed);
-        }
-        let answer = self.try_create(id, &Some(origin));
-        self.settle(answer)
+        let begun = self.begin_create(id, &Some(origin));
+        self.keep_made(begun)
     }
 
     /// The tests of the removal of a volume, but for that of the mode.
@@ -200,13 +231,13 @@ impl<D: Disk, M: Metadata> Pool<D, M> {
         Ok(())
     }
 
-    /// Removes a volume from a pool that works.
+    /// Removes a volume from a pool that works. Nothing is kept yet.
     fn try_delete(&mut self, id: DevId) -> Result<(), Refusal>
         requires works { is_failed self.old.mode ≡ false }
-        ensures called { PoolTried M.geometry M.stands self.old self.new (Delete id) result }
+        ensures called { PoolBegun M.geometry M.stands M.marks M.room M.changed self.old self.new (Delete id) result }
         ensures tried { IsTried self.old self.new (Delete id) result }
         ensures flushes { HasFlushed M.geometry M.stands M.marks M.room self.old self.new.disk (Delete id) }
-        ensures changes { HasChanged M.changed self.old.metadata self.new.metadata (Delete id) result }
+        ensures changes { HasLeft M.changed self.old.metadata self.new.metadata result }
         ensures held { self.new ≡ record self.old { disk = self.new.disk; metadata = self.new.metadata; mode = self.new.mode } }
         ensures geometry { M.geometry self.new.metadata ≡ M.geometry self.old.metadata }
     {
@@ -219,7 +250,22 @@ impl<D: Disk, M: Metadata> Pool<D, M> {
         }
         reclaim_metadata(&mut self.disk, &mut self.metadata)?;
         self.metadata.delete(&mut self.disk, id)?;
-        keep(&mut self.disk, &mut self.metadata)
+        Ok(())
+    }
+
+    /// Removes a volume, but for the commit behind it: its answer where that is all of it, and else None.
+    fn begin_delete(&mut self, id: DevId) -> Option<Result<(), Refusal>>
+        ensures begun { IsBegun M.geometry M.stands M.marks M.room M.changed self.old self.new (Delete id) result }
+        ensures held { self.new ≡ record self.old { disk = self.new.disk; metadata = self.new.metadata; mode = self.new.mode } }
+        ensures geometry { M.geometry self.new.metadata ≡ M.geometry self.old.metadata }
+    {
+        if is_failed(self.mode) {
+            return Some(Err(Refusal::Failed));
+        }
+        match self.try_delete(id) {
+            Ok(()) => None,
+            Err(reason) => Some(self.settle(Err(reason))),
+        }
     }
 
     /// Removes a volume that no session holds, and keeps that: Ok, or 21, 20, 15, 16, 18, 5. Its data blocks are free again, but for those that
@@ -234,11 +280,8 @@ impl<D: Disk, M: Metadata> Pool<D, M> {
         ensures held { self.new ≡ record self.old { disk = self.new.disk; metadata = self.new.metadata; mode = self.new.mode } }
         ensures geometry { M.geometry self.new.metadata ≡ M.geometry self.old.metadata }
     {
-        if is_failed(self.mode) {
-            return Err(Refusal::Failed);
-        }
-        let answer = self.try_delete(id);
-        self.settle(answer)
+        let begun = self.begin_delete(id);
+        self.keep_made(begun)
     }
 
     /// The tests of a volume that is to have so many blocks, but for those of the mode and of metadata room. It tells how many it has.
@@ -257,13 +300,13 @@ impl<D: Disk, M: Metadata> Pool<D, M> {
         test_size(is_busy, present, blocks)
     }
 
-    /// Gives a volume of a pool that works so many blocks.
+    /// Gives a volume of a pool that works so many blocks. Nothing is kept yet.
     fn try_grow(&mut self, id: DevId, blocks: u64) -> Result<(), Refusal>
         requires works { is_failed self.old.mode ≡ false }
-        ensures called { PoolTried M.geometry M.stands self.old self.new (Grow id blocks) result }
+        ensures called { PoolBegun M.geometry M.stands M.marks M.room M.changed self.old self.new (Grow id blocks) result }
         ensures tried { IsTried self.old self.new (Grow id blocks) result }
         ensures flushes { HasFlushed M.geometry M.stands M.marks M.room self.old self.new.disk (Grow id blocks) }
-        ensures changes { HasChanged M.changed self.old.metadata self.new.metadata (Grow id blocks) result }
+        ensures changes { HasLeft M.changed self.old.metadata self.new.metadata result }
         ensures held { self.new ≡ record self.old { disk = self.new.disk; metadata = self.new.metadata; mode = self.new.mode } }
         ensures geometry { M.geometry self.new.metadata ≡ M.geometry self.old.metadata }
     {
@@ -284,7 +327,22 @@ impl<D: Disk, M: Metadata> Pool<D, M> {
             present,
             blocks as u32,
         )?;
-        keep(&mut self.disk, &mut self.metadata)
+        Ok(())
+    }
+
+    /// Gives a volume so many blocks, but for the commit behind it: its answer where that is all of it, and else None.
+    fn begin_grow(&mut self, id: DevId, blocks: u64) -> Option<Result<(), Refusal>>
+        ensures begun { IsBegun M.geometry M.stands M.marks M.room M.changed self.old self.new (Grow id blocks) result }
+        ensures held { self.new ≡ record self.old { disk = self.new.disk; metadata = self.new.metadata; mode = self.new.mode } }
+        ensures geometry { M.geometry self.new.metadata ≡ M.geometry self.old.metadata }
+    {
+        if is_failed(self.mode) {
+            return Some(Err(Refusal::Failed));
+        }
+        match self.try_grow(id, blocks) {
+            Ok(()) => None,
+            Err(reason) => Some(self.settle(Err(reason))),
+        }
     }
 
     /// Gives a volume that nobody holds so many blocks, and keeps that: Ok, or 21, 20, 15, 16, 25 (fewer than it has, or more than 2^24), 18,
@@ -297,22 +355,19 @@ impl<D: Disk, M: Metadata> Pool<D, M> {
         ensures held { self.new ≡ record self.old { disk = self.new.disk; metadata = self.new.metadata; mode = self.new.mode } }
         ensures geometry { M.geometry self.new.metadata ≡ M.geometry self.old.metadata }
     {
-        if is_failed(self.mode) {
-            return Err(Refusal::Failed);
-        }
-        let answer = self.try_grow(id, blocks);
-        self.settle(answer)
+        let begun = self.begin_grow(id, blocks);
+        self.keep_made(begun)
     }
 
-    /// Sets the transaction id of a pool that works.
+    /// Sets the transaction id of a pool that works. Nothing is kept yet.
     fn try_set_transaction_id(&mut self, current: u64, next: u64) -> Result<(), Refusal>
         requires works { is_failed self.old.mode ≡ false }
-        ensures called { PoolTried M.geometry M.stands self.old self.new (SetTransactionId current next) result }
+        ensures called { PoolBegun M.geometry M.stands M.marks M.room M.changed self.old self.new (SetTransactionId current next) result }
         ensures tried { IsTried self.old self.new (SetTransactionId current next) result }
         ensures flushes { HasFlushed M.geometry M.stands M.marks M.room self.old self.new.disk (SetTransactionId current next) }
-        ensures changes { HasChanged M.changed self.old.metadata self.new.metadata (SetTransactionId current next) result }
+        ensures changes { HasLeft M.changed self.old.metadata self.new.metadata result }
         ensures idle { current ≡ next → M.changed self.old.metadata ≡ false → (s : PlainPool) → shows M.geometry M.stands self.old s
-            → OnOk result (self.new.disk.flushes ≡ self.old.disk.flushes + 1) }
+            → OnOk result (HasRested M.changed self.old self.new) }
         ensures held { self.new ≡ record self.old { disk = self.new.disk; metadata = self.new.metadata; mode = self.new.mode } }
         ensures geometry { M.geometry self.new.metadata ≡ M.geometry self.old.metadata }
     {
@@ -324,7 +379,24 @@ impl<D: Disk, M: Metadata> Pool<D, M> {
             return Err(Refusal::StaleTransactionId);
         }
         self.metadata.set_transaction_id(next);
-        keep(&mut self.disk, &mut self.metadata)
+        Ok(())
+    }
+
+    /// Sets the transaction id, but for the commit behind it: its answer where that is all of it, and else None.
+    fn begin_set_transaction_id(&mut self, current: u64, next: u64) -> Option<Result<(), Refusal>>
+        ensures begun { IsBegun M.geometry M.stands M.marks M.room M.changed self.old self.new (SetTransactionId current next) result }
+        ensures idle { current ≡ next → M.changed self.old.metadata ≡ false → (s : PlainPool) → shows M.geometry M.stands self.old s
+            → MatchOption result (HasRested M.changed self.old self.new) (λ answer. IsTrue (is_err answer)) }
+        ensures held { self.new ≡ record self.old { disk = self.new.disk; metadata = self.new.metadata; mode = self.new.mode } }
+        ensures geometry { M.geometry self.new.metadata ≡ M.geometry self.old.metadata }
+    {
+        if is_failed(self.mode) {
+            return Some(Err(Refusal::Failed));
+        }
+        match self.try_set_transaction_id(current, next) {
+            Ok(()) => None,
+            Err(reason) => Some(self.settle(Err(reason))),
+        }
     }
 
     /// Sets the transaction id, where it is `current`, and keeps it: Ok, or 21, 20, 17, 5. Where it stays and nothing has changed since the
@@ -338,20 +410,17 @@ impl<D: Disk, M: Metadata> Pool<D, M> {
         ensures held { self.new ≡ record self.old { disk = self.new.disk; metadata = self.new.metadata; mode = self.new.mode } }
         ensures geometry { M.geometry self.new.metadata ≡ M.geometry self.old.metadata }
     {
-        if is_failed(self.mode) {
-            return Err(Refusal::Failed);
-        }
-        let answer = self.try_set_transaction_id(current, next);
-        self.settle(answer)
+        let begun = self.begin_set_transaction_id(current, next);
+        self.keep_made(begun)
     }
 
-    /// Holds the mapping of all volumes of a pool that works.
+    /// Holds the mapping of all volumes of a pool that works. Nothing is kept yet.
     fn try_reserve(&mut self) -> Result<(), Refusal>
         requires works { is_failed self.old.mode ≡ false }
-        ensures called { PoolTried M.geometry M.stands self.old self.new ReserveMetadataSnap result }
+        ensures called { PoolBegun M.geometry M.stands M.marks M.room M.changed self.old self.new ReserveMetadataSnap result }
         ensures tried { IsTried self.old self.new ReserveMetadataSnap result }
         ensures flushes { HasFlushed M.geometry M.stands M.marks M.room self.old self.new.disk ReserveMetadataSnap }
-        ensures changes { HasChanged M.changed self.old.metadata self.new.metadata ReserveMetadataSnap result }
+        ensures changes { HasLeft M.changed self.old.metadata self.new.metadata result }
         ensures held { self.new ≡ record self.old { disk = self.new.disk; metadata = self.new.metadata; mode = self.new.mode } }
         ensures geometry { M.geometry self.new.metadata ≡ M.geometry self.old.metadata }
     {
@@ -365,7 +434,22 @@ impl<D: Disk, M: Metadata> Pool<D, M> {
             return self.refuse_for_room();
         }
         self.metadata.reserve()?;
-        keep(&mut self.disk, &mut self.metadata)
+        Ok(())
+    }
+
+    /// Holds the mapping of all volumes, but for the commit behind it: its answer where that is all of it, and else None.
+    fn begin_reserve(&mut self) -> Option<Result<(), Refusal>>
+        ensures begun { IsBegun M.geometry M.stands M.marks M.room M.changed self.old self.new ReserveMetadataSnap result }
+        ensures held { self.new ≡ record self.old { disk = self.new.disk; metadata = self.new.metadata; mode = self.new.mode } }
+        ensures geometry { M.geometry self.new.metadata ≡ M.geometry self.old.metadata }
+    {
+        if is_failed(self.mode) {
+            return Some(Err(Refusal::Failed));
+        }
+        match self.try_reserve() {
+            Ok(()) => None,
+            Err(reason) => Some(self.settle(Err(reason))),
+        }
     }
 
     /// Holds the mapping of all volumes as it is now, and keeps that: Ok, or 21, 20, 26 (one is held already), 18, 5. Until it is given up, what the
@@ -378,20 +462,17 @@ impl<D: Disk, M: Metadata> Pool<D, M> {
         ensures held { self.new ≡ record self.old { disk = self.new.disk; metadata = self.new.metadata; mode = self.new.mode } }
         ensures geometry { M.geometry self.new.metadata ≡ M.geometry self.old.metadata }
     {
-        if is_failed(self.mode) {
-            return Err(Refusal::Failed);
-        }
-        let answer = self.try_reserve();
-        self.settle(answer)
+        let begun = self.begin_reserve();
+        self.keep_made(begun)
     }
 
-    /// Gives up what a pool that works holds of its mapping.
+    /// Gives up what a pool that works holds of its mapping. Nothing is kept yet.
     fn try_release(&mut self) -> Result<(), Refusal>
         requires works { is_failed self.old.mode ≡ false }
-        ensures called { PoolTried M.geometry M.stands self.old self.new ReleaseMetadataSnap result }
+        ensures called { PoolBegun M.geometry M.stands M.marks M.room M.changed self.old self.new ReleaseMetadataSnap result }
         ensures tried { IsTried self.old self.new ReleaseMetadataSnap result }
         ensures flushes { HasFlushed M.geometry M.stands M.marks M.room self.old self.new.disk ReleaseMetadataSnap }
-        ensures changes { HasChanged M.changed self.old.metadata self.new.metadata ReleaseMetadataSnap result }
+        ensures changes { HasLeft M.changed self.old.metadata self.new.metadata result }
         ensures held { self.new ≡ record self.old { disk = self.new.disk; metadata = self.new.metadata; mode = self.new.mode } }
         ensures geometry { M.geometry self.new.metadata ≡ M.geometry self.old.metadata }
     {
@@ -402,7 +483,22 @@ impl<D: Disk, M: Metadata> Pool<D, M> {
             return Err(Refusal::NoHeldRoot);
         }
         self.metadata.release(&mut self.disk)?;
-        keep(&mut self.disk, &mut self.metadata)
+        Ok(())
+    }
+
+    /// Gives up the mapping that is held, but for the commit behind it: its answer where that is all of it, and else None.
+    fn begin_release(&mut self) -> Option<Result<(), Refusal>>
+        ensures begun { IsBegun M.geometry M.stands M.marks M.room M.changed self.old self.new ReleaseMetadataSnap result }
+        ensures held { self.new ≡ record self.old { disk = self.new.disk; metadata = self.new.metadata; mode = self.new.mode } }
+        ensures geometry { M.geometry self.new.metadata ≡ M.geometry self.old.metadata }
+    {
+        if is_failed(self.mode) {
+            return Some(Err(Refusal::Failed));
+        }
+        match self.try_release() {
+            Ok(()) => None,
+            Err(reason) => Some(self.settle(Err(reason))),
+        }
     }
 
     /// Gives up the mapping that is held, and keeps that: Ok, or 21, 20, 27 (none is held), 5. What no volume has is free again. It is never
@@ -415,10 +511,27 @@ impl<D: Disk, M: Metadata> Pool<D, M> {
         ensures held { self.new ≡ record self.old { disk = self.new.disk; metadata = self.new.metadata; mode = self.new.mode } }
         ensures geometry { M.geometry self.new.metadata ≡ M.geometry self.old.metadata }
     {
-        if is_failed(self.mode) {
-            return Err(Refusal::Failed);
+        let begun = self.begin_release();
+        self.keep_made(begun)
+    }
+
+    /// Makes what a message asks for, but for the commit behind it: its answer where that is all of it, as where it is refused, and else None. Then nothing is
+    /// kept yet, and a flush behind it, in parts or at once, makes it the message: its answer is the message's. READs of volumes that are held give what they gave before.
+    pub fn change(&mut self, message: &Message) -> Option<Result<(), Refusal>>
+        ensures begun { IsBegun M.geometry M.stands M.marks M.room M.changed self.old self.new (call_of message.now) result }
+        ensures held { self.new ≡ record self.old { disk = self.new.disk; metadata = self.new.metadata; mode = self.new.mode } }
+        ensures geometry { M.geometry self.new.metadata ≡ M.geometry self.old.metadata }
+    {
+        match *message {
+            Message::CreateThin { id } => self.begin_create(id, &None),
+            Message::CreateSnap { id, origin } => self.begin_create(id, &Some(origin)),
+            Message::Delete { id } => self.begin_delete(id),
+            Message::SetTransactionId { current, next } => {
+                self.begin_set_transaction_id(current, next)
+            }
+            Message::Grow { id, blocks } => self.begin_grow(id, blocks),
+            Message::ReserveMetadataSnap => self.begin_reserve(),
+            Message::ReleaseMetadataSnap => self.begin_release(),
         }
-        let answer = self.try_release();
-        self.settle(answer)
     }
 }

@@ -27,10 +27,9 @@ use crate::trimming::unmap_covered;
 use crate::writing::{put_blocks, put_part};
 use tp_blocks::Blocks;
 use tp_counts::StoreError;
-use tp_disk::Disk;
+use tp_disk::{Disk, zeros};
 use tp_meta::{Home, Metadata};
 use tp_model::{DevId, Geometry, Refusal};
-use tp_zeros::zeros;
 
 /// How many sectors of a range lie before the first block that begins in it, and how many behind the last one that ends in it.
 fn edges(geometry: &Geometry, sector: u64, count: u64) -> (u64, u64)

@@ -478,3 +478,46 @@ fn stop_behind_a_held_root(rt: HostRuntime) -> Result<(), Fail> {
     assert_eq!(rt; told, (before, left));
     Ok(())
 }
+
+fn size_of_fifth(pool: &mut MemPool) -> Result<u32, Refusal> {
+    volume_blocks(pool, DevId::new(5))
+}
+
+/// The size of a volume in what a stop with the oldest sectors leaves of a pool.
+fn size_left(alloc: Global, pool: &MemPool) -> Result<Result<u32, Refusal>, Fail> {
+    told_of_restarted(alloc, pool.disk(), &Stop::Oldest, size_of_fifth)
+}
+
+/// What changes are told before they are kept: one that is refused, and one that is not. Then what a stop leaves before the flush, its answer, and what a stop leaves behind it.
+type Changes = (
+    [Option<Result<(), Refusal>>; 2],
+    Result<u32, Refusal>,
+    Result<(), Refusal>,
+    Result<u32, Refusal>,
+);
+
+fn told_of_changes(alloc: Global, pool: &mut MemPool) -> Result<Changes, Fail> {
+    let refused = pool.change(&Message::Delete { id: DevId::new(5) });
+    let begun = pool.change(&Message::CreateThin { id: DevId::new(5) });
+    let between = size_left(alloc, pool)?;
+    let answer = pool.flush();
+    let behind = size_left(alloc, pool)?;
+    Ok(([refused, begun], between, answer, behind))
+}
+
+#[test]
+fn a_change_is_kept_by_the_flush_behind_it(rt: HostRuntime) -> Result<(), Fail> {
+    let alloc = rt.alloc();
+    let told = told_of_empty(alloc, sizes(4)?, |pool| told_of_changes(alloc, pool))??;
+    let none = Err(Refusal::NoSuchDevice);
+    assert_eq!(rt;
+        told,
+        (
+            [Some(none), None],
+            Err(Refusal::NoSuchDevice),
+            Ok(()),
+            Ok(16)
+        )
+    );
+    Ok(())
+}

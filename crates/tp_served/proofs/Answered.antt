@@ -8,7 +8,7 @@ use Rattle.std.specs.Prelude.{IfErr, MatchResult, OnOk, if◌then◌else◌, not
 use Rattle.tp_model.specs.declared.refusal.Refusal.{Refusal}
 use Rattle.tp_model.specs.Geometry.{Geometry}
 use Rattle.tp_model.specs.Calls.{Answer, Call, Close, Done, Refused, ends_in_commit, holds_after}
-use Rattle.tp_model.specs.Clauses.{Called, EndsInVolume, Flushes, IsAnswered, Meets, View}
+use Rattle.tp_model.specs.Clauses.{Called, EndsInVolume, Flushes, IsAnswered, Meets, Unkept, View}
 use Rattle.tp_model.specs.Pool.{PlainPool}
 use Rattle.tp_model.specs.Disk.{Cell, DiskState, IsSettled, after_read}
 use Rattle.tp_model.specs.Refusals.{is_fault_refusal}
@@ -22,8 +22,10 @@ use Rattle.tp_pool.specs.Flushes.{PoolClosed, served}
 use Rattle.tp_pool.proofs.Meeting.{answers_of_served, is_sized, meeting, of_served, told_alike}
 use Rattle.tp_pool.specs.Held.{Held, PoolCalled, PoolRefused, shows, view}
 use Rattle.tp_holders.specs.Holders.{holds_of}
+use Rattle.tp_msg.specs.declared.message.Message.{Message}
+use Rattle.tp_msg.specs.Asked.{IsMessageBegun, call_of}
 use Rattle.tp_served.specs.Served.{Cached, IsClosed, IsKnown, IsUnwritten, StaysInPlace, cached, disk_of, got, on_cache}
-use Rattle.tp_served.proofs.Inner.{LeftLaw, answers_under, called_under, flushes_exact, flushes_under, meets_under, same_under}
+use Rattle.tp_served.proofs.Inner.{LeftLaw, answers_under, called_under, flushes_exact, flushes_under, meets_under, same_under, unkept_under}
 
 pub got_is : {A : Type 0} (o : Option A) (there : IsSome o) (a : A) → o ≡ Some a → a ≡ got o there
 got_is None there a e = absurd (false≢true there)
@@ -64,6 +66,19 @@ module _ {M : Type 0} (geometry : M → Geometry) (stands : M → DiskState → 
       by : (x : Result A Refusal) → MetBy (served geometry stands marks room changed) (on_cache old) (on_cache new) call meant x → MetBy (cached geometry stands marks room changed) old new call meant x
       by (Ok y) m = meets_under geometry stands marks room changed left old new was is went call (meant y) m
       by (Err reason) m = meets_under geometry stands marks room changed left old new was is went call (Refused reason) m
+
+  -- a message that is answered, or made but for its commit
+  pub begun_under : (old new : Cached M) (p q : Held M) (start : tables.Held) (message : Message) (r : Option (Result (Unit {0}) Refusal)) → IsKnown geometry old → IsLine new.cache.line
+      → start ≡ old.cache → p ≡ on_cache old → on_cache new ≡ q → tables.Since start new.cache → IsMessageBegun (served geometry stands marks room changed) p q message r
+      → IsMessageBegun (cached geometry stands marks room changed) old new message r
+  begun_under old new p q start message None was is begun before after since u =
+      let V = served geometry stands marks room changed in
+      let on : Unkept V (on_cache old) (on_cache new) (call_of message)
+      = subst (λ (h : Held M). Unkept V (on_cache old) h (call_of message)) (sym after) (subst (λ (h : Held M). Unkept V h q (call_of message)) before u) in
+      let went : tables.Since old.cache new.cache = subst (λ (c : tables.Held). tables.Since c new.cache) begun since in
+      unkept_under geometry stands marks room changed left old new was is went (call_of message) Done on
+  begun_under old new p q start message (Some answer) was is begun before after since met =
+      met_under old new p q start (call_of message) (λ (x : Unit {0}). Done) answer was is begun before after since met
 
   -- a write in place
   pub in_place_under : (old new : Cached M) (p q : Held M) (start : tables.Held) (call : Call) (r : Result (Unit {0}) Refusal) → IsKnown geometry old → IsLine new.cache.line

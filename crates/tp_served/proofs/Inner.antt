@@ -9,14 +9,14 @@ use Rattle.tp_model.specs.declared.refusal.Refusal.{Refusal}
 use Rattle.tp_model.specs.Geometry.{Geometry, data_sector}
 use Rattle.tp_model.specs.Sectors.{Sector, sector_at}
 use Rattle.tp_model.specs.Pool.{PlainPool}
-use Rattle.tp_model.specs.Calls.{Answer, Call, Read, Write, Trim, WriteZeroes, Flush, CreateThin, CreateSnap, Delete, SetTransactionId, Grow, Hold, LetGo, Status, ThinStatus, NextId, VolumeBlocks, Walk, Close, HeldRead, ReserveMetadataSnap, ReleaseMetadataSnap, Done, HasCause, Refused, commits, is_flush, is_silent, is_writing, most_flushes, refusal_of}
+use Rattle.tp_model.specs.Calls.{Answer, Call, Read, Write, Trim, WriteZeroes, Flush, CreateThin, CreateSnap, Delete, SetTransactionId, Grow, Hold, LetGo, Status, ThinStatus, NextId, VolumeBlocks, Walk, Close, HeldRead, ReserveMetadataSnap, ReleaseMetadataSnap, Done, HasCause, Refused, commits, is_failed, is_flush, is_silent, is_writing, may_reclaim, most_flushes, refusal_of}
 use Rattle.tp_model.specs.PoolStops.{During, Event, GivenBy, MayReopen, Nothing, StopsWithin, keeps, reopened}
-use Rattle.tp_model.specs.Clauses.{Called, Flushes, GoesOn, IsAnswered, IsQuiet, IsOpened, Meets, View, found_now, found_since}
+use Rattle.tp_model.specs.Clauses.{Called, Flushes, GoesOn, IsAnswered, IsQuiet, IsOpened, Meets, Unkept, View, found_now, found_since}
 use Rattle.tp_model.specs.Disk.{Cell, DiskState, MayLeave, cell_at, newest, seen}
 use Rattle.tp_model.specs.DiskStops.{AfterStop, Leaves, StoppedSince, moment, moments}
 use Rattle.tp_model.proofs.DiskStopLaws.{AfterStop-seen}
 use Rattle.tp_model.proofs.Moments.{stopped_now}
-use Rattle.tp_model.proofs.PoolStopLaws.{MayReopen-reopened, StopsWithin-map}
+use Rattle.tp_model.proofs.PoolStopLaws.{During-map, MayReopen-reopened, StopsWithin-map}
 use Rattle.tp_cache.specs.Line.{IsLine, Line, all_of, begun}
 use Rattle.tp_cache.specs.Table.{Since}
 use Rattle.tp_cache.proofs.Lives.{between_of}
@@ -353,6 +353,32 @@ module _ {M : Type 0} (geometry : M → Geometry) (stands : M → DiskState → 
     answered = answers_under m.flushes m.answered;
     flushes = flushes_under m.called.cause m.flushes;
     called = called_under m.answered m.called;
+  }
+
+  -- ---- a call that is made but for its commit
+
+  during_under : (s made P : PlainPool) → shows geometry stands (on_cache old) s → old.besides.mode ≡ mode.Writable
+      → During (found_now On (on_cache old)) (record { before = s; call = call; answer = Done; made = made }) P → During (found_now In old) (record { before = s; call = call; answer = Done; made = made }) P
+  during_under s made P (inl w) works during =
+      During-map (found_now On (on_cache old)) (found_now In old) (record { before = s; call = call; answer = Done; made = made }) P (found_under geometry stands marks room changed left old was w.0 w.1 s w.2) during
+  during_under s made P (inr f) works during = absurd (true≢false (sym (ap is_failed f.failed) ∙ ap is_failed works))
+
+  pub unkept_under : Unkept On (on_cache old) (on_cache new) call → Unkept In old new call
+  unkept_under u = record {
+    works = u.works;
+    outline = u.outline;
+    more = u.more;
+    failures = failures_to old new was is since ∙ u.failures ∙ sym (failures_from old new was is since);
+    no_fewer = since.flushed.no_fewer;
+    most = flushes_most old new was is since (if may_reclaim call then 2 else 0) u.most;
+    few = λ s shown enough.
+        let f : new.cache.line.outer.flushes ≡ old.cache.line.outer.flushes = u.few s shown enough in
+        let no_more = since.flushed.no_more in
+        let no_fewer = since.flushed.no_fewer in
+        omega (arith, f, no_more, no_fewer);
+    time = time_under;
+    opens = λ s shown image stop. u.opens s shown image (under old new was is since image stop);
+    meets = λ s shown. let m = u.meets s shown in (m.0, m.1, m.2, m.3, (λ P found. during_under s m.0 P shown u.works (m.4 P (since_under P found))));
   }
 
 -- ---- opening

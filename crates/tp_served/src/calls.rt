@@ -3,9 +3,10 @@ ghost use Rattle.std.specs.Prelude.{◌≡◌, ◌≢◌, ◌/◌, ◌%◌, ◌+
 ghost use Rattle.tp_model.specs.Sectors.{sectors_of};
 ghost use Rattle.tp_model.specs.Pool.{PlainPool, copy_id, hold_count, hold_total};
 ghost use Rattle.tp_model.specs.declared.mode.Mode.TheVariants as mode;
-ghost use Rattle.tp_model.specs.Calls.{CreateSnap, CreateThin, Delete, Done, Flush, Found, Gave, Grow, HeldRead, Hold, LetGo, Line, Listed, NextId, Read, Refused, ReleaseMetadataSnap, ReserveMetadataSnap, SetTransactionId, Sized, Status, ThinStatus, Trim, VolumeBlocks, Walk, Write, WriteZeroes};
+ghost use Rattle.tp_model.specs.Calls.{Done, Flush, Found, Gave, HeldRead, Hold, LetGo, Line, Listed, NextId, Read, Refused, Sized, Status, ThinStatus, Trim, VolumeBlocks, Walk, Write, WriteZeroes};
 ghost use Rattle.tp_model.specs.Clauses.{EndsInVolume, Meets};
 ghost use Rattle.tp_holders.specs.Holders.{holds_of};
+ghost use Rattle.tp_msg.specs.Asked.{IsMessageBegun};
 ghost use Rattle.tp_model.specs.Disk.{IsSettled};
 ghost use Rattle.tp_pool.specs.Held.{shows};
 ghost use Rattle.tp_model.specs.Slots.{listed};
@@ -16,7 +17,7 @@ use tp_cache::Start;
 use tp_disk::Disk;
 use tp_meta::Metadata;
 use tp_model::{DevId, Refusal, Slots, Vb, Volumes};
-use tp_msg::LineBuffer;
+use tp_msg::{LineBuffer, Message};
 
 pub(crate) fn flush_on<D: Disk, M: Metadata, K: Start>(
     inside: Inside<D, M>,
@@ -28,7 +29,7 @@ pub(crate) fn flush_on<D: Disk, M: Metadata, K: Start>(
 {
     inside.facts();
     let mut pool = inside.begin::<K>();
-    let answer = Volumes::flush(&mut pool);
+    let answer = pool.flush();
     let after = end(pool);
     after.facts();
     (after, answer)
@@ -273,121 +274,17 @@ pub(crate) fn let_go_on<D: Disk, M: Metadata, K: Start>(
     after
 }
 
-pub(crate) fn create_thin_on<D: Disk, M: Metadata, K: Start>(
+/// Makes what a message asks for, but for the commit behind it.
+pub(crate) fn change_on<D: Disk, M: Metadata, K: Start>(
     inside: Inside<D, M>,
-    id: DevId,
-) -> (Inside<D, M>, Result<(), Refusal>)
+    message: &Message,
+) -> (Inside<D, M>, Option<Result<(), Refusal>>)
     requires { K.start ≡ inside.cache }
-    ensures { MatchResult result.1
-        (λ _. Meets (cached M.geometry M.stands M.marks M.room M.changed) inside result.0 (CreateThin id) Done)
-        (λ reason. Meets (cached M.geometry M.stands M.marks M.room M.changed) inside result.0 (CreateThin id) (Refused reason)) }
+    ensures { IsMessageBegun (cached M.geometry M.stands M.marks M.room M.changed) inside result.0 message.now result.1 }
 {
     inside.facts();
     let mut pool = inside.begin::<K>();
-    let answer = pool.create_thin(id);
-    let after = end(pool);
-    after.facts();
-    (after, answer)
-}
-
-pub(crate) fn create_snap_on<D: Disk, M: Metadata, K: Start>(
-    inside: Inside<D, M>,
-    id: DevId,
-    origin: DevId,
-) -> (Inside<D, M>, Result<(), Refusal>)
-    requires { K.start ≡ inside.cache }
-    ensures { MatchResult result.1
-        (λ _. Meets (cached M.geometry M.stands M.marks M.room M.changed) inside result.0 (CreateSnap id origin) Done)
-        (λ reason. Meets (cached M.geometry M.stands M.marks M.room M.changed) inside result.0 (CreateSnap id origin) (Refused reason)) }
-{
-    inside.facts();
-    let mut pool = inside.begin::<K>();
-    let answer = pool.create_snap(id, origin);
-    let after = end(pool);
-    after.facts();
-    (after, answer)
-}
-
-pub(crate) fn delete_on<D: Disk, M: Metadata, K: Start>(
-    inside: Inside<D, M>,
-    id: DevId,
-) -> (Inside<D, M>, Result<(), Refusal>)
-    requires { K.start ≡ inside.cache }
-    ensures { MatchResult result.1
-        (λ _. Meets (cached M.geometry M.stands M.marks M.room M.changed) inside result.0 (Delete id) Done)
-        (λ reason. Meets (cached M.geometry M.stands M.marks M.room M.changed) inside result.0 (Delete id) (Refused reason)) }
-{
-    inside.facts();
-    let mut pool = inside.begin::<K>();
-    let answer = pool.delete(id);
-    let after = end(pool);
-    after.facts();
-    (after, answer)
-}
-
-pub(crate) fn grow_on<D: Disk, M: Metadata, K: Start>(
-    inside: Inside<D, M>,
-    id: DevId,
-    blocks: u64,
-) -> (Inside<D, M>, Result<(), Refusal>)
-    requires { K.start ≡ inside.cache }
-    ensures { MatchResult result.1
-        (λ _. Meets (cached M.geometry M.stands M.marks M.room M.changed) inside result.0 (Grow id blocks) Done)
-        (λ reason. Meets (cached M.geometry M.stands M.marks M.room M.changed) inside result.0 (Grow id blocks) (Refused reason)) }
-{
-    inside.facts();
-    let mut pool = inside.begin::<K>();
-    let answer = pool.grow(id, blocks);
-    let after = end(pool);
-    after.facts();
-    (after, answer)
-}
-
-pub(crate) fn reserve_metadata_snap_on<D: Disk, M: Metadata, K: Start>(
-    inside: Inside<D, M>,
-) -> (Inside<D, M>, Result<(), Refusal>)
-    requires { K.start ≡ inside.cache }
-    ensures { MatchResult result.1
-        (λ _. Meets (cached M.geometry M.stands M.marks M.room M.changed) inside result.0 ReserveMetadataSnap Done)
-        (λ reason. Meets (cached M.geometry M.stands M.marks M.room M.changed) inside result.0 ReserveMetadataSnap (Refused reason)) }
-{
-    inside.facts();
-    let mut pool = inside.begin::<K>();
-    let answer = pool.reserve_metadata_snap();
-    let after = end(pool);
-    after.facts();
-    (after, answer)
-}
-
-pub(crate) fn release_metadata_snap_on<D: Disk, M: Metadata, K: Start>(
-    inside: Inside<D, M>,
-) -> (Inside<D, M>, Result<(), Refusal>)
-    requires { K.start ≡ inside.cache }
-    ensures { MatchResult result.1
-        (λ _. Meets (cached M.geometry M.stands M.marks M.room M.changed) inside result.0 ReleaseMetadataSnap Done)
-        (λ reason. Meets (cached M.geometry M.stands M.marks M.room M.changed) inside result.0 ReleaseMetadataSnap (Refused reason)) }
-{
-    inside.facts();
-    let mut pool = inside.begin::<K>();
-    let answer = pool.release_metadata_snap();
-    let after = end(pool);
-    after.facts();
-    (after, answer)
-}
-
-pub(crate) fn set_transaction_id_on<D: Disk, M: Metadata, K: Start>(
-    inside: Inside<D, M>,
-    current: u64,
-    next: u64,
-) -> (Inside<D, M>, Result<(), Refusal>)
-    requires { K.start ≡ inside.cache }
-    ensures { MatchResult result.1
-        (λ _. Meets (cached M.geometry M.stands M.marks M.room M.changed) inside result.0 (SetTransactionId current next) Done)
-        (λ reason. Meets (cached M.geometry M.stands M.marks M.room M.changed) inside result.0 (SetTransactionId current next) (Refused reason)) }
-{
-    inside.facts();
-    let mut pool = inside.begin::<K>();
-    let answer = pool.set_transaction_id(current, next);
+    let answer = pool.change(message);
     let after = end(pool);
     after.facts();
     (after, answer)

@@ -6,23 +6,22 @@ ghost use Rattle.tp_model.specs.Disk.{IsSettled};
 ghost use Rattle.tp_pool.specs.Held.{shows};
 ghost use Rattle.tp_model.specs.Slots.{listed};
 ghost use Rattle.tp_holders.specs.Holders.{holds_of};
+ghost use Rattle.tp_msg.specs.Asked.{IsMessageBegun};
 ghost use Rattle.tp_model.specs.declared.mode.Mode.TheVariants as mode;
-ghost use Rattle.tp_model.specs.Calls.{CreateSnap, CreateThin, Delete, Done, Flush, Found, Gave, Grow, HeldRead, Hold, LetGo, Line, Listed, NextId, Read, Refused, ReleaseMetadataSnap, ReserveMetadataSnap, SetTransactionId, Sized, Status, ThinStatus, Trim, VolumeBlocks, Walk, Write, WriteZeroes};
+ghost use Rattle.tp_model.specs.Calls.{Done, Flush, Found, Gave, HeldRead, Hold, LetGo, Line, Listed, NextId, Read, Refused, Sized, Status, ThinStatus, Trim, VolumeBlocks, Walk, Write, WriteZeroes};
 ghost use Rattle.tp_model.specs.Clauses.{EndsInVolume, Meets};
 ghost use Rattle.tp_served.specs.Served.{IsClosed, IsKnown, IsUnwritten, StaysInPlace, cached, disk_of, got, on_cache};
 
 use crate::calls::{
-    close_on, create_snap_on, create_thin_on, delete_on, flush_on, grow_on, held_read_on, hold_on,
-    let_go_on, next_id_on, read_on, release_metadata_snap_on, reserve_metadata_snap_on,
-    set_transaction_id_on, status_on, thin_status_on, trim_on, volume_blocks_on, walk_on, write_on,
-    write_zeroes_on,
+    change_on, close_on, flush_on, held_read_on, hold_on, let_go_on, next_id_on, read_on,
+    status_on, thin_status_on, trim_on, volume_blocks_on, walk_on, write_on, write_zeroes_on,
 };
 use crate::inside::Inside;
 use std::marker::Brand;
 use tp_disk::{Disk, SharedDisk};
 use tp_meta::Metadata;
 use tp_model::{DevId, Geometry, Mode, Refusal, Slots, Vb};
-use tp_msg::LineBuffer;
+use tp_msg::{LineBuffer, Message};
 
 /// The parts, which are there between calls.
 #[derive(Drop)]
@@ -226,79 +225,11 @@ impl<D: Disk + Drop, M: Metadata + Drop> Lent<D, M> {
         self.inside = Some(after);
     }
 
-    pub(crate) fn create_thin(&mut self, id: DevId) -> Result<(), Refusal>
-        ensures { MatchResult result
-            (λ _. Meets (cached M.geometry M.stands M.marks M.room M.changed) (got self.old.inside self.old.there) (got self.new.inside self.new.there) (CreateThin id) Done)
-            (λ reason. Meets (cached M.geometry M.stands M.marks M.room M.changed) (got self.old.inside self.old.there) (got self.new.inside self.new.there) (CreateThin id) (Refused reason)) }
+    pub(crate) fn change(&mut self, message: &Message) -> Option<Result<(), Refusal>>
+        ensures { IsMessageBegun (cached M.geometry M.stands M.marks M.room M.changed) (got self.old.inside self.old.there) (got self.new.inside self.new.there) message.now result }
     {
         let inside = self.inside.take().unwrap();
-        let (after, answer) = create_thin_on::<D, M, Brand>(inside, id);
-        self.inside = Some(after);
-        answer
-    }
-
-    pub(crate) fn create_snap(&mut self, id: DevId, origin: DevId) -> Result<(), Refusal>
-        ensures { MatchResult result
-            (λ _. Meets (cached M.geometry M.stands M.marks M.room M.changed) (got self.old.inside self.old.there) (got self.new.inside self.new.there) (CreateSnap id origin) Done)
-            (λ reason. Meets (cached M.geometry M.stands M.marks M.room M.changed) (got self.old.inside self.old.there) (got self.new.inside self.new.there) (CreateSnap id origin) (Refused reason)) }
-    {
-        let inside = self.inside.take().unwrap();
-        let (after, answer) = create_snap_on::<D, M, Brand>(inside, id, origin);
-        self.inside = Some(after);
-        answer
-    }
-
-    pub(crate) fn delete(&mut self, id: DevId) -> Result<(), Refusal>
-        ensures { MatchResult result
-            (λ _. Meets (cached M.geometry M.stands M.marks M.room M.changed) (got self.old.inside self.old.there) (got self.new.inside self.new.there) (Delete id) Done)
-            (λ reason. Meets (cached M.geometry M.stands M.marks M.room M.changed) (got self.old.inside self.old.there) (got self.new.inside self.new.there) (Delete id) (Refused reason)) }
-    {
-        let inside = self.inside.take().unwrap();
-        let (after, answer) = delete_on::<D, M, Brand>(inside, id);
-        self.inside = Some(after);
-        answer
-    }
-
-    pub(crate) fn grow(&mut self, id: DevId, blocks: u64) -> Result<(), Refusal>
-        ensures { MatchResult result
-            (λ _. Meets (cached M.geometry M.stands M.marks M.room M.changed) (got self.old.inside self.old.there) (got self.new.inside self.new.there) (Grow id blocks) Done)
-            (λ reason. Meets (cached M.geometry M.stands M.marks M.room M.changed) (got self.old.inside self.old.there) (got self.new.inside self.new.there) (Grow id blocks) (Refused reason)) }
-    {
-        let inside = self.inside.take().unwrap();
-        let (after, answer) = grow_on::<D, M, Brand>(inside, id, blocks);
-        self.inside = Some(after);
-        answer
-    }
-
-    pub(crate) fn reserve_metadata_snap(&mut self) -> Result<(), Refusal>
-        ensures { MatchResult result
-            (λ _. Meets (cached M.geometry M.stands M.marks M.room M.changed) (got self.old.inside self.old.there) (got self.new.inside self.new.there) ReserveMetadataSnap Done)
-            (λ reason. Meets (cached M.geometry M.stands M.marks M.room M.changed) (got self.old.inside self.old.there) (got self.new.inside self.new.there) ReserveMetadataSnap (Refused reason)) }
-    {
-        let inside = self.inside.take().unwrap();
-        let (after, answer) = reserve_metadata_snap_on::<D, M, Brand>(inside);
-        self.inside = Some(after);
-        answer
-    }
-
-    pub(crate) fn release_metadata_snap(&mut self) -> Result<(), Refusal>
-        ensures { MatchResult result
-            (λ _. Meets (cached M.geometry M.stands M.marks M.room M.changed) (got self.old.inside self.old.there) (got self.new.inside self.new.there) ReleaseMetadataSnap Done)
-            (λ reason. Meets (cached M.geometry M.stands M.marks M.room M.changed) (got self.old.inside self.old.there) (got self.new.inside self.new.there) ReleaseMetadataSnap (Refused reason)) }
-    {
-        let inside = self.inside.take().unwrap();
-        let (after, answer) = release_metadata_snap_on::<D, M, Brand>(inside);
-        self.inside = Some(after);
-        answer
-    }
-
-    pub(crate) fn set_transaction_id(&mut self, current: u64, next: u64) -> Result<(), Refusal>
-        ensures { MatchResult result
-            (λ _. Meets (cached M.geometry M.stands M.marks M.room M.changed) (got self.old.inside self.old.there) (got self.new.inside self.new.there) (SetTransactionId current next) Done)
-            (λ reason. Meets (cached M.geometry M.stands M.marks M.room M.changed) (got self.old.inside self.old.there) (got self.new.inside self.new.there) (SetTransactionId current next) (Refused reason)) }
-    {
-        let inside = self.inside.take().unwrap();
-        let (after, answer) = set_transaction_id_on::<D, M, Brand>(inside, current, next);
+        let (after, answer) = change_on::<D, M, Brand>(inside, message);
         self.inside = Some(after);
         answer
     }

@@ -7,8 +7,9 @@ ghost use Rattle.tp_pool.specs.Held.{shows};
 ghost use Rattle.tp_model.specs.Slots.{listed};
 ghost use Rattle.tp_holders.specs.Holders.{holds_of};
 ghost use Rattle.tp_model.specs.declared.mode.Mode.TheVariants as mode;
-ghost use Rattle.tp_model.specs.Calls.{CreateSnap, CreateThin, Delete, Done, Flush, Found, Gave, Grow, HeldRead, Hold, LetGo, Line, Listed, NextId, Read, Refused, ReleaseMetadataSnap, ReserveMetadataSnap, SetTransactionId, Sized, Status, ThinStatus, Trim, VolumeBlocks, Walk, Write, WriteZeroes};
+ghost use Rattle.tp_model.specs.Calls.{Done, Flush, Found, Gave, HeldRead, Hold, LetGo, Line, Listed, NextId, Read, Refused, Sized, Status, ThinStatus, Trim, VolumeBlocks, Walk, Write, WriteZeroes};
 ghost use Rattle.tp_model.specs.Clauses.{EndsInVolume, Meets};
+ghost use Rattle.tp_msg.specs.Asked.{IsMessageBegun, call_of};
 ghost use Rattle.tp_served.specs.Midway.{IsFlushing};
 ghost use Rattle.tp_served.specs.Served.{IsClosed, IsKnown, IsUnwritten, StaysInPlace, cached, disk_of, on_cache};
 
@@ -19,7 +20,7 @@ use std::marker::Model;
 use tp_disk::{Disk, SharedDisk};
 use tp_meta::Metadata;
 use tp_model::{DevId, Flushing, Geometry, Mode, Refusal, Slots, Vb};
-use tp_msg::LineBuffer;
+use tp_msg::{LineBuffer, Message};
 
 /// A pool over a disk, which keeps changed metadata blocks in memory until it commits, and holds blocks that were read. No call takes
 /// memory.
@@ -216,77 +217,24 @@ impl<D: Disk + Drop, M: Metadata + Drop> Served<D, M> {
         self.lent.let_go(id);
     }
 
-    /// Creates a volume without data blocks, and keeps it: Ok, or 21, 20, 14, 19, 18, 5. Where it is refused with 18, the pool wants a check
-    /// from then on and is read-only, which a commit keeps.
-    pub fn create_thin(&mut self, id: DevId) -> Result<(), Refusal>
-        ensures { MatchResult result
-            (λ _. Meets (cached M.geometry M.stands M.marks M.room M.changed) self.old self.new (CreateThin id) Done)
-            (λ reason. Meets (cached M.geometry M.stands M.marks M.room M.changed) self.old self.new (CreateThin id) (Refused reason)) }
+    /// Makes what a message asks for, but for the commit behind it: its answer where that is all of it, as where it is refused, and else None. Then nothing is
+    /// kept yet, and a flush behind it, in parts or at once, makes it the message, with the flush's answer.
+    pub fn change(&mut self, message: &Message) -> Option<Result<(), Refusal>>
+        ensures { IsMessageBegun (cached M.geometry M.stands M.marks M.room M.changed) self.old self.new message.now result }
     {
-        self.lent.create_thin(id)
+        self.lent.change(message)
     }
 
-    /// Creates a volume with the sectors that another one has now, and shares its data blocks, and keeps it: Ok, or 21, 20, 15 (the origin),
-    /// 14, 19, 18, 5. The origin may be held, and may be a snapshot itself. Where it is refused with 18, the pool wants a check from then
-    /// on and is read-only, which a commit keeps.
-    pub fn create_snap(&mut self, id: DevId, origin: DevId) -> Result<(), Refusal>
+    /// Makes the call that a message asks for, and keeps it: what it changes, and the flush behind that. What each message is refused for stands at `Message`.
+    pub fn order(&mut self, message: &Message) -> Result<(), Refusal>
         ensures { MatchResult result
-            (λ _. Meets (cached M.geometry M.stands M.marks M.room M.changed) self.old self.new (CreateSnap id origin) Done)
-            (λ reason. Meets (cached M.geometry M.stands M.marks M.room M.changed) self.old self.new (CreateSnap id origin) (Refused reason)) }
+            (λ _. Meets (cached M.geometry M.stands M.marks M.room M.changed) self.old self.new (call_of message.now) Done)
+            (λ reason. Meets (cached M.geometry M.stands M.marks M.room M.changed) self.old self.new (call_of message.now) (Refused reason)) }
     {
-        self.lent.create_snap(id, origin)
-    }
-
-    /// Removes a volume that no session holds, and keeps that: Ok, or 21, 20, 15, 16, 18, 5. Its data blocks are free again, but for those that
-    /// other volumes or a held copy share with it. It is refused for want of room only while a metadata root is held: then the pool wants a check
-    /// from then on and is read-only, which a commit keeps.
-    pub fn delete(&mut self, id: DevId) -> Result<(), Refusal>
-        ensures { MatchResult result
-            (λ _. Meets (cached M.geometry M.stands M.marks M.room M.changed) self.old self.new (Delete id) Done)
-            (λ reason. Meets (cached M.geometry M.stands M.marks M.room M.changed) self.old self.new (Delete id) (Refused reason)) }
-    {
-        self.lent.delete(id)
-    }
-
-    /// Gives a volume that no session holds this many blocks, and keeps that: Ok, or 21, 20, 15, 16, 25 (fewer blocks than it has, or more than
-    /// 16777216), 18, 5. Its new blocks read as zero. A snapshot keeps its own size. Where it is refused with 18, the pool wants a check
-    /// from then on and is read-only, which a commit keeps.
-    pub fn grow(&mut self, id: DevId, blocks: u64) -> Result<(), Refusal>
-        ensures { MatchResult result
-            (λ _. Meets (cached M.geometry M.stands M.marks M.room M.changed) self.old self.new (Grow id blocks) Done)
-            (λ reason. Meets (cached M.geometry M.stands M.marks M.room M.changed) self.old self.new (Grow id blocks) (Refused reason)) }
-    {
-        self.lent.grow(id, blocks)
-    }
-
-    /// Holds the mapping of all volumes as it is now, and keeps that: Ok, or 21, 20, 26 (one is held already), 18, 5. Until it is given up, what the
-    /// volumes have now is read by `held_read`, whatever becomes of them. Where it is refused with 18, the pool wants a check from then on and
-    /// is read-only, which a commit keeps.
-    pub fn reserve_metadata_snap(&mut self) -> Result<(), Refusal>
-        ensures { MatchResult result
-            (λ _. Meets (cached M.geometry M.stands M.marks M.room M.changed) self.old self.new ReserveMetadataSnap Done)
-            (λ reason. Meets (cached M.geometry M.stands M.marks M.room M.changed) self.old self.new ReserveMetadataSnap (Refused reason)) }
-    {
-        self.lent.reserve_metadata_snap()
-    }
-
-    /// Gives up the mapping that is held, and keeps that: Ok, or 21, 20, 27 (none is held), 5, 2. The data blocks that only it had are free again. It
-    /// is never refused for want of room.
-    pub fn release_metadata_snap(&mut self) -> Result<(), Refusal>
-        ensures { MatchResult result
-            (λ _. Meets (cached M.geometry M.stands M.marks M.room M.changed) self.old self.new ReleaseMetadataSnap Done)
-            (λ reason. Meets (cached M.geometry M.stands M.marks M.room M.changed) self.old self.new ReleaseMetadataSnap (Refused reason)) }
-    {
-        self.lent.release_metadata_snap()
-    }
-
-    /// Sets the transaction id, where it is `current`, and keeps it: Ok, or 21, 20, 17, 5.
-    pub fn set_transaction_id(&mut self, current: u64, next: u64) -> Result<(), Refusal>
-        ensures { MatchResult result
-            (λ _. Meets (cached M.geometry M.stands M.marks M.room M.changed) self.old self.new (SetTransactionId current next) Done)
-            (λ reason. Meets (cached M.geometry M.stands M.marks M.room M.changed) self.old self.new (SetTransactionId current next) (Refused reason)) }
-    {
-        self.lent.set_transaction_id(current, next)
+        match self.change(message) {
+            Some(answer) => answer,
+            None => self.flush(),
+        }
     }
 
     /// Keeps all that was done, as `flush` does and with its answers, and hands the disk back with any of them.

@@ -4,21 +4,22 @@
 use crate::pools::MemServed;
 use tp_disk::MemDisk;
 use tp_model::{DevId, Refusal, Slots, Vb};
+use tp_msg::Message;
 
 pub(crate) fn create_thin(pool: &mut MemServed, id: DevId) -> Result<(), Refusal> {
-    pool.create_thin(id)
+    pool.order(&Message::CreateThin { id })
 }
 
 pub(crate) fn create_snap(pool: &mut MemServed, id: DevId, origin: DevId) -> Result<(), Refusal> {
-    pool.create_snap(id, origin)
+    pool.order(&Message::CreateSnap { id, origin })
 }
 
 pub(crate) fn delete(pool: &mut MemServed, id: DevId) -> Result<(), Refusal> {
-    pool.delete(id)
+    pool.order(&Message::Delete { id })
 }
 
 pub(crate) fn grow(pool: &mut MemServed, id: DevId, blocks: u64) -> Result<(), Refusal> {
-    pool.grow(id, blocks)
+    pool.order(&Message::Grow { id, blocks })
 }
 
 pub(crate) fn volume_blocks(pool: &mut MemServed, id: DevId) -> Result<u32, Refusal> {
@@ -30,15 +31,15 @@ pub(crate) fn set_transaction_id(
     current: u64,
     next: u64,
 ) -> Result<(), Refusal> {
-    pool.set_transaction_id(current, next)
+    pool.order(&Message::SetTransactionId { current, next })
 }
 
 pub(crate) fn reserve(pool: &mut MemServed) -> Result<(), Refusal> {
-    pool.reserve_metadata_snap()
+    pool.order(&Message::ReserveMetadataSnap)
 }
 
 pub(crate) fn release(pool: &mut MemServed) -> Result<(), Refusal> {
-    pool.release_metadata_snap()
+    pool.order(&Message::ReleaseMetadataSnap)
 }
 
 pub(crate) fn flush(pool: &mut MemServed) -> Result<(), Refusal> {

@@ -12,7 +12,8 @@ use std::test::Fail;
 use tp_cache::ReadCache;
 use tp_disk::MemDisk;
 use tp_meta::Meta;
-use tp_model::{Flushing, Geometry, Refusal};
+use tp_model::{DevId, Flushing, Geometry, Refusal};
+use tp_msg::Message;
 use tp_served::MidServed;
 
 type MidMem = MidServed<ReadCache<TalliedDisk<MemDisk>>, Meta>;
@@ -409,5 +410,25 @@ fn reads_go_on_between_the_parts_of_a_flush(rt: HostRuntime) -> Result<(), Fail>
         (life.is_right(0), life.reads, parts),
         (true, [10, 1, 0], [[4, 0, 0], [1, 1, 1], [0, 1, 1]])
     );
+    Ok(())
+}
+
+/// Makes a snapshot of the volume but for its commit, and flushes the pool in parts: what the change was told, and whether all that was answered is right.
+fn snapshot_in_parts(mut pool: MemServed, life: &mut Life) -> (Option<Result<(), Refusal>>, bool) {
+    let begun = pool.change(&Message::CreateSnap {
+        id: DevId::new(9),
+        origin: volume_of(0),
+    });
+    let _ = flushed(pool, life, &mut [[0; 3]; 2]);
+    (begun, life.is_right(0))
+}
+
+/// All five places of the volume are read behind each of the first two parts of the flush that keeps the snapshot.
+#[test]
+fn reads_go_on_while_a_message_is_kept(rt: HostRuntime) -> Result<(), Fail> {
+    let mut life = Life::new();
+    let pool = written(rt.alloc(), &mut life)?;
+    let told = snapshot_in_parts(pool, &mut life);
+    assert_eq!(rt; (told, life.reads), ((None, true), [10, 1, 0]));
     Ok(())
 }

@@ -7,7 +7,7 @@ use Rattle.tp_model.specs.declared.refusal.Refusal.{Refusal}
 use Rattle.tp_model.specs.declared.refusal.Refusal.TheVariants.{Damaged, Failed}
 use Rattle.tp_model.specs.Geometry.{Geometry, sectors_of_volume}
 use Rattle.tp_model.specs.Calls.{Answer, Call, Done, Flush, HasCause, IsOneOf, MayAnswer, Refused, Sized, VolumeBlocks, holds_after, is_flush, is_told_of_failed, mode_after, refusals_in_writable}
-use Rattle.tp_model.specs.Clauses.{Meets}
+use Rattle.tp_model.specs.Clauses.{Meets, Unkept}
 use Rattle.tp_holders.specs.Holders.{Holding, holds_of}
 use Rattle.tp_shelf.specs.Failing.{fails}
 
@@ -60,6 +60,23 @@ module _ {D : Type 0} (geometry : D → Geometry) (held : D → List Holding) (f
       → mode_after mode.Writable call (Refused reason) ≡ mode.Writable → HasCause 0 (Refused reason) 0 → Meets (fails geometry held failed) old new call (Refused why)
   refuses old new call reason why because same size holds one untold mode cause =
       subst (λ r. Meets (fails geometry held failed) old new call (Refused r)) (sym because) (refuses_so old new call reason (failed old) refl same size (holds _) one untold mode cause)
+
+  -- a call that is made but for its commit, in a pool that works
+  pub unkept : (old new : D) (call : Call) → failed old ≡ false → failed new ≡ false → geometry new ≡ geometry old → held new ≡ held old → Unkept (fails geometry held failed) old new call
+  unkept old new call was is size holders =
+      let same : failed new ≡ failed old = is ∙ sym was in
+      record {
+        works = ap mode_if was;
+        outline = (λ i. record { geometry = size i; mode = mode_if (same i); holds = holds_of (holders i) });
+        more = λ id before. refl;
+        failures = refl;
+        no_fewer = omega arith;
+        most = omega arith;
+        few = λ s shown enough. absurd shown;
+        time = record { later = omega arith; still = λ t image le left. left; earlier = λ t image le left. inl left };
+        opens = λ s shown. absurd shown;
+        meets = λ s shown. absurd shown;
+      }
 
   breaks_so : (old new : D) (had : Bool) → failed old ≡ had → failed new ≡ true → geometry new ≡ geometry old → holds_of (held new) ≡ holds_of (held old) → Meets (fails geometry held failed) old new Flush (Refused (if had then Failed else Damaged))
   breaks_so old new true was is size holds = meets old new Flush (Refused Failed) true true was is size holds (inl refl) refl refl (λ flushes done. absurd cc) (λ id blocks is tells. absurd cc)

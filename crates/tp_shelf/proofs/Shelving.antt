@@ -4,7 +4,7 @@ use Rattle.std.specs.Prelude.{IsTrue}
 use Rattle.tp_model.specs.declared.mode.Mode.TheVariants.{Writable}
 use Rattle.tp_model.specs.Geometry.{Geometry, sectors_of_volume}
 use Rattle.tp_model.specs.Calls.{Answer, Call, Done, Flush, HasCause, MayAnswer, Sized, VolumeBlocks, holds_after, is_flush, mode_after}
-use Rattle.tp_model.specs.Clauses.{Meets}
+use Rattle.tp_model.specs.Clauses.{Meets, Unkept}
 use Rattle.tp_holders.specs.Holders.{Holding, holds_of}
 use Rattle.tp_shelf.specs.Shelves.{shelved}
 
@@ -32,6 +32,21 @@ module _ {D : Type 0} (geometry : D → Geometry) (held : D → List Holding) (f
       opens = λ s shown. absurd shown;
       meets = λ s shown. absurd shown;
     };
+  }
+
+  -- a call that is made but for its commit
+  pub unkept : (old new : D) (call : Call) → geometry new ≡ geometry old → flushed new ≡ flushed old → held new ≡ held old → Unkept (shelved geometry held flushed) old new call
+  unkept old new call size same holders = record {
+    works = refl;
+    outline = (λ i. record { geometry = size i; mode = Writable; holds = holds_of (holders i) });
+    more = λ id before. refl;
+    failures = refl;
+    no_fewer = omega (arith, same);
+    most = omega (arith, same);
+    few = λ s shown enough. absurd shown;
+    time = record { later = omega arith; still = λ t image le left. left; earlier = λ t image le left. inl left };
+    opens = λ s shown. absurd shown;
+    meets = λ s shown. absurd shown;
   }
 
   -- a flush, which is one

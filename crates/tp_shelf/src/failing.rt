@@ -4,6 +4,8 @@ ghost use Rattle.std.specs.Prelude.{◌≡◌, false, if◌then◌else◌, IfOk}
 ghost use Rattle.std.specs.FinMap.{empty};
 ghost use Rattle.tp_model.specs.Flushing.{IsFlushing};
 ghost use Rattle.tp_holders.specs.Holders.{holds_of};
+ghost use Rattle.tp_msg.specs.declared.message.Message.TheVariants.{ReserveMetadataSnap};
+ghost use Rattle.tp_msg.specs.Asked.{IsMessageBegun};
 
 use arrayvec::ArrayVec;
 use tp_holders::{Holder, Holders, release};
@@ -11,7 +13,7 @@ use tp_model::{
     Cloned, DevId, Flushing, Geometry, Mode, Refusal, SharedReads, SharedVolumes, Slots, Staged,
     Vb, Volumes, Walked,
 };
-use tp_msg::{LineBuffer, Managed};
+use tp_msg::{LineBuffer, Managed, Message};
 
 /// Volumes of every id, of a pool whose first flush is refused as damaged, by which it fails. Until then they may be held; nothing else of them is done, and
 /// status lines are empty.
@@ -200,6 +202,17 @@ impl Walked for FailingShelf {
     }
 }
 
+/// Begins to hold the mapping of such a pool; the flush behind it fails.
+fn begin_reserve(shelf: &FailingShelf) -> Option<Result<(), Refusal>>
+    ensures { IsMessageBegun ⟦<FailingShelf as Volumes>⟧.view shelf.now shelf.now ReserveMetadataSnap result }
+{
+    let has_failed = shelf.has_failed;
+    if has_failed {
+        return Some(Err(Refusal::Failed));
+    }
+    None
+}
+
 impl Cloned for FailingShelf {
     fn create_snap(&mut self, _id: DevId, _origin: DevId) -> Result<(), Refusal> {
         Err(self.reason(Refusal::TooManyDevices))
@@ -211,24 +224,19 @@ impl Cloned for FailingShelf {
 }
 
 impl Managed for FailingShelf {
-    fn create_thin(&mut self, _id: DevId) -> Result<(), Refusal> {
-        Err(self.reason(Refusal::TooManyDevices))
-    }
-
-    fn grow(&mut self, _id: DevId, _blocks: u64) -> Result<(), Refusal> {
-        Err(self.reason(Refusal::NoSuchDevice))
-    }
-
-    fn set_transaction_id(&mut self, _current: u64, _next: u64) -> Result<(), Refusal> {
-        Err(self.reason(Refusal::StaleTransactionId))
-    }
-
-    fn reserve_metadata_snap(&mut self) -> Result<(), Refusal> {
-        Err(self.reason(Refusal::HeldRootExists))
-    }
-
-    fn release_metadata_snap(&mut self) -> Result<(), Refusal> {
-        Err(self.reason(Refusal::NoHeldRoot))
+    fn change(&mut self, message: &Message) -> Option<Result<(), Refusal>> {
+        match *message {
+            Message::CreateThin { id: _ } => Some(Err(self.reason(Refusal::TooManyDevices))),
+            Message::CreateSnap { id, origin } => Some(self.create_snap(id, origin)),
+            Message::Delete { id } => Some(self.delete(id)),
+            Message::SetTransactionId {
+                current: _,
+                next: _,
+            } => Some(Err(self.reason(Refusal::StaleTransactionId))),
+            Message::Grow { id: _, blocks: _ } => Some(Err(self.reason(Refusal::NoSuchDevice))),
+            Message::ReserveMetadataSnap => begin_reserve(self),
+            Message::ReleaseMetadataSnap => Some(Err(self.reason(Refusal::NoHeldRoot))),
+        }
     }
 
     fn status(&mut self, _out: &mut LineBuffer) -> usize {

@@ -1,9 +1,11 @@
 //! The volumes, and the pool that they are of. A contract knows who holds them and how often they were flushed, and nothing of what they hold.
 
-ghost use Rattle.std.specs.Prelude.{◌≡◌, ◌<◌, ◌≤◌, IfOk, length};
+ghost use Rattle.std.specs.Prelude.{◌≡◌, ◌<◌, ◌≤◌, ℕ, IfOk, length};
 ghost use Rattle.std.specs.FinMap.{empty};
 ghost use Rattle.tp_model.specs.Flushing.{IsFlushing};
 ghost use Rattle.tp_holders.specs.Holders.{holds_of};
+ghost use Rattle.tp_msg.specs.declared.message.Message.TheVariants.{CreateThin, Grow, ReleaseMetadataSnap, ReserveMetadataSnap, SetTransactionId};
+ghost use Rattle.tp_msg.specs.Asked.{IsMessageBegun};
 
 use crate::stages::Stages;
 use arrayvec::ArrayVec;
@@ -16,7 +18,7 @@ use tp_model::{
     Cloned, DevId, Flushing, Geometry, Mode, Pb, Refusal, SharedReads, SharedVolumes, Slot, Slots,
     Staged, Vb, Volumes, Walked,
 };
-use tp_msg::{LineBuffer, Managed, PoolStatus, VolumeStatus, print_status, print_thin};
+use tp_msg::{LineBuffer, Managed, Message, PoolStatus, VolumeStatus, print_status, print_thin};
 
 /// The bytes of a block of 128 sectors.
 const BLOCK: usize = 65_536;
@@ -141,6 +143,16 @@ impl Shelf {
             .unwrap_or(usize::MAX)
             .saturating_mul(volume_bytes(self.geometry.virtual_blocks()));
         from.saturating_add(size(sector))
+    }
+
+    /// Whether there is such a volume.
+    fn has(&self, id: DevId) -> bool {
+        id.number() < 2
+    }
+
+    /// Whether the mapping is held.
+    fn holds_root(&self) -> bool {
+        self.held_root != 0
     }
 
     /// Lists the blocks of a volume from one on, where it is there.
@@ -389,6 +401,60 @@ impl Walked for Shelf {
     }
 }
 
+/// Sets the transaction id, where it is the current one; that is kept by the flush behind it.
+fn begin_exchange(shelf: &mut Shelf, current: u64, next: u64) -> Option<Result<(), Refusal>>
+    ensures { IsMessageBegun ⟦<Shelf as Volumes>⟧.view shelf.old shelf.new (SetTransactionId current next) result }
+{
+    let id = shelf.transaction_id;
+    if id != current {
+        return Some(Err(Refusal::StaleTransactionId));
+    }
+    shelf.transaction_id = next;
+    None
+}
+
+/// Creates a volume, for which there is no room.
+fn begin_create(shelf: &Shelf, id: DevId) -> Option<Result<(), Refusal>>
+    ensures { IsMessageBegun ⟦<Shelf as Volumes>⟧.view shelf.now shelf.now (CreateThin id) result }
+{
+    if shelf.has(id) {
+        return Some(Err(Refusal::Exists));
+    }
+    Some(Err(Refusal::TooManyDevices))
+}
+
+/// Gives a volume some number of blocks, for which there is no room either.
+fn begin_grow(shelf: &Shelf, id: DevId) -> Option<Result<(), Refusal>>
+    ensures { (blocks : ℕ) → IsMessageBegun ⟦<Shelf as Volumes>⟧.view shelf.now shelf.now (Grow id blocks) result }
+{
+    if shelf.has(id) {
+        return Some(Err(Refusal::Busy));
+    }
+    Some(Err(Refusal::NoSuchDevice))
+}
+
+/// Holds the mapping, and keeps that at once.
+fn begin_hold(shelf: &mut Shelf) -> Option<Result<(), Refusal>>
+    ensures { IsMessageBegun ⟦<Shelf as Volumes>⟧.view shelf.old shelf.new ReserveMetadataSnap result }
+{
+    if shelf.holds_root() {
+        return Some(Err(Refusal::HeldRootExists));
+    }
+    shelf.held_root = 9;
+    Some(Ok(()))
+}
+
+/// Gives up the mapping that is held, and keeps that at once.
+fn begin_release(shelf: &mut Shelf) -> Option<Result<(), Refusal>>
+    ensures { IsMessageBegun ⟦<Shelf as Volumes>⟧.view shelf.old shelf.new ReleaseMetadataSnap result }
+{
+    if !shelf.holds_root() {
+        return Some(Err(Refusal::NoHeldRoot));
+    }
+    shelf.held_root = 0;
+    Some(Ok(()))
+}
+
 impl Cloned for Shelf {
     fn create_snap(&mut self, id: DevId, origin: DevId) -> Result<(), Refusal> {
         if origin.number() >= 2 {
@@ -410,44 +476,16 @@ impl Cloned for Shelf {
 }
 
 impl Managed for Shelf {
-    fn create_thin(&mut self, id: DevId) -> Result<(), Refusal> {
-        if id.number() < 2 {
-            Err(Refusal::Exists)
-        } else {
-            Err(Refusal::TooManyDevices)
+    fn change(&mut self, message: &Message) -> Option<Result<(), Refusal>> {
+        match *message {
+            Message::CreateThin { id } => begin_create(self, id),
+            Message::CreateSnap { id, origin } => Some(self.create_snap(id, origin)),
+            Message::Delete { id } => Some(self.delete(id)),
+            Message::SetTransactionId { current, next } => begin_exchange(self, current, next),
+            Message::Grow { id, blocks: _ } => begin_grow(self, id),
+            Message::ReserveMetadataSnap => begin_hold(self),
+            Message::ReleaseMetadataSnap => begin_release(self),
         }
-    }
-
-    fn grow(&mut self, id: DevId, _blocks: u64) -> Result<(), Refusal> {
-        if id.number() < 2 {
-            Err(Refusal::Busy)
-        } else {
-            Err(Refusal::NoSuchDevice)
-        }
-    }
-
-    fn set_transaction_id(&mut self, current: u64, next: u64) -> Result<(), Refusal> {
-        if self.transaction_id != current {
-            return Err(Refusal::StaleTransactionId);
-        }
-        self.transaction_id = next;
-        Ok(())
-    }
-
-    fn reserve_metadata_snap(&mut self) -> Result<(), Refusal> {
-        if self.held_root != 0 {
-            return Err(Refusal::HeldRootExists);
-        }
-        self.held_root = 9;
-        Ok(())
-    }
-
-    fn release_metadata_snap(&mut self) -> Result<(), Refusal> {
-        if self.held_root == 0 {
-            return Err(Refusal::NoHeldRoot);
-        }
-        self.held_root = 0;
-        Ok(())
     }
 
     fn status(&mut self, out: &mut LineBuffer) -> usize {

@@ -12,6 +12,7 @@ use tp_check::check;
 use tp_disk::{Disk, MemDisk};
 use tp_hub::Answers;
 use tp_model::{DevId, Geometry, Refusal};
+use tp_msg::Message;
 use tp_served::Room;
 
 /// A pool with volume 0, and a workload.
@@ -154,7 +155,7 @@ fn formatted(alloc: Global, room: Room) -> Result<MemServed, Refusal> {
 /// A disk with a pool with volume 0.
 pub(crate) fn founded(alloc: Global, room: Room) -> Result<MemDisk, Refusal> {
     let mut pool = formatted(alloc, room)?;
-    pool.create_thin(DevId::new(0))?;
+    pool.order(&Message::CreateThin { id: DevId::new(0) })?;
     Ok(pool.close().1)
 }
 

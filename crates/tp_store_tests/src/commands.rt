@@ -102,7 +102,7 @@ fn unmap<M: Mapping, D: Disk>(
     if !has_room(mapping, disk, geometry) || block.number() >= geometry.virtual_blocks() {
         return Err(Refusal::NoMetadataSpace);
     }
-    Ok(mapping.unmap(disk, device, block)?)
+    Ok(mapping.unmap_run(disk, device, block, 1)?)
 }
 
 /// Adds a device: without slots, or with those of another one.

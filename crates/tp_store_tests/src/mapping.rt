@@ -76,7 +76,7 @@ fn remove_on<M: Mapping, D: Disk>(
     if mapping.free_metadata() < 16 || block.number() >= geometry.virtual_blocks() {
         return Err(Refusal::NoMetadataSpace);
     }
-    mapping.unmap(disk, device, block)?;
+    mapping.unmap_run(disk, device, block, 1)?;
     if disk.sectors() < geometry.image_sectors() {
         return Err(Refusal::BadGeometry);
     }

@@ -642,7 +642,9 @@ fn look_up_on<M: Metadata, D: Disk>(
     if disk.sectors() < geometry.image_sectors() || block.number() >= geometry.virtual_blocks() {
         return Err(Refusal::BadGeometry);
     }
-    Ok(metadata.look_up(disk, DevId::new(2), block)?)
+    let mut homes = [None];
+    metadata.look_up_run(disk, DevId::new(2), block, &mut homes)?;
+    Ok(homes[0])
 }
 
 /// How many data blocks of device 2 are marked, and how many of them another slot has too.

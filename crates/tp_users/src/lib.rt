@@ -1,8 +1,9 @@
-//! Users of a pool: functions over its public calls alone. Each has a contract that a person would want, proved from the contracts of
-//! those calls: so these are strong enough to be used.
+//! Users of a pool: functions over its public calls alone, beside one over those of a hub and one over those of a cache. Each has a contract that a
+//! person would want, proved from the contracts of those calls: so these are strong enough to be used.
 #![tactic(auto)]
 
 mod blank;
+mod cached;
 mod checked;
 mod first;
 mod found;
@@ -11,6 +12,7 @@ mod held;
 mod kept;
 mod lives;
 mod out_of_room;
+mod pairs;
 mod parted;
 mod refused;
 mod removed;
@@ -23,6 +25,7 @@ mod walked;
 mod zeroed;
 
 pub use blank::blank_pool;
+pub use cached::flush_cache_twice;
 pub use checked::{
     check_left, check_left_under, check_stopped, check_then_open, stops_leave_clean_images,
     stops_under_caches_leave_clean_images,
@@ -34,6 +37,7 @@ pub use held::{held_mapping_keeps_its_bytes, released_blocks_are_free};
 pub use kept::{closed_bytes_are_read, flushed_bytes_are_read};
 pub use lives::{hub_leaves_a_clean_image, hub_lives_twice};
 pub use out_of_room::{short_pool_is_used_again, stop_short_pool};
+pub use pairs::serve_two;
 pub use parted::snapshot_keeps_its_bytes;
 pub use refused::refused_write_is_nothing;
 pub use removed::{removals_leave_all_or_nothing, removed_blocks_are_used_again};

@@ -2,7 +2,7 @@ use Rattle.tp_hub.specs.Serve.{HubRuns}
 use Rattle.tp_commands.proofs.Asks.{asked_within}
 use Rattle.tp_commands.proofs.beginning.clear_left.Goals as goal
 
--- what the table was asked the hub was asked
+-- what the desk was asked the hub was asked
 pub returns : goal.returns
 returns g c =
     let did = c.clear_clones-cleared.ensures in

@@ -12,7 +12,7 @@ use Rattle.tp_commands.proofs.Living.{said_laws}
 use Rattle.tp_commands.proofs.fresh.fresh_pool.Goals as goal
 
 pub returns-clause-empty : goal.returns-clause-empty
-returns-clause-empty c = c.in_ok-create_thin.ensures.holds ∙ unheld c.in-Ok-format.pool.besides.holders c.in-Ok-format.ensures.holders
+returns-clause-empty c = c.in_ok-order.ensures.holds ∙ unheld c.in-Ok-format.pool.besides.holders c.in-Ok-format.ensures.holders
 
 pub returns-clause-shows : goal.returns-clause-shows
 returns-clause-shows c =
@@ -20,7 +20,7 @@ returns-clause-shows c =
     let s = empty_pool g in
     let id = c.new-3.result in
     let shown = c.in-Ok-format.ensures.shows (ap (λ (d : DiskState). d.is_honest) c.in-Ok.ensures.0) in
-    let call = c.in_ok-create_thin.ensures.called in
+    let call = c.in_ok-order.ensures.called in
     let met = call.meets s shown in
     let makes = done_makes s (CreateThin id) met.0 met.1 met.2 in
     let named = ap (λ (n : ℕ). record s { volumes = insert s.volumes n (new_volume g); meta_used = met.1.meta_used }) c.new-3.ensures in
@@ -30,7 +30,7 @@ returns-clause-shows c =
       (met.1.meta_used, makes.is ∙ named ∙ sized),
       record {
         shown = met.3;
-        opens = λ image left. call.opens s shown image (said_laws.wider c.create_thin.new.self _ _ image later left);
+        opens = λ image left. call.opens s shown image (said_laws.wider c.order.new.self _ _ image later left);
         left = λ S found. let stops = met.4 in MayReopen-same met.0 met.1 S _ (sym (reopened_after s (CreateThin id) Done met.0 met.1 met.2)) (stops.kept refl S found);
       },
     )

@@ -3,4 +3,4 @@ use Rattle.tp_lock.proofs.Locking.{at_once}
 use Rattle.tp_lock.proofs.locked.ask_shared.Goals as goal
 
 pub returns-clause-asked : goal.returns-clause-asked
-returns-clause-asked g c = IfSome_then c.ask_beside_others.result c.ask_beside_others.ensures.asked (λ ran asked. at_once g.V.Volumes.view _ _ _ _ _ asked)
+returns-clause-asked g c = IfSome_then c.ask_shared.result c.ask_shared.ensures.asked (λ ran asked. at_once g.V.Volumes.view _ _ _ _ _ asked)

@@ -1,4 +1,4 @@
-use Rattle.tp_model.proofs.Unkept.{flush_failed, flushed, read_before, written}
+use Rattle.tp_model.proofs.Unkept.{flush_failed, flushed, read_before, walk_before, written}
 use Rattle.tp_model.proofs.laws.unkept_calls_are_flushed.Goals as goal
 
 pub returns-clause-done : goal.returns-clause-done
@@ -20,3 +20,8 @@ pub returns-clause-reads : goal.returns-clause-reads
 returns-clause-reads g c old mid call id sector count sectors message held u r =
     let p = g.V.Volumes in
     read_before p.view g.met.V.Volumes.laws old mid call id sector count sectors message held u r
+
+pub returns-clause-walks : goal.returns-clause-walks
+returns-clause-walks g c old mid call id from slots message held u r =
+    let p = g.V.Volumes in
+    walk_before p.view g.met.V.Volumes.laws old mid call id from slots message held u r

@@ -3,9 +3,15 @@ use Rattle.tp_hub.specs.declared.event.Event.{Event}
 use Rattle.tp_hub.specs.Runs.{incoming}
 use Rattle.tp_hub.specs.Desks.{IsAsked}
 use Rattle.tp_lock.specs.Locked.{SomeRuns}
+use Rattle.tp_lock.proofs.Locking.{at_once}
 use Rattle.tp_lock.proofs.locked.LockedDeskDesk.ask.Goals as goal
 
 pub returns-in-Bytes : goal.returns-in-Bytes
 returns-in-Bytes g c =
     subst (λ (e : Event). IsAsked (λ took answers. SomeRuns g.V.Volumes.view took answers) (incoming e) c.ask_turn.result.events c.ask_turn.result.bytes c.args.out.now c.ask_turn.new.out)
     (sym c.in-Bytes.is) c.ask_turn.ensures
+
+pub returns-in-Message : goal.returns-in-Message
+returns-in-Message g c =
+    subst (λ (e : Event). IsAsked (λ took answers. SomeRuns g.V.Volumes.view took answers) (incoming e) c.ask_line.result.events c.ask_line.result.bytes c.args.out.now c.ask_line.new.out) (sym c.in-Message.is)
+    (at_once g.V.Volumes.view _ _ _ _ _ c.ask_line.ensures)

@@ -5,3 +5,6 @@ returns-in-Whole g c = rw c.in-Whole.is c.seat.ensures
 
 pub returns-in-Midway : goal.returns-in-Midway
 returns-in-Midway g c = rw c.in-Midway.is c.seat-in-Midway.ensures
+
+pub returns-in-Ordered : goal.returns-in-Ordered
+returns-in-Ordered g c = rw c.in-Ordered.is c.seat-in-Ordered.ensures

@@ -1,50 +1,12 @@
-use Rattle.std.proofs.Common.{ap, refl, sym, ◌≡◌, ◌∙◌, not, true}
-use Rattle.std.specs.Prelude.{nat_lt}
-use Rattle.tp_model.specs.Pool.{hold_count}
-use Rattle.tp_model.specs.Calls.{Grow, Refused, exists, has_metadata_room, is_failed, is_read_only, volume_blocks}
-use Rattle.tp_model.specs.declared.refusal.Refusal.TheVariants.{Failed}
-use Rattle.tp_pool.specs.Held.{Held}
-use Rattle.tp_pool.specs.Messages.{is_bad_size}
-use Rattle.tp_pool.proofs.Answering.{failed_answers, settled_answers}
-use Rattle.tp_pool.proofs.Calling.{Laws, called_failed}
-use Rattle.tp_pool.proofs.Flushing.{flushed_failed, settled_flushes}
-use Rattle.tp_pool.proofs.Growing.{growth_tests}
+use Rattle.std.proofs.Common.{refl}
+use Rattle.tp_model.specs.Calls.{Grow}
 use Rattle.tp_pool.proofs.pool.Pool.grow.Goals as goal
 
-pub returns-then-is_failed-clause-called : goal.returns-then-is_failed-clause-called
-returns-then-is_failed-clause-called g c =
-    let M = g.M.Metadata in
-    let met = g.met.M.Metadata in
-    let laws : Laws M.geometry M.stands M.marks M.room = record { within = met.within; honest = met.honest; left = met.left; frame = met.frame } in
-    let id = c.args.id in
-    let blocks = c.args.blocks in
-    let fails : is_failed c.args.self.now.mode ≡ true = sym (ap (λ (h : Held g.row.M.Denot). is_failed h.mode) c.self.view_is) ∙ sym c.is_failed.ensures ∙ c.if-is_failed.true in
-    called_failed laws c.args.self.now (Grow id blocks) fails
-    (λ s failed. growth_tests s id blocks true (is_read_only s.mode) (not (exists s id)) (nat_lt 0 (hold_count s.holds id)) (is_bad_size (volume_blocks s id) blocks) (not (has_metadata_room s 512))
-    failed refl refl refl refl refl) refl
-
-pub returns-then-is_failed-clause-answered : goal.returns-then-is_failed-clause-answered
-returns-then-is_failed-clause-answered g c =
-    let M = g.M.Metadata in
-    failed_answers M.geometry M.stands c.args.self.now (Grow c.args.id c.args.blocks)
-    (sym (ap (λ (h : Held g.row.M.Denot). is_failed h.mode) c.self.view_is) ∙ sym c.is_failed.ensures ∙ c.if-is_failed.true) refl
-
-pub returns-then-is_failed-clause-flushes : goal.returns-then-is_failed-clause-flushes
-returns-then-is_failed-clause-flushes g c =
-    let M = g.M.Metadata in
-    flushed_failed M.geometry M.stands M.marks M.room M.changed c.args.self.now (Grow c.args.id c.args.blocks) (Refused Failed)
-    (sym (ap (λ (h : Held g.row.M.Denot). is_failed h.mode) c.self.view_is) ∙ sym c.is_failed.ensures ∙ c.if-is_failed.true)
+pub returns-clause-called : goal.returns-clause-called
+returns-clause-called g c = (c.keep_made.ensures.made c.args.self.now (Grow c.args.id c.args.blocks) refl refl c.begin_grow-begun.ensures.begun).called
 
 pub returns-clause-answered : goal.returns-clause-answered
-returns-clause-answered g c =
-    let M = g.M.Metadata in
-    let t = c.try_grow-answer in
-    settled_answers M.geometry M.stands (Grow c.args.id c.args.blocks) c.args.self.now t.new.self c.settle.new.self t.result c.settle.result refl
-    c.settle.ensures.same c.settle.ensures.ok c.settle.ensures.err t.ensures.tried
+returns-clause-answered g c = (c.keep_made.ensures.made c.args.self.now (Grow c.args.id c.args.blocks) refl refl c.begin_grow-begun.ensures.begun).answered
 
 pub returns-clause-flushes : goal.returns-clause-flushes
-returns-clause-flushes g c =
-    let M = g.M.Metadata in
-    let t = c.try_grow-answer in
-    settled_flushes M.geometry M.stands M.marks M.room M.changed (Grow c.args.id c.args.blocks) c.args.self.now t.new.self c.settle.new.self t.result c.settle.result refl refl
-    c.settle.ensures.same c.settle.ensures.ok c.settle.ensures.err t.ensures.flushes t.ensures.changes
+returns-clause-flushes g c = (c.keep_made.ensures.made c.args.self.now (Grow c.args.id c.args.blocks) refl refl c.begin_grow-begun.ensures.begun).flushes

@@ -1,4 +1,4 @@
-use Rattle.std.proofs.Common.{rules, ap, refl, subst, sym, ◌≡◌, ◌∙◌, ◌+◌, ◌≤◌, false, true, Err}
+use Rattle.std.proofs.Common.{rules, ap, refl, subst, sym, ◌≡◌, ◌∙◌, ◌+◌, ◌≤◌, false, true, Err, Ok}
 use Rattle.std.specs.Prelude.{Result}
 use Rattle.std.proofs.lemmas.Result.{err_from_is_err_and}
 use Rattle.tp_model.specs.declared.refusal.Refusal.{Refusal}
@@ -10,12 +10,14 @@ use Rattle.tp_model.specs.Calls.{Call, is_read_only}
 use Rattle.tp_pool.specs.Held.{Held, IsTried, LacksRoom, PoolRefused, PoolTried, failed_by}
 use Rattle.tp_pool.specs.Messages.{create_call}
 use Rattle.tp_pool.proofs.Calling.{Laws}
-use Rattle.tp_pool.proofs.Creating.{IsReady, create_failed, create_read_only_called, create_refused, create_tested, create_then_kept, create_unreclaimed, ready}
+use Rattle.tp_pool.proofs.Creating.{IsReady, create_failed, create_read_only_called, create_refused, create_tested, create_unkept, create_unreclaimed, ready}
 use Rattle.tp_pool.proofs.Serving.{exit_is}
 use Rattle.tp_pool.proofs.Answering.{create_exit, create_kept, create_read_only, create_short, failure_refuses, new_commits}
 use Rattle.tp_pool.proofs.Putting.{writable_is}
-use Rattle.tp_pool.proofs.Flushing.{changed_failed, changed_kept, changed_nothing, changed_read, changed_short, counted_nothing}
-use Rattle.tp_pool.proofs.CreateFlushes.{create_before, create_behind, create_flushed_short}
+use Rattle.tp_pool.proofs.Flushing.{changed_failed, changed_nothing, changed_read, changed_short, counted_nothing}
+use Rattle.tp_pool.proofs.CreateFlushes.{create_before, create_flushed_short, create_reclaimed}
+use Rattle.tp_pool.specs.Unkept.{PoolBegun}
+use Rattle.tp_pool.proofs.Begun.{begun_short, left_of}
 use Rattle.tp_pool.proofs.pool.Pool.try_create.Goals as goal
 
 pub returns-then-is_read_only-clause-called : goal.returns-then-is_read_only-clause-called
@@ -40,7 +42,7 @@ returns-in_err-test_new-clause-called g c =
     let told = c.in_err-test_new.ensures in
     let p = err_from_is_err_and c.from_residual.result c.from_residual.ensures.1 in
     let x = c.in_err-test_new.field-0.0 in
-    exit_is (λ (r : Result (Unit {0}) Refusal). PoolTried g.M.Metadata.geometry g.M.Metadata.stands old c.test_new.new.self (create_call id origin) r)
+    exit_is (λ (r : Result (Unit {0}) Refusal). PoolBegun g.M.Metadata.geometry g.M.Metadata.stands g.M.Metadata.marks g.M.Metadata.room g.M.Metadata.changed old c.test_new.new.self (create_call id origin) r)
     c.from_residual.result x p.0 p.1 (sym p.2)
     (subst (λ (h : Held g.row.M.Denot). PoolRefused g.M.Metadata.geometry g.M.Metadata.stands old (failed_by x h) (create_call id origin) x) (sym told.held)
     (create_tested laws id origin old x ((search rules), c.test_new.ensures.low) c.requires.works writes told.told (λ e now kept st. told.damaged (ap (λ (r : Refusal). Err r) e) now kept st) told.only))
@@ -62,9 +64,10 @@ returns-then-lacks_metadata-clause-called g c =
     sym (ap (λ (h : Held g.row.M.Denot). is_read_only h.mode) c.self.view_is) ∙ sym c.is_read_only.ensures ∙ c.if-is_read_only.false in
     let tested : IsReady g.M.Metadata.stands c.args.id c.args.origin.now c.args.self.now old =
     ready g.M.Metadata.stands c.args.id c.args.origin.now c.args.self.now old view c.requires.works writes ((search rules), c.test_new.ensures.low) c.in_ok-test_new.ensures.told in
-    create_refused laws c.args.id c.args.origin.now c.args.self.now old tested c.lacks_metadata.result c.lacks_metadata.ensures c.refuse_for_room.new.self c.refuse_for_room.result c.if-lacks_metadata.true
+    begun_short g.M.Metadata.geometry g.M.Metadata.stands g.M.Metadata.marks g.M.Metadata.room g.M.Metadata.changed c.test_new.new.self c.args.self.now c.refuse_for_room.new.self (create_call c.args.id c.args.origin.now) c.refuse_for_room.result c.refuse_for_room.ensures.ends
+    (create_refused laws c.args.id c.args.origin.now c.args.self.now old tested c.lacks_metadata.result c.lacks_metadata.ensures c.refuse_for_room.new.self c.refuse_for_room.result c.if-lacks_metadata.true
     (subst (λ (h : Held g.row.M.Denot). (any : Call) → LacksRoom g.M.Metadata.geometry g.M.Metadata.stands h any → PoolTried g.M.Metadata.geometry g.M.Metadata.stands h c.refuse_for_room.new.self any c.refuse_for_room.result)
-    (sym c.self-2.view_is) c.refuse_for_room.ensures.called)
+    (sym c.self-2.view_is) c.refuse_for_room.ensures.called))
 
 pub returns-in_err-reclaim-clause-called : goal.returns-in_err-reclaim-clause-called
 returns-in_err-reclaim-clause-called g c =
@@ -86,7 +89,7 @@ returns-in_err-reclaim-clause-called g c =
     let new : Held g.row.M.Denot = record old { disk = g.D.Disk.state c.reclaim.new.disk; metadata = c.reclaim.new.metadata } in
     let p = err_from_is_err_and c.from_residual-in_err-reclaim.result c.from_residual-in_err-reclaim.ensures.1 in
     let x = c.in_err-reclaim.field-0.0 in
-    exit_is (λ (r : Result (Unit {0}) Refusal). PoolTried g.M.Metadata.geometry g.M.Metadata.stands c.args.self.now new (create_call c.args.id c.args.origin.now) r)
+    exit_is (λ (r : Result (Unit {0}) Refusal). PoolBegun g.M.Metadata.geometry g.M.Metadata.stands g.M.Metadata.marks g.M.Metadata.room g.M.Metadata.changed c.args.self.now new (create_call c.args.id c.args.origin.now) r)
     c.from_residual-in_err-reclaim.result x p.0 p.1 (sym p.2)
     (create_unreclaimed laws c.args.id c.args.origin.now c.args.self.now old tested c.lacks_metadata.result c.lacks_metadata.ensures c.if-lacks_metadata.false
     x c.reclaim.new.metadata (g.D.Disk.state c.reclaim.new.disk) c.reclaim.ensures.geometry c.reclaim.ensures.time c.in_err-reclaim.ensures.cause c.reclaim.ensures.left
@@ -112,7 +115,7 @@ returns-in_err-add-clause-called g c =
     let new : Held g.row.M.Denot = record old { disk = g.D.Disk.state c.add.new.disk; metadata = c.add.new.metadata } in
     let p = err_from_is_err_and c.from_residual-in_err-add.result c.from_residual-in_err-add.ensures.1 in
     let x = refusal_of c.in_err-add.field-0.0 in
-    exit_is (λ (r : Result (Unit {0}) Refusal). PoolTried g.M.Metadata.geometry g.M.Metadata.stands c.args.self.now new (create_call c.args.id c.args.origin.now) r)
+    exit_is (λ (r : Result (Unit {0}) Refusal). PoolBegun g.M.Metadata.geometry g.M.Metadata.stands g.M.Metadata.marks g.M.Metadata.room g.M.Metadata.changed c.args.self.now new (create_call c.args.id c.args.origin.now) r)
     c.from_residual-in_err-add.result x p.0 p.1 (sym p.2)
     (create_failed laws c.args.id c.args.origin.now c.args.self.now old tested c.lacks_metadata.result c.lacks_metadata.ensures c.if-lacks_metadata.false
     c.reclaim.new.metadata (g.D.Disk.state c.reclaim.new.disk) c.reclaim.ensures.geometry c.reclaim.ensures.time c.in_ok-reclaim.ensures.cause c.reclaim.ensures.left c.in_ok-reclaim.ensures.done
@@ -137,12 +140,13 @@ returns-clause-called g c =
     sym (ap (λ (h : Held g.row.M.Denot). is_read_only h.mode) c.self.view_is) ∙ sym c.is_read_only.ensures ∙ c.if-is_read_only.false in
     let tested : IsReady g.M.Metadata.stands c.args.id c.args.origin.now c.args.self.now old =
     ready g.M.Metadata.stands c.args.id c.args.origin.now c.args.self.now old view c.requires.works writes ((search rules), c.test_new.ensures.low) c.in_ok-test_new.ensures.told in
-    create_then_kept laws c.args.id c.args.origin.now c.args.self.now old tested c.lacks_metadata.result c.lacks_metadata.ensures c.if-lacks_metadata.false
+    let counted =
+    create_reclaimed laws c.args.id c.args.origin.now c.args.self.now old tested c.lacks_metadata.result c.lacks_metadata.ensures c.if-lacks_metadata.false c.reclaim.new.metadata (g.D.Disk.state c.reclaim.new.disk) c.reclaim.ensures.flushes c.reclaim.ensures.idle
+    (g.D.Disk.state c.add.new.disk) c.in_ok-add.ensures.altered.ran.flushes in
+    create_unkept laws c.args.id c.args.origin.now c.args.self.now old tested c.lacks_metadata.result c.lacks_metadata.ensures c.if-lacks_metadata.false
     c.reclaim.new.metadata (g.D.Disk.state c.reclaim.new.disk) c.reclaim.ensures.geometry c.reclaim.ensures.time c.in_ok-reclaim.ensures.cause c.reclaim.ensures.left c.in_ok-reclaim.ensures.done
     c.add.new.metadata (g.D.Disk.state c.add.new.disk) c.add.ensures.altered.changing
-    c.in_ok-add.ensures.altered.ran c.in_ok-reclaim.ensures.room c.in_ok-add.ensures.altered.made c.in_ok-add.ensures.used
-    c.keep.new.metadata (g.D.Disk.state c.keep.new.disk) c.keep.ensures.geometry c.keep.ensures.ran.time c.keep.ensures.left
-    c.keep.result c.keep.ensures.kept c.keep.ensures.only c.keep.ensures.ran.cause
+    c.in_ok-add.ensures.altered.ran c.in_ok-reclaim.ensures.room c.in_ok-add.ensures.altered.made c.in_ok-add.ensures.used g.M.Metadata.changed counted
 
 pub returns-then-is_read_only-clause-tried : goal.returns-then-is_read_only-clause-tried
 returns-then-is_read_only-clause-tried g c =
@@ -195,8 +199,8 @@ returns-clause-tried g c =
     let writes : is_read_only c.args.self.now.mode ≡ false =
     sym (ap (λ (h : Held g.row.M.Denot). is_read_only h.mode) c.self.view_is) ∙ sym c.is_read_only.ensures ∙ c.if-is_read_only.false in
     let works = writable_is c.args.self.now.mode c.requires.works writes in
-    let new : Held g.row.M.Denot = record { disk = g.D.Disk.state c.keep.new.disk; metadata = c.keep.new.metadata; holders = c.self-2.inside.holders.items; mode = c.self-2.inside.mode } in
-    create_kept c.args.self.now new works c.args.id c.args.origin.now c.keep.result (ap (λ (h : Held g.row.M.Denot). h.mode) (c.self-2.view_is ∙ c.in_ok-test_new.ensures.held)) c.keep.ensures.only
+    let new : Held g.row.M.Denot = record { disk = g.D.Disk.state c.add.new.disk; metadata = c.add.new.metadata; holders = c.self-2.inside.holders.items; mode = c.self-2.inside.mode } in
+    create_kept c.args.self.now new works c.args.id c.args.origin.now (Ok tt) (ap (λ (h : Held g.row.M.Denot). h.mode) (c.self-2.view_is ∙ c.in_ok-test_new.ensures.held)) tt
 
 pub returns-then-is_read_only-clause-flushes : goal.returns-then-is_read_only-clause-flushes
 returns-then-is_read_only-clause-flushes g c =
@@ -282,34 +286,37 @@ returns-clause-flushes g c =
     sym (ap (λ (h : Held g.row.M.Denot). is_read_only h.mode) c.self.view_is) ∙ sym c.is_read_only.ensures ∙ c.if-is_read_only.false in
     let tested : IsReady g.M.Metadata.stands c.args.id c.args.origin.now c.args.self.now old =
     ready g.M.Metadata.stands c.args.id c.args.origin.now c.args.self.now old view c.requires.works writes ((search rules), c.test_new.ensures.low) c.in_ok-test_new.ensures.told in
-    create_behind laws c.args.id c.args.origin.now c.args.self.now old tested c.lacks_metadata.result c.lacks_metadata.ensures c.if-lacks_metadata.false c.reclaim.new.metadata (g.D.Disk.state c.reclaim.new.disk) c.reclaim.ensures.flushes c.reclaim.ensures.idle
-    (g.D.Disk.state c.add.new.disk) (g.D.Disk.state c.keep.new.disk) c.in_ok-add.ensures.altered.ran.flushes c.keep.ensures.ran.flushes
+    create_before laws c.args.id c.args.origin.now c.args.self.now old tested c.lacks_metadata.result c.lacks_metadata.ensures c.if-lacks_metadata.false c.reclaim.new.metadata (g.D.Disk.state c.reclaim.new.disk) c.reclaim.ensures.flushes c.reclaim.ensures.idle (g.D.Disk.state c.add.new.disk) c.in_ok-add.ensures.altered.ran.flushes
 
 pub returns-then-is_read_only-clause-changes : goal.returns-then-is_read_only-clause-changes
 returns-then-is_read_only-clause-changes g c =
-    changed_nothing g.M.Metadata.changed c.args.self.now.metadata c.args.self.now.metadata (create_call c.args.id c.args.origin.now) ReadOnly refl refl
+    left_of g.M.Metadata.changed c.args.self.now.metadata c.args.self.now.metadata (create_call c.args.id c.args.origin.now) (Err ReadOnly)
+    (changed_nothing g.M.Metadata.changed c.args.self.now.metadata c.args.self.now.metadata (create_call c.args.id c.args.origin.now) ReadOnly refl refl)
 
 pub returns-in_err-test_new-clause-changes : goal.returns-in_err-test_new-clause-changes
 returns-in_err-test_new-clause-changes g c =
     let p = err_from_is_err_and c.from_residual.result c.from_residual.ensures.1 in
-    changed_read g.M.Metadata.changed c.args.self.now.metadata c.test_new.new.self.metadata (create_call c.args.id c.args.origin.now) c.from_residual.result c.in_err-test_new.field-0.0 p.0 p.1 (sym p.2)
-    (new_commits c.args.origin.now c.in_err-test_new.field-0.0 c.in_err-test_new.ensures.only) (ap (λ (h : Held g.row.M.Denot). h.metadata) c.in_err-test_new.ensures.held)
+    left_of g.M.Metadata.changed c.args.self.now.metadata c.test_new.new.self.metadata (create_call c.args.id c.args.origin.now) c.from_residual.result
+    (changed_read g.M.Metadata.changed c.args.self.now.metadata c.test_new.new.self.metadata (create_call c.args.id c.args.origin.now) c.from_residual.result c.in_err-test_new.field-0.0 p.0 p.1 (sym p.2)
+    (new_commits c.args.origin.now c.in_err-test_new.field-0.0 c.in_err-test_new.ensures.only) (ap (λ (h : Held g.row.M.Denot). h.metadata) c.in_err-test_new.ensures.held))
 
 pub returns-then-lacks_metadata-clause-changes : goal.returns-then-lacks_metadata-clause-changes
 returns-then-lacks_metadata-clause-changes g c =
-    changed_short g.M.Metadata.changed (create_call c.args.id c.args.origin.now) c.test_new.new.self
-    c.refuse_for_room.new.self c.args.self.now.metadata c.refuse_for_room.result c.refuse_for_room.ensures.ends c.refuse_for_room.ensures.unchanged
+    left_of g.M.Metadata.changed c.args.self.now.metadata c.refuse_for_room.new.self.metadata (create_call c.args.id c.args.origin.now) c.refuse_for_room.result
+    (changed_short g.M.Metadata.changed (create_call c.args.id c.args.origin.now) c.test_new.new.self
+    c.refuse_for_room.new.self c.args.self.now.metadata c.refuse_for_room.result c.refuse_for_room.ensures.ends c.refuse_for_room.ensures.unchanged)
 
 pub returns-in_err-reclaim-clause-changes : goal.returns-in_err-reclaim-clause-changes
 returns-in_err-reclaim-clause-changes g c =
     let p = err_from_is_err_and c.from_residual-in_err-reclaim.result c.from_residual-in_err-reclaim.ensures.1 in
-    changed_failed g.M.Metadata.changed c.args.self.now.metadata c.reclaim.new.metadata (create_call c.args.id c.args.origin.now) c.from_residual-in_err-reclaim.result c.in_err-reclaim.field-0.0 p.0 p.1 (sym p.2) c.in_err-reclaim.ensures.only
+    left_of g.M.Metadata.changed c.args.self.now.metadata c.reclaim.new.metadata (create_call c.args.id c.args.origin.now) c.from_residual-in_err-reclaim.result
+    (changed_failed g.M.Metadata.changed c.args.self.now.metadata c.reclaim.new.metadata (create_call c.args.id c.args.origin.now) c.from_residual-in_err-reclaim.result c.in_err-reclaim.field-0.0 p.0 p.1 (sym p.2) c.in_err-reclaim.ensures.only)
 
 pub returns-in_err-add-clause-changes : goal.returns-in_err-add-clause-changes
 returns-in_err-add-clause-changes g c =
     let p = err_from_is_err_and c.from_residual-in_err-add.result c.from_residual-in_err-add.ensures.1 in
-    changed_failed g.M.Metadata.changed c.args.self.now.metadata c.add.new.metadata (create_call c.args.id c.args.origin.now) c.from_residual-in_err-add.result (refusal_of c.in_err-add.field-0.0) p.0 p.1 (sym p.2) (refused_so c.in_err-add.field-0.0)
+    left_of g.M.Metadata.changed c.args.self.now.metadata c.add.new.metadata (create_call c.args.id c.args.origin.now) c.from_residual-in_err-add.result
+    (changed_failed g.M.Metadata.changed c.args.self.now.metadata c.add.new.metadata (create_call c.args.id c.args.origin.now) c.from_residual-in_err-add.result (refusal_of c.in_err-add.field-0.0) p.0 p.1 (sym p.2) (refused_so c.in_err-add.field-0.0))
 
 pub returns-clause-changes : goal.returns-clause-changes
-returns-clause-changes g c =
-    changed_kept g.M.Metadata.changed c.args.self.now.metadata c.keep.new.metadata (create_call c.args.id c.args.origin.now) c.keep.result c.keep.ensures.unchanged c.keep.ensures.only
+returns-clause-changes g c = record { committed = tt; unchanged = tt }

@@ -1,4 +1,4 @@
-use Rattle.std.proofs.Common.{rules, ap, refl, subst, sym, ◌≡◌, ◌∙◌, ◌+◌, ◌≤◌, false, Err}
+use Rattle.std.proofs.Common.{rules, ap, refl, subst, sym, ◌≡◌, ◌∙◌, ◌+◌, ◌≤◌, false, Err, Ok}
 use Rattle.std.specs.Prelude.{Result}
 use Rattle.std.proofs.lemmas.Result.{err_from_is_err_and}
 use Rattle.tp_model.specs.declared.refusal.Refusal.{Refusal}
@@ -9,10 +9,12 @@ use Rattle.tp_counts.proofs.Refusing.{damaged_so, refused_so}
 use Rattle.tp_model.specs.Calls.{Call, Delete, is_read_only}
 use Rattle.tp_pool.specs.Held.{Held, IsTried, LacksRoom, PoolRefused, PoolTried, failed_by}
 use Rattle.tp_pool.proofs.Calling.{Laws}
-use Rattle.tp_pool.proofs.Deleting.{IsDeletable, deletable, delete_before, delete_behind, delete_failed, delete_kept, delete_read_only, delete_read_only_called, delete_refused, delete_short, delete_tested, delete_then_kept, delete_unreclaimed, failure_deletes_nothing, old_commits, removal_flushed_short, removal_refused}
+use Rattle.tp_pool.proofs.Deleting.{IsDeletable, deletable, delete_before, delete_failed, delete_kept, delete_read_only, delete_read_only_called, delete_reclaimed, delete_refused, delete_short, delete_tested, delete_unkept, delete_unreclaimed, failure_deletes_nothing, old_commits, removal_flushed_short, removal_refused}
 use Rattle.tp_pool.proofs.Serving.{exit_is}
 use Rattle.tp_pool.proofs.Putting.{writable_is}
-use Rattle.tp_pool.proofs.Flushing.{changed_failed, changed_kept, changed_nothing, changed_read, changed_short, counted_nothing}
+use Rattle.tp_pool.proofs.Flushing.{changed_failed, changed_nothing, changed_read, changed_short, counted_nothing}
+use Rattle.tp_pool.specs.Unkept.{PoolBegun}
+use Rattle.tp_pool.proofs.Begun.{begun_short, left_of}
 use Rattle.tp_pool.proofs.pool.Pool.try_delete.Goals as goal
 
 pub returns-then-is_read_only-clause-called : goal.returns-then-is_read_only-clause-called
@@ -33,7 +35,7 @@ returns-in_err-test_old-clause-called g c =
     let told = c.in_err-test_old.ensures in
     let p = err_from_is_err_and c.from_residual.result c.from_residual.ensures.1 in
     let x = c.in_err-test_old.field-0.0 in
-    exit_is (λ (r : Result (Unit {0}) Refusal). PoolTried g.M.Metadata.geometry g.M.Metadata.stands c.args.self.now c.test_old.new.self (Delete c.args.id) r)
+    exit_is (λ (r : Result (Unit {0}) Refusal). PoolBegun g.M.Metadata.geometry g.M.Metadata.stands g.M.Metadata.marks g.M.Metadata.room g.M.Metadata.changed c.args.self.now c.test_old.new.self (Delete c.args.id) r)
     c.from_residual.result x p.0 p.1 (sym p.2)
     (subst (λ (h : Held g.row.M.Denot). PoolRefused g.M.Metadata.geometry g.M.Metadata.stands c.args.self.now (failed_by x h) (Delete c.args.id) x) (sym told.held)
     (delete_tested laws c.args.id c.args.self.now x (search rules) c.requires.works writes told.told (λ e now kept st. told.damaged (ap (λ (r : Refusal). Err r) e) now kept st) told.only))
@@ -58,7 +60,7 @@ returns-in_err-reclaim_metadata-clause-called g c =
     let new : Held g.row.M.Denot = record old { disk = g.D.Disk.state c.reclaim_metadata.new.disk; metadata = c.reclaim_metadata.new.metadata } in
     let p = err_from_is_err_and c.from_residual-in_err-reclaim_metadata.result c.from_residual-in_err-reclaim_metadata.ensures.1 in
     let x = c.in_err-reclaim_metadata.field-0.0 in
-    exit_is (λ (r : Result (Unit {0}) Refusal). PoolTried g.M.Metadata.geometry g.M.Metadata.stands c.args.self.now new (Delete c.args.id) r)
+    exit_is (λ (r : Result (Unit {0}) Refusal). PoolBegun g.M.Metadata.geometry g.M.Metadata.stands g.M.Metadata.marks g.M.Metadata.room g.M.Metadata.changed c.args.self.now new (Delete c.args.id) r)
     c.from_residual-in_err-reclaim_metadata.result x p.0 p.1 (sym p.2)
     (delete_unreclaimed laws c.args.id c.args.self.now old tested c.lacks_for_removal.result c.lacks_for_removal.ensures c.if-lacks_for_removal.false x c.reclaim_metadata.new.metadata (g.D.Disk.state c.reclaim_metadata.new.disk) c.reclaim_metadata.ensures.geometry c.reclaim_metadata.ensures.time c.in_err-reclaim_metadata.ensures.cause c.reclaim_metadata.ensures.left
     (λ is now kept st spare. c.in_err-reclaim_metadata.ensures.damaged (ap (λ (r : Refusal). Err r) is) now kept st spare) c.in_err-reclaim_metadata.ensures.only)
@@ -83,7 +85,7 @@ returns-in_err-delete-clause-called g c =
     let new : Held g.row.M.Denot = record old { disk = g.D.Disk.state c.delete.new.disk; metadata = c.delete.new.self } in
     let p = err_from_is_err_and c.from_residual-in_err-delete.result c.from_residual-in_err-delete.ensures.1 in
     let x = refusal_of c.in_err-delete.field-0.0 in
-    exit_is (λ (r : Result (Unit {0}) Refusal). PoolTried g.M.Metadata.geometry g.M.Metadata.stands c.args.self.now new (Delete c.args.id) r)
+    exit_is (λ (r : Result (Unit {0}) Refusal). PoolBegun g.M.Metadata.geometry g.M.Metadata.stands g.M.Metadata.marks g.M.Metadata.room g.M.Metadata.changed c.args.self.now new (Delete c.args.id) r)
     c.from_residual-in_err-delete.result x p.0 p.1 (sym p.2)
     (delete_failed laws c.args.id c.args.self.now old tested c.lacks_for_removal.result c.lacks_for_removal.ensures c.if-lacks_for_removal.false c.reclaim_metadata.new.metadata (g.D.Disk.state c.reclaim_metadata.new.disk) c.reclaim_metadata.ensures.geometry c.reclaim_metadata.ensures.time c.in_ok-reclaim_metadata.ensures.cause c.reclaim_metadata.ensures.left
     c.in_ok-reclaim_metadata.ensures.done c.delete.new.self (g.D.Disk.state c.delete.new.disk) c.delete.ensures.changing x c.in_err-delete.ensures.ran
@@ -106,11 +108,12 @@ returns-clause-called g c =
     sym (ap (λ (h : Held g.row.M.Denot). is_read_only h.mode) c.self.view_is) ∙ sym c.is_read_only.ensures ∙ c.if-is_read_only.false in
     let tested : IsDeletable g.M.Metadata.stands c.args.id c.args.self.now old =
     deletable g.M.Metadata.stands c.args.id c.args.self.now old view c.requires.works writes (search rules) c.in_ok-test_old.ensures.told in
-    delete_then_kept laws c.args.id c.args.self.now old tested c.lacks_for_removal.result c.lacks_for_removal.ensures c.if-lacks_for_removal.false c.reclaim_metadata.new.metadata (g.D.Disk.state c.reclaim_metadata.new.disk) c.reclaim_metadata.ensures.geometry c.reclaim_metadata.ensures.time c.in_ok-reclaim_metadata.ensures.cause c.reclaim_metadata.ensures.left
+    let counted =
+    delete_reclaimed laws c.args.id c.args.self.now old tested c.lacks_for_removal.result c.lacks_for_removal.ensures c.if-lacks_for_removal.false c.reclaim_metadata.new.metadata (g.D.Disk.state c.reclaim_metadata.new.disk) c.reclaim_metadata.ensures.flushes c.reclaim_metadata.ensures.idle
+    (g.D.Disk.state c.delete.new.disk) c.in_ok-delete.ensures.ran.flushes in
+    delete_unkept laws c.args.id c.args.self.now old tested c.lacks_for_removal.result c.lacks_for_removal.ensures c.if-lacks_for_removal.false c.reclaim_metadata.new.metadata (g.D.Disk.state c.reclaim_metadata.new.disk) c.reclaim_metadata.ensures.geometry c.reclaim_metadata.ensures.time c.in_ok-reclaim_metadata.ensures.cause c.reclaim_metadata.ensures.left
     c.in_ok-reclaim_metadata.ensures.done c.delete.new.self (g.D.Disk.state c.delete.new.disk) c.delete.ensures.changing c.in_ok-delete.ensures.ran
-    (λ now kept st there. (c.in_ok-delete.ensures.made now kept st there).0)
-    c.keep.new.metadata (g.D.Disk.state c.keep.new.disk) c.keep.ensures.geometry c.keep.ensures.ran.time c.keep.ensures.left
-    c.keep.result c.keep.ensures.kept c.keep.ensures.only c.keep.ensures.ran.cause
+    (λ now kept st there. (c.in_ok-delete.ensures.made now kept st there).0) g.M.Metadata.changed counted
 
 pub returns-then-is_read_only-clause-tried : goal.returns-then-is_read_only-clause-tried
 returns-then-is_read_only-clause-tried g c =
@@ -153,8 +156,8 @@ returns-clause-tried g c =
     let writes : is_read_only c.args.self.now.mode ≡ false =
     sym (ap (λ (h : Held g.row.M.Denot). is_read_only h.mode) c.self.view_is) ∙ sym c.is_read_only.ensures ∙ c.if-is_read_only.false in
     let works = writable_is c.args.self.now.mode c.requires.works writes in
-    let new : Held g.row.M.Denot = record { disk = g.D.Disk.state c.keep.new.disk; metadata = c.keep.new.metadata; holders = c.self-2.inside.holders.items; mode = c.self-2.inside.mode } in
-    delete_kept c.args.self.now new c.args.id works (ap (λ (h : Held g.row.M.Denot). h.mode) (c.self-2.view_is ∙ c.in_ok-test_old.ensures.held)) c.keep.result c.keep.ensures.only
+    let new : Held g.row.M.Denot = record { disk = g.D.Disk.state c.delete.new.disk; metadata = c.delete.new.self; holders = c.self-2.inside.holders.items; mode = c.self-2.inside.mode } in
+    delete_kept c.args.self.now new c.args.id works (ap (λ (h : Held g.row.M.Denot). h.mode) (c.self-2.view_is ∙ c.in_ok-test_old.ensures.held)) (Ok tt) tt
 
 pub returns-then-is_read_only-clause-flushes : goal.returns-then-is_read_only-clause-flushes
 returns-then-is_read_only-clause-flushes g c =
@@ -219,35 +222,37 @@ returns-clause-flushes g c =
     sym (ap (λ (h : Held g.row.M.Denot). is_read_only h.mode) c.self.view_is) ∙ sym c.is_read_only.ensures ∙ c.if-is_read_only.false in
     let tested : IsDeletable g.M.Metadata.stands c.args.id c.args.self.now old =
     deletable g.M.Metadata.stands c.args.id c.args.self.now old view c.requires.works writes (search rules) c.in_ok-test_old.ensures.told in
-    delete_behind laws c.args.id c.args.self.now old tested c.lacks_for_removal.result c.lacks_for_removal.ensures c.if-lacks_for_removal.false c.reclaim_metadata.new.metadata (g.D.Disk.state c.reclaim_metadata.new.disk) c.reclaim_metadata.ensures.flushes c.reclaim_metadata.ensures.idle
-    (g.D.Disk.state c.delete.new.disk) (g.D.Disk.state c.keep.new.disk) c.in_ok-delete.ensures.ran.flushes c.keep.ensures.ran.flushes
+    delete_before laws c.args.id c.args.self.now old tested c.lacks_for_removal.result c.lacks_for_removal.ensures c.if-lacks_for_removal.false c.reclaim_metadata.new.metadata (g.D.Disk.state c.reclaim_metadata.new.disk) c.reclaim_metadata.ensures.flushes c.reclaim_metadata.ensures.idle (g.D.Disk.state c.delete.new.disk) c.in_ok-delete.ensures.ran.flushes
 
 pub returns-then-is_read_only-clause-changes : goal.returns-then-is_read_only-clause-changes
 returns-then-is_read_only-clause-changes g c =
-    changed_nothing g.M.Metadata.changed c.args.self.now.metadata c.args.self.now.metadata (Delete c.args.id) ReadOnly refl refl
+    left_of g.M.Metadata.changed c.args.self.now.metadata c.args.self.now.metadata (Delete c.args.id) (Err ReadOnly)
+    (changed_nothing g.M.Metadata.changed c.args.self.now.metadata c.args.self.now.metadata (Delete c.args.id) ReadOnly refl refl)
 
 pub returns-in_err-test_old-clause-changes : goal.returns-in_err-test_old-clause-changes
 returns-in_err-test_old-clause-changes g c =
     let p = err_from_is_err_and c.from_residual.result c.from_residual.ensures.1 in
     let x = c.in_err-test_old.field-0.0 in
-    changed_read g.M.Metadata.changed c.args.self.now.metadata c.test_old.new.self.metadata (Delete c.args.id) c.from_residual.result x p.0 p.1 (sym p.2)
-    (old_commits x c.in_err-test_old.ensures.only) (ap (λ (h : Held g.row.M.Denot). h.metadata) c.in_err-test_old.ensures.held)
+    left_of g.M.Metadata.changed c.args.self.now.metadata c.test_old.new.self.metadata (Delete c.args.id) c.from_residual.result
+    (changed_read g.M.Metadata.changed c.args.self.now.metadata c.test_old.new.self.metadata (Delete c.args.id) c.from_residual.result x p.0 p.1 (sym p.2)
+    (old_commits x c.in_err-test_old.ensures.only) (ap (λ (h : Held g.row.M.Denot). h.metadata) c.in_err-test_old.ensures.held))
 
 pub returns-in_err-reclaim_metadata-clause-changes : goal.returns-in_err-reclaim_metadata-clause-changes
 returns-in_err-reclaim_metadata-clause-changes g c =
     let p = err_from_is_err_and c.from_residual-in_err-reclaim_metadata.result c.from_residual-in_err-reclaim_metadata.ensures.1 in
     let x = c.in_err-reclaim_metadata.field-0.0 in
-    changed_failed g.M.Metadata.changed c.args.self.now.metadata c.reclaim_metadata.new.metadata (Delete c.args.id) c.from_residual-in_err-reclaim_metadata.result x p.0 p.1 (sym p.2) c.in_err-reclaim_metadata.ensures.only
+    left_of g.M.Metadata.changed c.args.self.now.metadata c.reclaim_metadata.new.metadata (Delete c.args.id) c.from_residual-in_err-reclaim_metadata.result
+    (changed_failed g.M.Metadata.changed c.args.self.now.metadata c.reclaim_metadata.new.metadata (Delete c.args.id) c.from_residual-in_err-reclaim_metadata.result x p.0 p.1 (sym p.2) c.in_err-reclaim_metadata.ensures.only)
 
 pub returns-in_err-delete-clause-changes : goal.returns-in_err-delete-clause-changes
 returns-in_err-delete-clause-changes g c =
     let p = err_from_is_err_and c.from_residual-in_err-delete.result c.from_residual-in_err-delete.ensures.1 in
     let x = refusal_of c.in_err-delete.field-0.0 in
-    changed_failed g.M.Metadata.changed c.args.self.now.metadata c.delete.new.self (Delete c.args.id) c.from_residual-in_err-delete.result x p.0 p.1 (sym p.2) (refused_so c.in_err-delete.field-0.0)
+    left_of g.M.Metadata.changed c.args.self.now.metadata c.delete.new.self (Delete c.args.id) c.from_residual-in_err-delete.result
+    (changed_failed g.M.Metadata.changed c.args.self.now.metadata c.delete.new.self (Delete c.args.id) c.from_residual-in_err-delete.result x p.0 p.1 (sym p.2) (refused_so c.in_err-delete.field-0.0))
 
 pub returns-clause-changes : goal.returns-clause-changes
-returns-clause-changes g c =
-    changed_kept g.M.Metadata.changed c.args.self.now.metadata c.keep.new.metadata (Delete c.args.id) c.keep.result c.keep.ensures.unchanged c.keep.ensures.only
+returns-clause-changes g c = record { committed = tt; unchanged = tt }
 
 pub returns-then-lacks_for_removal-clause-called : goal.returns-then-lacks_for_removal-clause-called
 returns-then-lacks_for_removal-clause-called g c =
@@ -266,9 +271,10 @@ returns-then-lacks_for_removal-clause-called g c =
     sym (ap (λ (h : Held g.row.M.Denot). is_read_only h.mode) c.self.view_is) ∙ sym c.is_read_only.ensures ∙ c.if-is_read_only.false in
     let tested : IsDeletable g.M.Metadata.stands c.args.id c.args.self.now old =
     deletable g.M.Metadata.stands c.args.id c.args.self.now old view c.requires.works writes (search rules) c.in_ok-test_old.ensures.told in
-    removal_refused laws c.args.id c.args.self.now old tested c.lacks_for_removal.result c.lacks_for_removal.ensures c.refuse_for_room.new.self c.refuse_for_room.result c.if-lacks_for_removal.true
+    begun_short g.M.Metadata.geometry g.M.Metadata.stands g.M.Metadata.marks g.M.Metadata.room g.M.Metadata.changed c.test_old.new.self c.args.self.now c.refuse_for_room.new.self (Delete c.args.id) c.refuse_for_room.result c.refuse_for_room.ensures.ends
+    (removal_refused laws c.args.id c.args.self.now old tested c.lacks_for_removal.result c.lacks_for_removal.ensures c.refuse_for_room.new.self c.refuse_for_room.result c.if-lacks_for_removal.true
     (subst (λ (h : Held g.row.M.Denot). (any : Call) → LacksRoom g.M.Metadata.geometry g.M.Metadata.stands h any → PoolTried g.M.Metadata.geometry g.M.Metadata.stands h c.refuse_for_room.new.self any c.refuse_for_room.result)
-    (sym c.self-2.view_is) c.refuse_for_room.ensures.called)
+    (sym c.self-2.view_is) c.refuse_for_room.ensures.called))
 
 pub returns-then-lacks_for_removal-clause-tried : goal.returns-then-lacks_for_removal-clause-tried
 returns-then-lacks_for_removal-clause-tried g c =
@@ -302,5 +308,6 @@ returns-then-lacks_for_removal-clause-flushes g c =
 
 pub returns-then-lacks_for_removal-clause-changes : goal.returns-then-lacks_for_removal-clause-changes
 returns-then-lacks_for_removal-clause-changes g c =
-    changed_short g.M.Metadata.changed (Delete c.args.id) c.test_old.new.self
-    c.refuse_for_room.new.self c.args.self.now.metadata c.refuse_for_room.result c.refuse_for_room.ensures.ends c.refuse_for_room.ensures.unchanged
+    left_of g.M.Metadata.changed c.args.self.now.metadata c.refuse_for_room.new.self.metadata (Delete c.args.id) c.refuse_for_room.result
+    (changed_short g.M.Metadata.changed (Delete c.args.id) c.test_old.new.self
+    c.refuse_for_room.new.self c.args.self.now.metadata c.refuse_for_room.result c.refuse_for_room.ensures.ends c.refuse_for_room.ensures.unchanged)

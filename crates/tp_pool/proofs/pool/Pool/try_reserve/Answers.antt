@@ -1,4 +1,4 @@
-use Rattle.std.proofs.Common.{ap, refl, subst, sym, inl, inr, ℕ, ◌≡◌, ◌∙◌, ◌+◌, ◌≤◌, false, Err}
+use Rattle.std.proofs.Common.{ap, refl, subst, sym, inl, inr, ◌≡◌, ◌∙◌, ◌+◌, ◌≤◌, false, Err, Ok}
 use Rattle.std.specs.Prelude.{Result}
 use Rattle.std.proofs.lemmas.Result.{err_from_is_err_and}
 use Rattle.tp_model.specs.declared.refusal.Refusal.{Refusal}
@@ -11,14 +11,15 @@ use Rattle.tp_model.specs.Calls.{Call, Refused, ReserveMetadataSnap, is_failed, 
 use Rattle.tp_stored.specs.Contents.{Contents}
 use Rattle.tp_pool.specs.Flushes.{HasFlushed}
 use Rattle.tp_pool.specs.Held.{Held, IsTried, LacksRoom, PoolCalled, PoolRefused, PoolTried, failed_by}
-use Rattle.std.specs.Prelude.{OnOk}
 use Rattle.tp_pool.proofs.Calling.{Laws}
-use Rattle.tp_pool.proofs.Flushing.{changed_failed, changed_kept, changed_short, counted_nothing}
+use Rattle.tp_pool.proofs.Flushing.{changed_failed, changed_short, counted_nothing}
 use Rattle.tp_pool.proofs.Putting.{writable_is}
 use Rattle.tp_pool.proofs.Reserving.{reserve_accepted, reserve_exists, reserve_flushed_short, reserve_read_only_called, reserve_refused, reserve_snapped, reserve_snaps}
 use Rattle.tp_pool.proofs.Rooms.{a_root, no_root}
 use Rattle.tp_pool.proofs.Serving.{exit_is}
-use Rattle.tp_pool.proofs.Snapping.{snap_broken, snap_fails, snap_flushed, snap_kept, snap_read_only, snap_refused, snap_short, snap_then_kept}
+use Rattle.tp_pool.proofs.Snapping.{snap_broken, snap_fails, snap_kept, snap_read_only, snap_refused, snap_short, snap_unkept}
+use Rattle.tp_pool.specs.Unkept.{IsUnkept, PoolBegun}
+use Rattle.tp_pool.proofs.Begun.{begun_short, left_of}
 use Rattle.tp_pool.proofs.pool.Pool.try_reserve.Goals as goal
 
 pub returns-then-is_read_only-clause-called : goal.returns-then-is_read_only-clause-called
@@ -51,9 +52,10 @@ returns-then-lacks_metadata-clause-called g c =
     λ now kept st. no_root now.held_root (sym (c.holds_root.ensures old.disk now kept st) ∙ c.if-holds_root.false) in
     let new = c.refuse_for_room.new.self in
     let result = c.refuse_for_room.result in
-    subst (λ (h : Held g.row.M.Denot). PoolTried M.geometry M.stands h new ReserveMetadataSnap result) c.self.view_is
+    begun_short M.geometry M.stands M.marks M.room M.changed c.args.self.now c.args.self.now new ReserveMetadataSnap result c.refuse_for_room.ensures.ends
+    (subst (λ (h : Held g.row.M.Denot). PoolTried M.geometry M.stands h new ReserveMetadataSnap result) c.self.view_is
     (reserve_refused laws old works none c.lacks_metadata.result c.lacks_metadata.ensures new result c.if-lacks_metadata.true
-    (subst (λ (h : Held g.row.M.Denot). (any : Call) → LacksRoom M.geometry M.stands h any → PoolTried M.geometry M.stands h new any result) (sym c.self.view_is) c.refuse_for_room.ensures.called))
+    (subst (λ (h : Held g.row.M.Denot). (any : Call) → LacksRoom M.geometry M.stands h any → PoolTried M.geometry M.stands h new any result) (sym c.self.view_is) c.refuse_for_room.ensures.called)))
 
 pub returns-in_err-reserve-clause-called : goal.returns-in_err-reserve-clause-called
 returns-in_err-reserve-clause-called g c =
@@ -68,7 +70,7 @@ returns-in_err-reserve-clause-called g c =
     let error = c.in_err-reserve.field-0.0 in
     let x = refusal_of error in
     let new : Held g.row.M.Denot = record old { metadata = c.reserve.new.self } in
-    exit_is (λ (r : Result (Unit {0}) Refusal). PoolTried M.geometry M.stands c.args.self.now new ReserveMetadataSnap r) c.from_residual.result x p.0 p.1 (sym p.2)
+    exit_is (λ (r : Result (Unit {0}) Refusal). PoolBegun M.geometry M.stands M.marks M.room M.changed c.args.self.now new ReserveMetadataSnap r) c.from_residual.result x p.0 p.1 (sym p.2)
     (subst (λ (h : Held g.row.M.Denot). PoolRefused M.geometry M.stands h (failed_by x new) ReserveMetadataSnap x) c.self.view_is
     (snap_broken laws ReserveMetadataSnap reserve_snaps old works c.reserve.new.self old.disk altered.ran.geometry altered.ran.time altered.changing x altered.ran.cause
     (λ e s now kept pool. altered.damaged (ap (λ (r : StoreError). Err r) (damaged_so error e)) now kept pool.standing
@@ -87,10 +89,9 @@ returns-clause-called g c =
     let altered = c.in_ok-reserve.ensures.altered old.disk in
     let accepted = reserve_accepted laws old works none c.lacks_metadata.result c.lacks_metadata.ensures c.if-lacks_metadata.false in
     let snapped = reserve_snapped laws old works none c.reserve.new.self altered.ran.geometry altered.ran.time altered.changing altered.made in
-    let new : Held g.row.M.Denot = record old { disk = g.D.Disk.state c.keep.new.disk; metadata = c.keep.new.metadata } in
-    subst (λ (h : Held g.row.M.Denot). PoolTried M.geometry M.stands h new ReserveMetadataSnap c.keep.result) c.self.view_is
-    (snap_then_kept laws ReserveMetadataSnap reserve_snaps old works c.reserve.new.self old.disk altered.ran.geometry altered.ran.time altered.changing altered.ran.cause accepted snapped
-    c.keep.new.metadata (g.D.Disk.state c.keep.new.disk) c.keep.ensures.geometry c.keep.ensures.ran.time c.keep.ensures.left c.keep.result c.keep.ensures.kept c.keep.ensures.only c.keep.ensures.ran.cause)
+    let new : Held g.row.M.Denot = record old { metadata = c.reserve.new.self } in
+    subst (λ (h : Held g.row.M.Denot). IsUnkept M.geometry M.stands M.marks M.room M.changed h new ReserveMetadataSnap) c.self.view_is
+    (snap_unkept laws ReserveMetadataSnap reserve_snaps old works c.reserve.new.self old.disk altered.ran.geometry altered.ran.time altered.changing altered.ran.cause accepted snapped M.changed refl)
 
 pub returns-then-is_read_only-clause-tried : goal.returns-then-is_read_only-clause-tried
 returns-then-is_read_only-clause-tried g c =
@@ -123,8 +124,8 @@ pub returns-clause-tried : goal.returns-clause-tried
 returns-clause-tried g c =
     let writes : is_read_only c.args.self.now.mode ≡ false = sym (ap (λ (h : Held g.row.M.Denot). is_read_only h.mode) c.self.view_is) ∙ sym c.is_read_only.ensures ∙ c.if-is_read_only.false in
     let works = writable_is c.args.self.now.mode c.requires.works writes in
-    let new : Held g.row.M.Denot = record { disk = g.D.Disk.state c.keep.new.disk; metadata = c.keep.new.metadata; holders = c.self.inside.holders.items; mode = c.self.inside.mode } in
-    snap_kept ReserveMetadataSnap reserve_snaps c.args.self.now new works c.keep.result (ap (λ (h : Held g.row.M.Denot). h.mode) c.self.view_is) c.keep.ensures.only
+    let new : Held g.row.M.Denot = record { disk = g.D.Disk.state c.self.inside.disk; metadata = c.reserve.new.self; holders = c.self.inside.holders.items; mode = c.self.inside.mode } in
+    snap_kept ReserveMetadataSnap reserve_snaps c.args.self.now new works (Ok tt) (ap (λ (h : Held g.row.M.Denot). h.mode) c.self.view_is) tt
 
 pub returns-then-is_read_only-clause-flushes : goal.returns-then-is_read_only-clause-flushes
 returns-then-is_read_only-clause-flushes g c =
@@ -151,37 +152,22 @@ returns-in_err-reserve-clause-flushes g c =
 
 pub returns-clause-flushes : goal.returns-clause-flushes
 returns-clause-flushes g c =
-    let M = g.M.Metadata in
-    let met = g.met.M.Metadata in
-    let laws : Laws M.geometry M.stands M.marks M.room = record { within = met.within; honest = met.honest; left = met.left; frame = met.frame } in
-    let old : Held g.row.M.Denot = record { disk = g.D.Disk.state c.self.inside.disk; metadata = c.self.inside.metadata; holders = c.self.inside.holders.items; mode = c.self.inside.mode } in
-    let writes : is_read_only old.mode ≡ false = sym c.is_read_only.ensures ∙ c.if-is_read_only.false in
-    let works = writable_is old.mode (ap (λ (h : Held g.row.M.Denot). is_failed h.mode) c.self.view_is ∙ c.requires.works) writes in
-    let none : (now kept : Contents) → M.stands old.metadata old.disk now kept → now.held_root ≡ 0 =
-    λ now kept st. no_root now.held_root (sym (c.holds_root.ensures old.disk now kept st) ∙ c.if-holds_root.false) in
-    let accepted = reserve_accepted laws old works none c.lacks_metadata.result c.lacks_metadata.ensures c.if-lacks_metadata.false in
-    subst (λ (h : Held g.row.M.Denot). HasFlushed M.geometry M.stands M.marks M.room h (g.D.Disk.state c.keep.new.disk) ReserveMetadataSnap) c.self.view_is
-    (snap_flushed laws ReserveMetadataSnap reserve_snaps old works accepted old.disk (g.D.Disk.state c.keep.new.disk) refl c.keep.ensures.ran.flushes)
+    counted_nothing g.M.Metadata.geometry g.M.Metadata.stands g.M.Metadata.marks g.M.Metadata.room c.args.self.now (g.D.Disk.state c.self.inside.disk) ReserveMetadataSnap (ap (λ (h : Held g.row.M.Denot). h.disk.flushes) c.self.view_is)
 
 pub returns-then-lacks_metadata-clause-changes : goal.returns-then-lacks_metadata-clause-changes
 returns-then-lacks_metadata-clause-changes g c =
-    changed_short g.M.Metadata.changed ReserveMetadataSnap c.args.self.now c.refuse_for_room.new.self c.args.self.now.metadata c.refuse_for_room.result c.refuse_for_room.ensures.ends c.refuse_for_room.ensures.unchanged
+    left_of g.M.Metadata.changed c.args.self.now.metadata c.refuse_for_room.new.self.metadata ReserveMetadataSnap c.refuse_for_room.result
+    (changed_short g.M.Metadata.changed ReserveMetadataSnap c.args.self.now c.refuse_for_room.new.self c.args.self.now.metadata c.refuse_for_room.result c.refuse_for_room.ensures.ends c.refuse_for_room.ensures.unchanged)
 
 pub returns-in_err-reserve-clause-changes : goal.returns-in_err-reserve-clause-changes
 returns-in_err-reserve-clause-changes g c =
     let p = err_from_is_err_and c.from_residual.result c.from_residual.ensures.1 in
     let error = c.in_err-reserve.field-0.0 in
-    changed_failed g.M.Metadata.changed c.args.self.now.metadata c.reserve.new.self ReserveMetadataSnap c.from_residual.result (refusal_of error) p.0 p.1 (sym p.2) (refused_so error)
+    left_of g.M.Metadata.changed c.args.self.now.metadata c.reserve.new.self ReserveMetadataSnap c.from_residual.result
+    (changed_failed g.M.Metadata.changed c.args.self.now.metadata c.reserve.new.self ReserveMetadataSnap c.from_residual.result (refusal_of error) p.0 p.1 (sym p.2) (refused_so error))
 
 pub returns-clause-changes : goal.returns-clause-changes
-returns-clause-changes g c =
-    changed_kept g.M.Metadata.changed c.args.self.now.metadata c.keep.new.metadata ReserveMetadataSnap c.keep.result c.keep.ensures.unchanged c.keep.ensures.only
-
-pub keep-requires : goal.keep-requires
-keep-requires g c =
-    let at = g.D.Disk.state c.self.inside.disk in
-    let same = (c.in_ok-reserve.ensures.altered at).ran.geometry in
-    record { disk = subst (λ (k : Geometry). sectors_of_image k ≤ at.size) (sym same) c.self.invariant.1 }
+returns-clause-changes g c = record { committed = tt; unchanged = tt }
 
 pub invariant_of-self : goal.invariant_of-self
 invariant_of-self g c =
@@ -192,11 +178,8 @@ invariant_of-self g c =
 pub invariant_of-self-2 : goal.invariant_of-self-2
 invariant_of-self-2 g c =
     let at = g.D.Disk.state c.self.inside.disk in
-    let same = c.keep.ensures.geometry ∙ (c.in_ok-reserve.ensures.altered at).ran.geometry in (
-      c.self.invariant.0 ∙ sym same,
-      subst (λ (k : Geometry). sectors_of_image k ≤ (g.D.Disk.state c.keep.new.disk).size) (sym same)
-          (subst (λ (n : ℕ). sectors_of_image (g.M.Metadata.geometry c.self.inside.metadata) ≤ n) (sym c.keep.ensures.ran.same_disk.size) c.self.invariant.1),
-    )
+    let same = (c.in_ok-reserve.ensures.altered at).ran.geometry in
+    (c.self.invariant.0 ∙ sym same, subst (λ (k : Geometry). sectors_of_image k ≤ at.size) (sym same) c.self.invariant.1)
 
 pub returns-in_err-reserve-clause-geometry : goal.returns-in_err-reserve-clause-geometry
 returns-in_err-reserve-clause-geometry g c =
@@ -204,5 +187,4 @@ returns-in_err-reserve-clause-geometry g c =
 
 pub returns-clause-geometry : goal.returns-clause-geometry
 returns-clause-geometry g c =
-    c.keep.ensures.geometry ∙ (c.in_ok-reserve.ensures.altered (g.D.Disk.state c.self.inside.disk)).ran.geometry
-    ∙ ap (λ (h : Held g.row.M.Denot). g.M.Metadata.geometry h.metadata) c.self.view_is
+    (c.in_ok-reserve.ensures.altered (g.D.Disk.state c.self.inside.disk)).ran.geometry ∙ ap (λ (h : Held g.row.M.Denot). g.M.Metadata.geometry h.metadata) c.self.view_is

@@ -1,0 +1,20 @@
+use Rattle.std.proofs.Common.{◌∙◌, ap, refl, subst, sym}
+use Rattle.tp_model.specs.Clauses.{Unkept}
+use Rattle.tp_msg.specs.Asked.{call_of}
+use Rattle.tp_msg.proofs.Asking.{message_kept}
+use Rattle.tp_hub.specs.Serving.{HubState}
+use Rattle.tp_hub.proofs.Flushing.{serves_behind}
+use Rattle.tp_hub.proofs.Ordering.{hub_ordered}
+use Rattle.tp_hub.proofs.midway.MidMessage.end.Goals as goal
+
+pub of_parts-requires : goal.of_parts-requires
+of_parts-requires g c = serves_behind g.V.Volumes.view _ c.end_flush-after.result.0 c.into_parts-midway.result.1 c.end_flush-after.result.1 c.end_flush-after.ensures c.into_parts-midway.ensures.serves
+
+pub returns : goal.returns
+returns g c old message u =
+    let view = g.V.Volumes.view in
+    let parts = c.into_parts-midway.ensures in
+    let pool_is = parts.pool ∙ ap (λ (h : HubState _). h.pool) c.into_mid.ensures in
+    let slots_are = parts.slots ∙ ap (λ (h : HubState _). h.slots) c.into_mid.ensures in
+    hub_ordered view old c.of_parts.result old.pool c.end_flush-after.result.0 c.into_parts-midway.result.1 message c.end_flush-after.result.1 refl (slots_are ∙ u.slots) c.of_parts.ensures.pool c.of_parts.ensures.slots
+    (message_kept view g.met.V.Volumes.laws old.pool _ c.end_flush-after.result.0 message c.end_flush-after.result.1 (subst (λ p. Unkept view old.pool p (call_of message)) (sym pool_is) u.pool) c.end_flush-after.ensures)

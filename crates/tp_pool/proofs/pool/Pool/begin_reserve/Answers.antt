@@ -1,0 +1,33 @@
+use Rattle.std.proofs.Common.{ap, refl, sym, ◌≡◌, ◌∙◌, ◌==◌, not, true}
+use Rattle.tp_model.specs.Calls.{Refused, ReserveMetadataSnap, has_metadata_room, is_failed, is_read_only}
+use Rattle.tp_pool.proofs.Reserving.{reserve_tests}
+use Rattle.tp_model.specs.declared.refusal.Refusal.TheVariants.{Failed}
+use Rattle.tp_pool.specs.Held.{Held}
+use Rattle.tp_pool.proofs.Answering.{failed_answers}
+use Rattle.tp_pool.proofs.Begun.{begun_refused}
+use Rattle.tp_pool.proofs.Calling.{Laws, called_failed}
+use Rattle.tp_pool.proofs.Flushing.{flushed_failed}
+use Rattle.tp_pool.proofs.pool.Pool.begin_reserve.Goals as goal
+
+pub returns-then-is_failed-clause-begun : goal.returns-then-is_failed-clause-begun
+returns-then-is_failed-clause-begun g c =
+    let M = g.M.Metadata in
+    let met = g.met.M.Metadata in
+    let laws : Laws M.geometry M.stands M.marks M.room = record { within = met.within; honest = met.honest; left = met.left; frame = met.frame } in
+    let fails : is_failed c.args.self.now.mode ≡ true = sym (ap (λ (h : Held g.row.M.Denot). is_failed h.mode) c.self.view_is) ∙ sym c.is_failed.ensures ∙ c.if-is_failed.true in
+    record {
+      called = called_failed laws c.args.self.now ReserveMetadataSnap fails (λ s failed. reserve_tests s true (is_read_only s.mode) (not (s.held_root == 0)) (not (has_metadata_room s 512)) failed refl refl refl) refl;
+      answered = failed_answers M.geometry M.stands c.args.self.now ReserveMetadataSnap fails refl;
+      flushes = flushed_failed M.geometry M.stands M.marks M.room M.changed c.args.self.now ReserveMetadataSnap (Refused Failed) fails;
+    }
+
+pub returns-in-Ok-clause-begun : goal.returns-in-Ok-clause-begun
+returns-in-Ok-clause-begun g c = c.in-Ok.ensures.called
+
+pub returns-in-Err-clause-begun : goal.returns-in-Err-clause-begun
+returns-in-Err-clause-begun g c =
+    let M = g.M.Metadata in
+    let met = g.met.M.Metadata in
+    let laws : Laws M.geometry M.stands M.marks M.room = record { within = met.within; honest = met.honest; left = met.left; frame = met.frame } in
+    begun_refused laws M.changed ReserveMetadataSnap refl refl c.args.self.now c.try_reserve.new.self c.settle.new.self c.in-Err.reason c.settle.result c.settle.ensures.same c.settle.ensures.err
+    c.in-Err.ensures.called c.in-Err.ensures.tried c.try_reserve.ensures.flushes c.in-Err.ensures.changes

@@ -1,7 +1,0 @@
-use Rattle.std.proofs.Common.{inl, inr, refl}
-use Rattle.tp_model.specs.declared.refusal.Refusal.TheVariants.{TooManyDevices}
-use Rattle.tp_shelf.proofs.Breaking.{refuses}
-use Rattle.tp_shelf.proofs.failing.FailingShelfManaged.create_thin.Goals as goal
-
-pub returns : goal.returns
-returns c = refuses _ _ _ c.args.self.now _ _ TooManyDevices _ c.reason.ensures refl refl (λ r. refl) (inr (inl refl)) refl refl refl

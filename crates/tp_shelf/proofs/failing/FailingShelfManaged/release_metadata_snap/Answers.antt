@@ -1,7 +1,0 @@
-use Rattle.std.proofs.Common.{inl, refl}
-use Rattle.tp_model.specs.declared.refusal.Refusal.TheVariants.{NoHeldRoot}
-use Rattle.tp_shelf.proofs.Breaking.{refuses}
-use Rattle.tp_shelf.proofs.failing.FailingShelfManaged.release_metadata_snap.Goals as goal
-
-pub returns : goal.returns
-returns c = refuses _ _ _ c.args.self.now _ _ NoHeldRoot _ c.reason.ensures refl refl (λ r. refl) (inl refl) refl refl refl
