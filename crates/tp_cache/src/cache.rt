@@ -121,9 +121,7 @@ impl<D: Disk> Disk for NodeCache<D> {
         ensures flushes { self.new.core.line.inner.flushes ≡ self.old.core.line.inner.flushes }
         ensures alike { FlushedAlike self.old.core.line self.new.core.line }
     {
-        let result = self.core.write(at, bytes);
-        self.core.facts();
-        result
+        self.core.write(at, bytes)
     }
 
     fn flush(&mut self) -> Result<(), Fault>
@@ -134,9 +132,7 @@ impl<D: Disk> Disk for NodeCache<D> {
         ensures flushed { OnOk result (self.new.core.line.inner.flushes ≡ self.old.core.line.inner.flushes + 1) }
         ensures alike { FlushedAlike self.old.core.line self.new.core.line }
     {
-        let result = self.core.flush();
-        self.core.facts();
-        result
+        self.core.flush()
     }
 }
 

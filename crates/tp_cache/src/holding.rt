@@ -2,7 +2,7 @@
 ghost use Rattle.std.specs.Prelude.{◌≡◌, ◌↔◌, ℕ, ◌+◌, ◌*◌, ◌/◌, ◌%◌, ◌<◌, ◌≤◌, ◌^◌, length, replicate, is_ok, IsTrue, MatchResult, OnOk, OnErr, IfNone, IfSome, [], if◌then◌else◌, false};
 ghost use Rattle.std.specs.Bool.{OnTrue};
 ghost use Rattle.tp_model.specs.Sectors.{sectors_of, bytes_at};
-ghost use Rattle.tp_model.specs.Disk.{cell_at, Writes, after_flush, after_read, after_write, seen};
+ghost use Rattle.tp_model.specs.Disk.{IsWellFormed, cell_at, Writes, after_flush, after_read, after_write, seen};
 ghost use Rattle.tp_model.specs.DiskStops.{moment};
 ghost use Rattle.tp_cache.specs.Line.{FlushedAlike, IsLine, WentOn, after_unwritten, begun};
 ghost use Rattle.tp_cache.specs.Table.{IsClean, IsSameTable, MayKeep, slot_of};
@@ -327,6 +327,24 @@ impl<D: Disk> Core<D> {
         ensures table { IsSameTable 1 self.old self.new }
         ensures kept { MayKeep at (length bytes.now) self.old → self.new.line.inner ≡ self.old.line.inner }
         ensures flushes { self.new.line.inner.flushes ≡ self.old.line.inner.flushes }
+        ensures well_formed { IsWellFormed self.new.line.outer.size self.new.line.outer.cells }
+    {
+        let result = self.write_sectors(at, bytes);
+        self.facts();
+        result
+    }
+
+    fn write_sectors(&mut self, at: u64, bytes: &[u8]) -> Result<(), Fault>
+        requires whole { length bytes.now % 512 ≡ 0 }
+        requires within { at + length bytes.now / 512 ≤ self.old.line.outer.size }
+        ensures any { Writes at (sectors_of bytes.now) self.old.line.outer self.new.line.outer }
+        ensures ok { OnOk result (self.new.line.outer ≡ after_write at (sectors_of bytes.now) self.old.line.outer) }
+        ensures err { OnErr result (self.new.line.outer.failures ≡ self.old.line.outer.failures + 1) }
+        ensures moved { moment self.new.line.outer ≡ moment self.old.line.outer + 1 }
+        ensures time { WentOn self.old.line.under self.new.line.under }
+        ensures table { IsSameTable 1 self.old self.new }
+        ensures kept { MayKeep at (length bytes.now) self.old → self.new.line.inner ≡ self.old.line.inner }
+        ensures flushes { self.new.line.inner.flushes ≡ self.old.line.inner.flushes }
     {
         let _ = &self.used;
         match self.block_of(at, bytes.len()) {
@@ -340,6 +358,20 @@ impl<D: Disk> Core<D> {
 
     /// Writes the dirty blocks and flushes the inner disk. The table is emptied only where both succeed.
     pub(crate) fn flush(&mut self) -> Result<(), Fault>
+        ensures outer { self.new.line.outer ≡ after_flush (is_ok result) self.old.line.outer }
+        ensures time { WentOn self.old.line.under self.new.line.under }
+        ensures table { IsSameTable 0 self.old self.new }
+        ensures none { OnOk result (self.new.used ≡ 0) }
+        ensures flushed { OnOk result (self.new.line.inner.flushes ≡ self.old.line.inner.flushes + 1) }
+        ensures alike { FlushedAlike self.old.line self.new.line }
+        ensures well_formed { IsWellFormed self.new.line.outer.size self.new.line.outer.cells }
+    {
+        let result = self.flush_all();
+        self.facts();
+        result
+    }
+
+    fn flush_all(&mut self) -> Result<(), Fault>
         ensures outer { self.new.line.outer ≡ after_flush (is_ok result) self.old.line.outer }
         ensures time { WentOn self.old.line.under self.new.line.under }
         ensures table { IsSameTable 0 self.old self.new }

@@ -1,10 +1,15 @@
 -- Trusted reading: a flush that is made in parts (own).
-use Rattle.std.specs.Prelude.{◌≡◌, Result, MatchResult}
+use Rattle.std.specs.Prelude.{◌≡◌, ◌<◌, ℕ, Result, MatchResult}
 use Rattle.tp_model.specs.Calls.{Done, Flush, Refused}
 use Rattle.tp_model.specs.Clauses.{Meets, View}
 use Rattle.tp_model.specs.declared.refusal.Refusal.{Refusal}
 use Rattle.tp_model.specs.declared.volumes.Flushing.{Flushing}
 use Rattle.tp_model.specs.declared.volumes.Flushing.TheVariants as flushing
+
+-- It is done, or fewer parts than so many are left behind this one. left: how many are left at most of one in the middle of it.
+abbrev pub LeavesFewer : {D M : Type 0} → (M → ℕ) → ℕ → Flushing D M → Type 0
+LeavesFewer left most (flushing.Done new result) = Unit {0}
+LeavesFewer left most (flushing.Midway m) = left m < most
 
 module _ {D : Type 0} (v : View D) where
   -- One flush, with this answer.

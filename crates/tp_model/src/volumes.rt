@@ -5,7 +5,7 @@ ghost use Rattle.tp_model.specs.Pool.{Outline, PlainPool, hold_count, hold_total
 ghost use Rattle.tp_model.specs.Calls.{Done, Flush, Found, Gave, Hold, LetGo, Listed, NextId, Read, Refused, Sized, Trim, VolumeBlocks, Walk, Write, WriteZeroes, is_failed};
 ghost use Rattle.tp_model.specs.PoolStops.{reopened};
 ghost use Rattle.tp_model.specs.Clauses.{EndsInVolume, Meets, View, ViewLaws};
-ghost use Rattle.tp_model.specs.Flushing.{IsFlushed, IsFlushing};
+ghost use Rattle.tp_model.specs.Flushing.{IsFlushed, IsFlushing, LeavesFewer};
 ghost use Rattle.tp_model.specs.Slots.{listed};
 
 use crate::geometry::Geometry;
@@ -133,6 +133,9 @@ pub trait SharedReads<V: Volumes> {
     /// The volumes at which they look.
     ghost of: { Self → V };
 
+    /// How many parts of a flush are left at most: none of volumes that are in the middle of none.
+    ghost left: { Self → ℕ };
+
     /// The sizes of the pool that these volumes are of.
     fn geometry_beside(&self) -> Geometry
         ensures { result ≡ (V.view.outline (of self.now)).geometry };
@@ -156,6 +159,8 @@ pub trait SharedReads<V: Volumes> {
 
 impl<V: SharedVolumes> SharedReads<V> for V {
     ghost of = { λ v. v };
+
+    ghost left = { λ v. 0 };
 
     fn geometry_beside(&self) -> Geometry {
         self.geometry()
@@ -193,9 +198,10 @@ pub trait Staged: SharedVolumes + Sized {
     fn begin_flush(self) -> Flushing<Self, Self::Midway>
         ensures { IsFlushing Self.view Self.Midway.of self result };
 
-    /// The next part, or the rest.
+    /// The next part, or the rest. Each leaves fewer parts than were left before it, so the end is reached by so many calls at most as were left behind the first.
     fn go_on(midway: Self::Midway) -> Flushing<Self, Self::Midway>
-        ensures { IsFlushing Self.view Self.Midway.of (Self.Midway.of midway) result };
+        ensures flushing { IsFlushing Self.view Self.Midway.of (Self.Midway.of midway) result }
+        ensures fewer { LeavesFewer Self.Midway.left (Self.Midway.left midway) result };
 
     /// All parts that are left, one behind the other.
     fn end_flush(midway: Self::Midway) -> (Self, Result<(), Refusal>)

@@ -1,5 +1,5 @@
 -- Trusted reading: a flush of a pool on a cache that is made in parts (own).
-use Rattle.std.specs.Prelude.{◌≡◌, ℕ, Bool, List, Result}
+use Rattle.std.specs.Prelude.{◌≡◌, ℕ, Bool, true, false, List, Result}
 use Rattle.tp_model.specs.declared.refusal.Refusal.{Refusal}
 use Rattle.tp_model.specs.declared.volumes.Flushing.{Flushing}
 use Rattle.tp_model.specs.Geometry.{Geometry}
@@ -9,6 +9,20 @@ use Rattle.tp_cache.specs.Table.{Since}
 use Rattle.tp_stored.specs.Contents.{Contents}
 use Rattle.tp_pool.specs.Midway.{IsMidFlush}
 use Rattle.tp_served.specs.Served.{Cached, IsKnown, cached, on_cache}
+
+-- What a pool in the midst of a flush shows: the pool as it was when the flush was begun, and how many parts are left at most.
+pub record Midst (M : Type 0) : Type 0 where
+  pub was : Cached M
+  pub left : ℕ
+
+-- behind the part that wrote the superblock there is the last one, and before it that one too
+abbrev pub parts_left : Bool → ℕ
+parts_left true = 1
+parts_left false = 2
+
+-- It is done, or fewer parts than so many are left.
+abbrev pub LeavesFewer : {M : Type 0} → ℕ → Flushing (Cached M) (Midst M) → Type 0
+LeavesFewer {M} most result = flushes.LeavesFewer (λ (m : Midst M). m.left) most result
 
 -- geometry, stands, tells, midway, marks, room and changed: of the metadata.
 module _ {M : Type 0} (geometry : M → Geometry) (stands : M → DiskState → Contents → Contents → Type 0) where
@@ -25,5 +39,5 @@ module _ {M : Type 0} (geometry : M → Geometry) (stands : M → DiskState → 
     IsFlushed old new result = flushes.IsFlushed (cached geometry stands marks room changed) old new result
 
     -- It is done; or parts of it are left, and then all reads are still those of the pool before it.
-    abbrev pub IsFlushing : Cached M → Flushing (Cached M) (Cached M) → Type 0
-    IsFlushing old result = flushes.IsFlushing (cached geometry stands marks room changed) (λ m. m) old result
+    abbrev pub IsFlushing : Cached M → Flushing (Cached M) (Midst M) → Type 0
+    IsFlushing old result = flushes.IsFlushing (cached geometry stands marks room changed) (λ (m : Midst M). m.was) old result

@@ -5,7 +5,7 @@ ghost use Rattle.tp_model.specs.Clauses.{EndsInVolume, Meets};
 ghost use Rattle.tp_model.specs.Sectors.{sectors_of};
 ghost use Rattle.tp_model.specs.Slots.{listed};
 ghost use Rattle.tp_served.specs.Served.{cached};
-ghost use Rattle.tp_served.specs.Midway.{IsFlushed, IsFlushing, IsMidway};
+ghost use Rattle.tp_served.specs.Midway.{IsFlushed, IsFlushing, IsMidway, LeavesFewer, parts_left};
 
 use crate::inside::{Inside, end};
 use crate::served::Served;
@@ -25,12 +25,11 @@ pub struct MidServed<D: Disk, M: Metadata> {
 }
 
 impl<D: Disk, M: Metadata> Model for MidServed<D, M> {
-    ghost use Rattle.tp_served.specs.Served as served;
     ghost use Rattle.tp_served.specs.Midway as midway;
 
-    ghost Value = { served.Cached M };
+    ghost Value = { midway.Midst M };
 
-    ghost view = { λ m. record { cache = m.past.held; besides = m.inside.besides } };
+    ghost view = { λ m. record { was = record { cache = m.past.held; besides = m.inside.besides }; left = midway.parts_left m.is_named } };
 
     ghost invariant = { λ m. midway.IsMidway M.geometry M.stands M.tells M.midway (record { cache = m.past.held; besides = m.inside.besides }) m.is_named m.inside };
 }
@@ -86,7 +85,8 @@ fn end_flush_on<D: Disk, M: Metadata, K: Start>(
 pub(crate) fn begin_parts<D: Disk + Drop, M: Metadata + Drop>(
     inside: Inside<D, M>,
 ) -> Flushing<Served<D, M>, MidServed<D, M>>
-    ensures { IsFlushing M.geometry M.stands M.marks M.room M.changed inside result }
+    ensures flushing { IsFlushing M.geometry M.stands M.marks M.room M.changed inside result }
+    ensures few { LeavesFewer 3 result }
 {
     let past = inside.past();
     let (after, answer) = begin_flush_on::<D, M, Brand>(inside);
@@ -97,9 +97,10 @@ pub(crate) fn begin_parts<D: Disk + Drop, M: Metadata + Drop>(
 }
 
 impl<D: Disk + Drop, M: Metadata + Drop> MidServed<D, M> {
-    /// The next part. Behind it, where more is left, `sync_ahead` brings to the device what it wrote, while READs go on.
+    /// The next part. Behind it, where more is left, `sync_ahead` brings to the device what it wrote, while READs go on. Fewer parts are left than before it.
     pub fn go_on(self) -> Flushing<Served<D, M>, MidServed<D, M>>
-        ensures { IsFlushing M.geometry M.stands M.marks M.room M.changed self result }
+        ensures flushing { IsFlushing M.geometry M.stands M.marks M.room M.changed self.was result }
+        ensures fewer { LeavesFewer self.left result }
     {
         let MidServed {
             inside,
@@ -119,7 +120,7 @@ impl<D: Disk + Drop, M: Metadata + Drop> MidServed<D, M> {
 
     /// All parts that are left, one behind the other.
     pub fn end_flush(self) -> (Served<D, M>, Result<(), Refusal>)
-        ensures { IsFlushed M.geometry M.stands M.marks M.room M.changed self result.0 result.1 }
+        ensures { IsFlushed M.geometry M.stands M.marks M.room M.changed self.was result.0 result.1 }
     {
         let MidServed {
             inside,
@@ -135,7 +136,8 @@ impl<D: Disk, M: Metadata> MidServed<D, M> {
     /// A pool whose flush has come so far since that moment.
     fn so_far(inside: Inside<D, M>, is_named: bool, past: Past) -> MidServed<D, M>
         requires { IsMidway M.geometry M.stands M.tells M.midway (record { cache = past.held; besides = inside.besides }) is_named inside }
-        ensures { result ≡ record { cache = past.held; besides = inside.besides } }
+        ensures was { result.was ≡ record { cache = past.held; besides = inside.besides } }
+        ensures left { result.left ≡ parts_left is_named }
     {
         MidServed {
             inside,
@@ -146,7 +148,7 @@ impl<D: Disk, M: Metadata> MidServed<D, M> {
 
     /// The sizes of the pool.
     pub fn geometry(&self) -> Geometry
-        ensures { result ≡ M.geometry self.now.besides.metadata }
+        ensures { result ≡ M.geometry self.now.was.besides.metadata }
     {
         self.inside.geometry()
     }
@@ -169,10 +171,10 @@ impl<D: SharedDisk, M: Metadata> MidServed<D, M> {
     /// says nothing of the pool, and no call of it was made. `out` may hold anything behind it. The range lies in the volume.
     pub fn read_shared(&self, id: DevId, sector: u64, out: &mut [u8]) -> bool
         requires whole { length out.old % 512 ≡ 0 }
-        requires range { EndsInVolume (cached M.geometry M.stands M.marks M.room M.changed) self.now id (sector + length out.old / 512) }
+        requires range { EndsInVolume (cached M.geometry M.stands M.marks M.room M.changed) self.now.was id (sector + length out.old / 512) }
         requires most { length out.old / 512 ≤ 2048 }
         ensures length { length out.new ≡ length out.old }
-        ensures met { IsTrue result → Meets (cached M.geometry M.stands M.marks M.room M.changed) self.now self.now (Read id sector (length out.old / 512)) (Gave (sectors_of out.new)) }
+        ensures met { IsTrue result → Meets (cached M.geometry M.stands M.marks M.room M.changed) self.now.was self.now.was (Read id sector (length out.old / 512)) (Gave (sectors_of out.new)) }
     {
         self.inside.read_midway(id, sector, out)
     }
@@ -180,7 +182,7 @@ impl<D: SharedDisk, M: Metadata> MidServed<D, M> {
     /// Lists slots of a volume, for any of those who look at the pool at once: true where `slots` has what `walk` listed when the flush was begun. False says nothing of the pool,
     /// and no call of it was made. `slots` may hold anything behind it.
     pub fn walk_shared(&self, id: DevId, from: Vb, slots: &mut Slots) -> bool
-        ensures { IsTrue result → Meets (cached M.geometry M.stands M.marks M.room M.changed) self.now self.now (Walk id from) (Listed (listed slots.new.items)) }
+        ensures { IsTrue result → Meets (cached M.geometry M.stands M.marks M.room M.changed) self.now.was self.now.was (Walk id from) (Listed (listed slots.new.items)) }
     {
         self.inside.walk_midway(id, from, slots)
     }

@@ -10,7 +10,7 @@ ghost use Rattle.tp_model.specs.declared.mode.Mode.TheVariants as mode;
 ghost use Rattle.tp_model.specs.Calls.{Done, Flush, Found, Gave, HeldRead, Hold, LetGo, Line, Listed, NextId, Read, Refused, Sized, Status, ThinStatus, Trim, VolumeBlocks, Walk, Write, WriteZeroes};
 ghost use Rattle.tp_model.specs.Clauses.{EndsInVolume, Meets};
 ghost use Rattle.tp_msg.specs.Asked.{IsMessageBegun, call_of};
-ghost use Rattle.tp_served.specs.Midway.{IsFlushing};
+ghost use Rattle.tp_served.specs.Midway.{IsFlushing, LeavesFewer};
 ghost use Rattle.tp_served.specs.Served.{IsClosed, IsKnown, IsUnwritten, StaysInPlace, cached, disk_of, on_cache};
 
 use crate::flushing::{MidServed, begin_parts};
@@ -56,9 +56,10 @@ impl<D: Disk + Drop, M: Metadata + Drop> Served<D, M> {
     }
 
     /// The first part of a flush: done, where that is all of it, or in its midst. Behind it `MidServed::sync_ahead` brings to the device what it wrote, while READs go on.
-    /// The whole is one flush, with its answers, and a stop at any moment of it leaves what one of a flush leaves.
+    /// The whole is one flush, with its answers, and a stop at any moment of it leaves what one of a flush leaves. Behind this part two are left at most.
     pub fn begin_flush(self) -> Flushing<Served<D, M>, MidServed<D, M>>
-        ensures { IsFlushing M.geometry M.stands M.marks M.room M.changed self result }
+        ensures flushing { IsFlushing M.geometry M.stands M.marks M.room M.changed self result }
+        ensures few { LeavesFewer 3 result }
     {
         let Served { lent } = self;
         begin_parts(lent.into_inside())

@@ -88,7 +88,9 @@ impl<D: SharedDisk + Drop, M: Metadata + Drop> SharedVolumes for Served<D, M> {
 }
 
 impl<D: SharedDisk + Drop, M: Metadata + Drop> SharedReads<Served<D, M>> for MidServed<D, M> {
-    ghost of = { λ m. m };
+    ghost of = { λ m. m.was };
+
+    ghost left = { λ m. m.left };
 
     fn geometry_beside(&self) -> Geometry {
         self.geometry()

@@ -1,8 +1,8 @@
 //! Volumes of a pool that fails. A contract knows who holds them and whether it has failed.
 
-ghost use Rattle.std.specs.Prelude.{◌≡◌, false, if◌then◌else◌, IfOk};
+ghost use Rattle.std.specs.Prelude.{◌≡◌, ◌+◌, false, if◌then◌else◌, IfOk};
 ghost use Rattle.std.specs.FinMap.{empty};
-ghost use Rattle.tp_model.specs.Flushing.{IsFlushing};
+ghost use Rattle.tp_model.specs.Flushing.{IsFlushing, LeavesFewer};
 ghost use Rattle.tp_holders.specs.Holders.{holds_of};
 ghost use Rattle.tp_msg.specs.declared.message.Message.TheVariants.{ReserveMetadataSnap};
 ghost use Rattle.tp_msg.specs.Asked.{IsMessageBegun};
@@ -144,7 +144,11 @@ pub struct MidFailing {
 }
 
 impl SharedReads<FailingShelf> for MidFailing {
+    ghost use Rattle.std.specs.Prelude.{◌+◌};
+
     ghost of = { λ m. m.shelf };
+
+    ghost left = { λ m. m.left + 1 };
 
     fn geometry_beside(&self) -> Geometry {
         self.shelf.geometry
@@ -163,7 +167,8 @@ impl SharedReads<FailingShelf> for MidFailing {
 
 /// A flush with so many parts left before its last one.
 fn fail_on(shelf: FailingShelf, left: u8) -> Flushing<FailingShelf, MidFailing>
-    ensures { IsFlushing ⟦<FailingShelf as Volumes>⟧.view ⟦<MidFailing as SharedReads<FailingShelf>>⟧.of shelf result }
+    ensures flushing { IsFlushing ⟦<FailingShelf as Volumes>⟧.view ⟦<MidFailing as SharedReads<FailingShelf>>⟧.of shelf result }
+    ensures fewer { LeavesFewer ⟦<MidFailing as SharedReads<FailingShelf>>⟧.left (left + 1) result }
 {
     if left > 0 {
         return Flushing::Midway(MidFailing {

@@ -1,8 +1,8 @@
 //! The volumes, and the pool that they are of. A contract knows who holds them and how often they were flushed, and nothing of what they hold.
 
-ghost use Rattle.std.specs.Prelude.{◌≡◌, ◌<◌, ◌≤◌, ℕ, IfOk, length};
+ghost use Rattle.std.specs.Prelude.{◌≡◌, ◌+◌, ◌<◌, ◌≤◌, ℕ, IfOk, length};
 ghost use Rattle.std.specs.FinMap.{empty};
-ghost use Rattle.tp_model.specs.Flushing.{IsFlushing};
+ghost use Rattle.tp_model.specs.Flushing.{IsFlushing, LeavesFewer};
 ghost use Rattle.tp_holders.specs.Holders.{holds_of};
 ghost use Rattle.tp_msg.specs.declared.message.Message.TheVariants.{CreateThin, Grow, ReleaseMetadataSnap, ReserveMetadataSnap, SetTransactionId};
 ghost use Rattle.tp_msg.specs.Asked.{IsMessageBegun};
@@ -311,7 +311,11 @@ pub struct MidShelf {
 }
 
 impl SharedReads<Shelf> for MidShelf {
+    ghost use Rattle.std.specs.Prelude.{◌+◌};
+
     ghost of = { λ m. m.shelf };
+
+    ghost left = { λ m. m.left + 1 };
 
     fn geometry_beside(&self) -> Geometry {
         self.shelf.geometry
@@ -335,7 +339,8 @@ impl SharedReads<Shelf> for MidShelf {
 
 /// A flush with so many parts left before its last one.
 fn flush_on(shelf: Shelf, left: u8) -> Flushing<Shelf, MidShelf>
-    ensures { IsFlushing ⟦<Shelf as Volumes>⟧.view ⟦<MidShelf as SharedReads<Shelf>>⟧.of shelf result }
+    ensures flushing { IsFlushing ⟦<Shelf as Volumes>⟧.view ⟦<MidShelf as SharedReads<Shelf>>⟧.of shelf result }
+    ensures fewer { LeavesFewer ⟦<MidShelf as SharedReads<Shelf>>⟧.left (left + 1) result }
 {
     if left > 0 {
         return Flushing::Midway(MidShelf {
