@@ -18,7 +18,7 @@ use Rattle.tp_refs.proofs.Steps.{child_closed, child_live}
 use Rattle.tp_trees.specs.Tree.{IsTree, Parted, blank, joined, least_of, pairs}
 use Rattle.tp_trees.proofs.Trees.{children_values, parted_ends, rank_inside, tree_rank, value_here}
 use Rattle.tp_tm.specs.Tm.{Tm}
-use Rattle.tp_btree.specs.declared.step.Step.{Step}
+use Rattle.tp_btree.specs.declared.step.NodeStep.{NodeStep}
 use Rattle.tp_btree.specs.Trees.{IsLast, IsStep, StandsBelow, base_of}
 use Rattle.tp_btree.specs.Walks.{last_entry}
 use Rattle.tp_btree.proofs.Filling.{next_child}
@@ -143,7 +143,7 @@ tree_has_some base (suc k) s low high b h some =
 
 module _
     (t : Tm) (disk : DiskState) (kind : TreeKind) (opens held : List ℕ) (s : Store) (k low high x key : ℕ)
-    (st : StandsBelow t disk kind opens held s k low high x) (step : Step) (is : IsStep t.geometry.metadata_blocks kind s key x step) (all : high ≤ key + 1) where
+    (st : StandsBelow t disk kind opens held s k low high x) (step : NodeStep) (is : IsStep t.geometry.metadata_blocks kind s key x step) (all : high ≤ key + 1) where
   abbrev m : ℕ
   m = t.geometry.metadata_blocks
 

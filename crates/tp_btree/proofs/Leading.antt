@@ -16,7 +16,7 @@ use Rattle.tp_refs.specs.Store.{Store, first_named, node_at}
 use Rattle.tp_trees.specs.Tree.{is_shared_path, led_to, pairs}
 use Rattle.tp_trees.proofs.Trees.{Led, tree_rank}
 use Rattle.tp_tm.specs.Tm.{Tm, counts_now}
-use Rattle.tp_btree.specs.declared.step.Step.{Step}
+use Rattle.tp_btree.specs.declared.step.NodeStep.{NodeStep}
 use Rattle.tp_btree.specs.Runs.{IsNoLeaf, LeadsToLeaf, LeafTells}
 use Rattle.tp_btree.specs.Trees.{IsStep, StandsBelow, base_of, before, last_up_to}
 use Rattle.tp_btree.proofs.Looking.{level_is, none_at_key, none_in_leaf, path_inner, told_leaf, tree_ranked, value_inside}
@@ -37,7 +37,7 @@ same_entry key next r es up within below le above =
 
 -- the leaf itself
 pub leads_here : (t : Tm) (disk : DiskState) (kind : TreeKind) (opens held : List ℕ) (s : Store) (k low high x key : ℕ) → StandsBelow t disk kind opens held s k low high x → low ≤ key → key < high
-    → (first : ℕ) (step : Step) → IsStep t.geometry.metadata_blocks kind s first x step → (above here : Bool) (bytes : List ℕ) → step.level ≤ 0 → bytes ≡ block_at (seen disk.cells) x
+    → (first : ℕ) (step : NodeStep) → IsStep t.geometry.metadata_blocks kind s first x step → (above here : Bool) (bytes : List ℕ) → step.level ≤ 0 → bytes ≡ block_at (seen disk.cells) x
     → here ≡ (above || nat_lt 1 (get_or (counts_now t) x 0)) → LeadsToLeaf t disk kind opens held s k key x above bytes here
 leads_here t disk kind opens held s k low high x key st l u first step is above here bytes flat spelled counted =
     let e : k ≡ 0 = omega (arith, is.rank, tree_rank (base_of kind) k s low high x st.tree, flat) in
@@ -58,7 +58,7 @@ leads_here t disk kind opens held s k low high x key st l u first step is above 
 module _
     (t : Tm) (disk : DiskState) (kind : TreeKind) (opens held : List ℕ) (s : Store) (k low high x key : ℕ)
     (st : StandsBelow t disk kind opens held s k low high x)
-    (l : low ≤ key) (u : key < high) (step : Step) (is : IsStep t.geometry.metadata_blocks kind s key x step) where
+    (l : low ≤ key) (u : key < high) (step : NodeStep) (is : IsStep t.geometry.metadata_blocks kind s key x step) where
   -- the leaf below a child
   pub leads_below : (above here : Bool) (bytes : List ℕ) (there : Bool) → here ≡ (above || nat_lt 1 (get_or (counts_now t) x 0)) → (below : ℕ) → k ≡ suc below → Led (base_of kind) below s low high x key
       → LeadsToLeaf t disk kind opens held s below key (led_to key (node_at s x).entries) here bytes there
@@ -79,7 +79,7 @@ module _
 
 -- what its bytes tell of the key
 pub leaf_step : (t : Tm) (disk : DiskState) (kind : TreeKind) (opens held : List ℕ) (s : Store) (k key b : ℕ) (above here : Bool) (bytes : List ℕ)
-    → (r : LeadsToLeaf t disk kind opens held s k key b above bytes here) → (step : Step)
+    → (r : LeadsToLeaf t disk kind opens held s k key b above bytes here) → (step : NodeStep)
     → ((n : NodeValue) → IsNode n → n.kind ≡ kind → bytes ≡ node_bytes n → (step.level ≡ n.level) × (step.entry ≡ last_up_to key n.entries))
     → IsStep t.geometry.metadata_blocks kind s key r.leaf step
 leaf_step t disk kind opens held s k key b above here bytes r step says =
@@ -89,7 +89,7 @@ leaf_step t disk kind opens held s k key b above here bytes r step says =
     step_is t.geometry.metadata_blocks kind s key r.leaf step n.node n.kind_is n.same e.0 e.1
 
 -- what they tell of it
-module _ (t : Tm) (kind : TreeKind) (key : ℕ) (here : Bool) (bytes : List ℕ) (step : Step)
+module _ (t : Tm) (kind : TreeKind) (key : ℕ) (here : Bool) (bytes : List ℕ) (step : NodeStep)
     (says : (n : NodeValue) → IsNode n → n.kind ≡ kind → bytes ≡ node_bytes n → (step.level ≡ n.level) × (step.entry ≡ last_up_to key n.entries)) where
   flat_leaf : (disk : DiskState) (opens held : List ℕ) (s : Store) (k b : ℕ) (above : Bool) → (r : LeadsToLeaf t disk kind opens held s k key b above bytes here) → step.level ≤ 0
   flat_leaf disk opens held s k b above r =

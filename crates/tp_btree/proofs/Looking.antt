@@ -16,7 +16,7 @@ use Rattle.tp_trees.proofs.Trees.{Led, children_values, led_by_place, led_inner,
 use Rattle.tp_tm.specs.Tm.{Tm, counts_now}
 use Rattle.tp_tm.specs.Holds.{IsRankOf}
 use Rattle.tp_btree.specs.declared.look_up.Found.{Found}
-use Rattle.tp_btree.specs.declared.step.Step.{Step}
+use Rattle.tp_btree.specs.declared.step.NodeStep.{NodeStep}
 use Rattle.tp_btree.specs.Trees.{IsLast, IsStep, StandsBelow, Told, base_of}
 use Rattle.tp_btree.proofs.Steps.{ranked}
 
@@ -43,7 +43,7 @@ tree_low t disk kind opens held s k low high x top st low_enough = omega (arith,
 module _
     (t : Tm) (disk : DiskState) (kind : TreeKind) (opens held : List ℕ) (s : Store) (k low high x key : ℕ)
     (st : StandsBelow t disk kind opens held s k low high x)
-    (l : low ≤ key) (u : key < high) (step : Step) (is : IsStep t.geometry.metadata_blocks kind s key x step) where
+    (l : low ≤ key) (u : key < high) (step : NodeStep) (is : IsStep t.geometry.metadata_blocks kind s key x step) where
   abbrev m : ℕ
   m = t.geometry.metadata_blocks
 

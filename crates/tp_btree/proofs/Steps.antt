@@ -17,7 +17,7 @@ use Rattle.tp_trees.specs.Tree.{blank}
 use Rattle.tp_tm.specs.Tm.{Tm}
 use Rattle.tp_tm.specs.Holds.{Holds, IsRankOf}
 use Rattle.tp_tm.proofs.Releasing.{kind_by_rank, rank_above}
-use Rattle.tp_btree.specs.declared.step.Step.{Step}
+use Rattle.tp_btree.specs.declared.step.NodeStep.{NodeStep}
 use Rattle.tp_btree.specs.Trees.{IsLast, IsStep, base_of, before, last_up_to}
 
 -- ---- a node's last entry
@@ -91,7 +91,7 @@ standing t disk kind opens held s x h live closed rank =
       same = sp.1.1;
     }
 
-pub step_is : (m : ℕ) (kind : TreeKind) (s : Store) (key x : ℕ) (step : Step) (n : NodeValue) → n.kind ≡ kind → node_at s x ≡ node_from m n → step.level ≡ n.level → step.entry ≡ last_up_to key n.entries
+pub step_is : (m : ℕ) (kind : TreeKind) (s : Store) (key x : ℕ) (step : NodeStep) (n : NodeValue) → n.kind ≡ kind → node_at s x ≡ node_from m n → step.level ≡ n.level → step.entry ≡ last_up_to key n.entries
     → IsStep m kind s key x step
 step_is m kind s key x step n kinds same level entry = record {
   rank = ap (λ (n : Node). n.rank) same ∙ (ap (λ k. rank_of k n.level) kinds ∙ (rank_by_level kind n.level ∙ ap (λ l. base_of kind + l) (sym level)));

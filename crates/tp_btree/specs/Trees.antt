@@ -12,7 +12,7 @@ use Rattle.tp_trees.specs.Tree.{IsTree, blank}
 use Rattle.tp_tm.specs.Tm.{Tm}
 use Rattle.tp_tm.specs.Holds.{Holds}
 use Rattle.tp_btree.specs.declared.look_up.Found.{Found}
-use Rattle.tp_btree.specs.declared.step.Step.{Step}
+use Rattle.tp_btree.specs.declared.step.NodeStep.{NodeStep}
 
 -- the rank of the leaves
 abbrev pub base_of : TreeKind → ℕ
@@ -47,6 +47,6 @@ IsLast m kind level key es None = rank_of key es ≡ 0
 IsLast m kind level key es (Some e) = (i : ℕ) × (rank_of key es ≡ suc i) × (i < length es) × (slice_index_or es i blank ≡ moved_by (first_named m kind level) e)
 
 -- what is found of a key in the node of a block
-pub record IsStep (m : ℕ) (kind : TreeKind) (s : Store) (key b : ℕ) (step : Step) : Type 0 where
+pub record IsStep (m : ℕ) (kind : TreeKind) (s : Store) (key b : ℕ) (step : NodeStep) : Type 0 where
   pub rank : (node_at s b).rank ≡ base_of kind + step.level
   pub entry : IsLast m kind step.level key (node_at s b).entries step.entry

@@ -16,7 +16,7 @@ ghost use Rattle.tp_btree.specs.Runs.{IsNoLeaf, LeadsToLeaf, LeafTells};
 ghost use Rattle.tp_btree.specs.Trees.{IsStep, StandsBelow, Told, base_of, last_up_to};
 
 use crate::look_up::{Found, block_of, is_many};
-use crate::step::{Step, last_of, step_in};
+use crate::step::{NodeStep, last_of, step_in};
 use tp_counts::StoreError;
 use tp_disk::Disk;
 use tp_layout::{BlockBytes, NodeView, TreeKind};
@@ -54,7 +54,7 @@ pub fn lookup_run<D: Disk>(
 /// What a node says of a key, and up to which key it says the same.
 #[derive(Clone, Copy)]
 struct Turn {
-    step: Step,
+    step: NodeStep,
     until: u64,
 }
 
@@ -69,7 +69,7 @@ fn turn_in(bytes: &BlockBytes, kind: TreeKind, key: u64, until: u64) -> Turn
         → (next : ℕ) → key ≤ next → next < result.until → result.step.entry ≡ last_up_to next n.entries }
 {
     let node = NodeView::known(bytes, kind);
-    let step = Step {
+    let step = NodeStep {
         level: node.level(),
         entry: last_of(&node, key),
     };

@@ -18,7 +18,7 @@ use tp_tm::{BLOCK, Tm};
 
 /// What a node says of a key: its level, and its last entry with a key up to that.
 #[derive(Clone, Copy)]
-pub(crate) struct Step {
+pub(crate) struct NodeStep {
     pub(crate) level: u32,
     pub(crate) entry: Option<Entry>,
 }
@@ -35,12 +35,12 @@ pub(crate) fn last_of(node: &NodeView<'_>, key: u64) -> Option<Entry>
 }
 
 /// What the node in these bytes says of a key.
-pub(crate) fn step_in(bytes: &BlockBytes, kind: TreeKind, key: u64) -> Step
+pub(crate) fn step_in(bytes: &BlockBytes, kind: TreeKind, key: u64) -> NodeStep
     requires { SpellsNode kind bytes.now }
     ensures { (n : NodeValue) → IsNode n → n.kind ≡ kind → bytes.now ≡ node_bytes n → (result.level ≡ n.level) × (result.entry ≡ last_up_to key n.entries) }
 {
     let node = NodeView::known(bytes, kind);
-    Step {
+    NodeStep {
         level: node.level(),
         entry: last_of(&node, key),
     }
@@ -56,7 +56,7 @@ pub(crate) fn step_at<D: Disk>(
     block: Mb,
     top: u32,
     key: u64,
-) -> Result<Step, StoreError>
+) -> Result<NodeStep, StoreError>
     requires disk { sectors_of_image tm.now.geometry ≤ (D.state disk.old).size }
     requires inside { block < tm.now.geometry.metadata_blocks }
     ensures step { IfOk result (λ step. IsTrue (D.state disk.old).is_honest → (opens held : List ℕ) (s : Store) → Holds tm.now (D.state disk.old) opens held s

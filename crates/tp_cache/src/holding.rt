@@ -25,15 +25,16 @@ pub struct Core<D: Disk> {
     disk: D,
     /// For each metadata block the number of its slot, counted from 1, where it is dirty; else 0.
     index: Vec<u16>,
-    /// The same for each block that has a slot, dirty or clean.
+    /// For each metadata block the number of its slot, counted from 1, where it has one, dirty or clean; else 0.
     held: Vec<u16>,
     /// The block that each slot was taken for last.
     owners: Vec<usize>,
     slots: Vec<[u8; BLOCK]>,
     /// Memory for dirty blocks that are written in one call.
     run: Vec<u8>,
-    /// The slot that is taken next, in a round, and how many of those before it are dirty.
+    /// The slot that the next new block gets; behind the last slot it is the first one again.
     next: usize,
+    /// How many slots hold dirty blocks: the last so many before `next`, in the round.
     used: usize,
     trace: Trace,
 }

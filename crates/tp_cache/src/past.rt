@@ -7,12 +7,12 @@ use crate::cache::NodeCache;
 use std::marker::{Model, PhantomData};
 use tp_disk::Disk;
 
-/// How what contracts see of a cache is read off a value.
+/// How the state of a cache, as contracts see it, is read from a value of type `X`.
 pub trait Remembers<X> {
     ghost held: { X → Held };
 }
 
-/// What contracts saw of a cache at some moment. It has no bytes.
+/// The state of a cache at an earlier moment, for contracts alone. A value of it takes no memory.
 #[derive(Drop)]
 pub struct Past {
     marker: PhantomData<()>,
@@ -23,7 +23,7 @@ impl Model for Past {
     ghost also_owns = { λ _. ftrue };
 }
 
-// It owns nothing.
+// A `Past` has no data, so threads may share it and hand it on.
 unsafe impl Send for Past {}
 
 unsafe impl Sync for Past {}
@@ -46,7 +46,7 @@ impl Past {
         }
     }
 
-    /// What the cache is now.
+    /// Remembers the state that the cache has at this call.
     pub fn now<D: Disk>(cache: &NodeCache<D>) -> Past
         ensures { result.held ≡ cache.now.core }
     {

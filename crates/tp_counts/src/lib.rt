@@ -42,22 +42,22 @@ pub type BlockMarks = [bool; RUNS];
 
 /// The memory of counts: two lists, and what is kept of each run.
 #[derive(Drop)]
-struct Room {
+struct CountsMemory {
     now: Vec<u32>,
     kept: Vec<u32>,
     free_by_run: Vec<u32>,
     touched: Vec<bool>,
 }
 
-impl Room {
+impl CountsMemory {
     /// Zeros, and no run touched.
-    fn new(alloc: Global, blocks: usize) -> Result<Room, AllocError>
+    fn new(alloc: Global, blocks: usize) -> Result<CountsMemory, AllocError>
         ensures now { IfOk result (λ room. room.now.items ≡ replicate blocks 0) }
         ensures kept { IfOk result (λ room. room.kept.items ≡ replicate blocks 0) }
         ensures runs { IfOk result (λ room. length room.free_by_run.items ≡ 1024) }
         ensures touched { IfOk result (λ room. room.touched.items ≡ replicate 1024 false) }
     {
-        Ok(Room {
+        Ok(CountsMemory {
             now: Vec::from_elem(alloc, 0, blocks)?,
             kept: Vec::from_elem(alloc, 0, blocks)?,
             free_by_run: Vec::from_elem(alloc, 0, RUNS)?,
@@ -105,7 +105,7 @@ impl Counts {
         ensures { IfOk result (λ counts. counts ≡ no_counts geometry part) }
     {
         let blocks = blocks_of(&geometry, part);
-        let room = Room::new(alloc, blocks)?;
+        let room = CountsMemory::new(alloc, blocks)?;
         Ok(Counts::unchanged(geometry, part, room))
     }
 
@@ -131,7 +131,7 @@ impl Counts {
         ensures cause { FaultHasCause (is_fault result) (D.state disk.old) (D.state disk.new) }
     {
         let blocks = blocks_of(&geometry, part);
-        let Ok(mut room) = Room::new(alloc, blocks) else {
+        let Ok(mut room) = CountsMemory::new(alloc, blocks) else {
             return Err(Refusal::Memory);
         };
         let first = area::counts_start(&geometry, part, area);
@@ -175,14 +175,14 @@ impl Counts {
     }
 
     // Counts that have not changed since the last commit.
-    fn unchanged(geometry: Geometry, part: Part, room: Room) -> Counts
+    fn unchanged(geometry: Geometry, part: Part, room: CountsMemory) -> Counts
         requires long { length room.now.items ≡ blocks_of geometry part }
         requires same { room.kept.items ≡ room.now.items }
         requires runs { length room.free_by_run.items ≡ 1024 }
         requires touched { room.touched.items ≡ replicate 1024 false }
         ensures { result ≡ same_counts geometry part room.now.items }
     {
-        let Room {
+        let CountsMemory {
             now,
             kept,
             mut free_by_run,

@@ -1,4 +1,4 @@
-//! What contracts see of a disk, held beside it in no bytes.
+//! Ghost state of a disk, as a value of no size: the state of the disk to which its contracts refer.
 ghost use Rattle.std.specs.Prelude.{◌≡◌};
 ghost use Rattle.std.specs.Borrow.{ftrue};
 ghost use Rattle.tp_model.specs.Disk.{DiskState};
@@ -31,7 +31,7 @@ impl Model for Shadow {
     ghost also_owns = { λ _. ftrue };
 }
 
-// It owns nothing.
+// A shadow has no data, so threads may share it and hand it on.
 unsafe impl Send for Shadow {}
 
 unsafe impl Sync for Shadow {}

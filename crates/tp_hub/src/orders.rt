@@ -120,14 +120,14 @@ pub fn take_thin_status<V: Managed>(pool: &mut V, volume: u32, out: &mut Answers
 }
 
 /// Numbers of volumes and of their blocks are below this one.
-const NUMBERS: u32 = 16_777_216;
+const MOST_VOLUME: u32 = 16_777_216;
 
 /// Why there is no size of such a volume, if there is none.
 fn fault_of_size(volume: u32) -> Option<Refusal>
     ensures fault { result ≡ size_fault volume }
     ensures volume { result ≡ None → volume < 16777216 }
 {
-    if volume >= NUMBERS {
+    if volume >= MOST_VOLUME {
         return Some(Refusal::BadDeviceId);
     }
     None
@@ -139,10 +139,10 @@ fn fault_of_map(volume: u32, first: u32) -> Option<Refusal>
     ensures volume { result ≡ None → volume < 16777216 }
     ensures first { result ≡ None → first < 16777216 }
 {
-    if volume >= NUMBERS {
+    if volume >= MOST_VOLUME {
         return Some(Refusal::BadDeviceId);
     }
-    if first >= NUMBERS {
+    if first >= MOST_VOLUME {
         return Some(Refusal::BadSyntax);
     }
     None
@@ -155,7 +155,7 @@ fn fault_of_delta(old: u32, new: u32, first: u32) -> Option<Refusal>
     ensures other { result ≡ None → new < 16777216 }
     ensures first { result ≡ None → first < 16777216 }
 {
-    if old >= NUMBERS {
+    if old >= MOST_VOLUME {
         return Some(Refusal::BadDeviceId);
     }
     fault_of_map(new, first)

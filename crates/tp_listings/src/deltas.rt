@@ -8,7 +8,7 @@ ghost use Rattle.tp_listings.specs.Seeking.{IsPushed, Reads, block_of, told};
 
 use crate::extent::Extent;
 use crate::extents::push_block;
-use crate::looking::{Cursor, MOST_BLOCKS};
+use crate::looking::{Cursor, MOST_VOLUME};
 use std::alloc::Global;
 use tp_model::{DevId, Refusal, Slot, Walked};
 
@@ -18,7 +18,7 @@ pub(crate) fn block_of(found: &Option<Slot>) -> u32
 {
     match *found {
         Some(slot) => slot.block().number(),
-        None => MOST_BLOCKS,
+        None => MOST_VOLUME,
     }
 }
 

@@ -8,8 +8,8 @@ ghost use Rattle.tp_listings.specs.Seeking.{IsFirst, IsUpTo, Reads};
 
 use tp_model::{DevId, MOST_SLOTS, Refusal, Slot, Slots, Vb, Walked};
 
-/// The numbers of virtual blocks are below this one.
-pub(crate) const MOST_BLOCKS: u32 = 16_777_216;
+/// The most blocks of a volume: their numbers are below this one.
+pub(crate) const MOST_VOLUME: u32 = 16_777_216;
 
 /// The first place from `at` on of a slot whose block is not before `from`, or the end.
 pub(crate) fn skip(slots: &[Slot], at: usize, from: u32) -> usize

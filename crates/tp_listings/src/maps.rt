@@ -8,7 +8,7 @@ ghost use Rattle.tp_listings.specs.Seeking.{Reads};
 
 use crate::extent::Extent;
 use crate::extents::push_block;
-use crate::looking::{Cursor, MOST_BLOCKS};
+use crate::looking::{Cursor, MOST_VOLUME};
 use std::alloc::Global;
 use tp_model::{DevId, Refusal, Walked};
 
@@ -30,7 +30,7 @@ fn list_next<V: Walked>(
     ensures id { volume.new.id ≡ volume.old.id }
 {
     let Some(slot) = volume.first_from(pool, from)? else {
-        return Ok(MOST_BLOCKS);
+        return Ok(MOST_VOLUME);
     };
     let block = slot.block().number();
     push_block(extents, block)?;
@@ -47,7 +47,7 @@ pub fn map<V: Walked>(alloc: Global, pool: &mut V, id: DevId) -> Result<Vec<Exte
     let mut extents = Vec::new(alloc);
     let mut volume = Cursor::begin(pool, id)?;
     let mut from = 0;
-    while from < MOST_BLOCKS {
+    while from < MOST_VOLUME {
         from = list_next(pool, &mut volume, &mut extents, from)?;
     }
     Ok(extents)

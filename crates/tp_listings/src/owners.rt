@@ -9,7 +9,7 @@ ghost use Rattle.tp_listings.specs.Refusing.{IsRefusal};
 ghost use Rattle.tp_listings.specs.Owned.{AreBelow, IsLooked, IsMarked, marked, owned, usage_at};
 
 use crate::extent::Usage;
-use crate::looking::MOST_BLOCKS;
+use crate::looking::MOST_VOLUME;
 use std::alloc::Global;
 use tp_model::{DevId, MOST_SLOTS, Pb, Refusal, Slot, Slots, Vb, Walked};
 
@@ -91,7 +91,7 @@ fn behind(from: u32, slots: &[Slot]) -> u32
         → slots_from from (entries (volume_slots s id)) ≡ listed slots.now ++ slots_from result (entries (volume_slots s id)) }
 {
     if slots.len() < MOST_SLOTS {
-        return MOST_BLOCKS;
+        return MOST_VOLUME;
     }
     let last = slots[MOST_SLOTS - 1].block().number();
     next_of(from, last)
@@ -112,7 +112,7 @@ pub(crate) fn mark_volume<V: Walked>(
     let mut slots = Slots::new();
     let mut from = 0;
     let mut mapped = 0;
-    while from < MOST_BLOCKS {
+    while from < MOST_VOLUME {
         pool.walk(id, Vb::new(from), &mut slots)?;
         mark(owners, &slots, mine);
         let listed = slots.len() as u32;

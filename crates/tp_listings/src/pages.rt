@@ -10,7 +10,7 @@ ghost use Rattle.tp_listings.specs.Seeking.{IsPushed, IsUpTo};
 use crate::deltas::{block_of, differ, place_at};
 use crate::extent::Extent;
 use crate::extents::goes_on;
-use crate::looking::{MOST_BLOCKS, skip, slot_of};
+use crate::looking::{MOST_VOLUME, skip, slot_of};
 use arrayvec::ArrayVec;
 use tp_model::{MOST_SLOTS, Slot, Vb};
 
@@ -36,7 +36,7 @@ fn reach_of(slots: &[Slot]) -> u32
 {
     match slot_of(slots, MOST_SLOTS - 1) {
         Some(slot) => slot.block().number() + 1,
-        None => MOST_BLOCKS,
+        None => MOST_VOLUME,
     }
 }
 

@@ -16,7 +16,7 @@ ghost use Rattle.tp_mapping.specs.Telling.{IsThere, NameBlocks, NamesBlocks, as_
 use crate::mapped::Mapped;
 use crate::sizes::told_blocks;
 use crate::trees::TreeMapping;
-use crate::volume::{MOST_BLOCKS, There, Volume, data_block_of, volume_at};
+use crate::volume::{MOST_VOLUME, There, Volume, data_block_of, volume_at};
 use arrayvec::ArrayVec;
 use tp_btree::{count, last, lookup, walk};
 use tp_counts::StoreError;
@@ -54,7 +54,7 @@ fn virtual_block_of(number: u64) -> Result<Vb, StoreError>
     ensures value { IfOk result (λ block. block ≡ number) }
     ensures err { IfErr result (λ error. (error ≡ StoreError.Damaged) × (2 ^ 24 ≤ number)) }
 {
-    if number >= MOST_BLOCKS {
+    if number >= MOST_VOLUME {
         return Err(StoreError::Damaged);
     }
     Ok(Vb::new(number as u32))

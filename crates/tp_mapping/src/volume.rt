@@ -44,7 +44,7 @@ pub(crate) struct There {
 }
 
 /// More virtual blocks than this are in no volume: they have 24 bits.
-pub(crate) const MOST_BLOCKS: u64 = 16_777_216;
+pub(crate) const MOST_VOLUME: u64 = 16_777_216;
 
 /// The size that a record tells. `Damaged` where no volume may have it.
 fn size_in(tm: &Tm, size: u64) -> Result<u32, StoreError>
@@ -68,7 +68,7 @@ pub(crate) fn volume_in(tm: &Tm, entry: Entry) -> Result<Volume, StoreError>
     ensures err { IfErr result (λ error. (error ≡ StoreError.Damaged) × ((entry.value < tm.now.geometry.metadata_blocks) → entry.mapped ≤ 2 ^ 24 → IsToldSize tm.now.geometry entry.size → ⊥)) }
 {
     let root = block_of(tm, entry.value)?;
-    if entry.mapped > MOST_BLOCKS {
+    if entry.mapped > MOST_VOLUME {
         return Err(StoreError::Damaged);
     }
     let size = size_in(tm, entry.size)?;

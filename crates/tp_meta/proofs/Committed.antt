@@ -1,10 +1,11 @@
 -- What a commit makes of metadata that stand.
-use Rattle.std.proofs.Common.{◌≡◌, ◌⊎◌, inl, ℕ, ◌+◌, ◌≤◌, Bool, false, Some, List, [], ◌++◌, length, take, replicate, refl, sym, ap, subst, ◌∙◌, arith}
-use Rattle.std.specs.Prelude.{IfSome, IsTrue, Option}
+use Rattle.std.proofs.Common.{◌≡◌, ◌⊎◌, inl, ℕ, ◌+◌, ◌≤◌, Bool, true, false, Some, List, [], ◌++◌, length, take, replicate, refl, sym, ap, subst, ◌∙◌, arith}
+use Rattle.std.specs.Prelude.{IfSome, IsTrue, Option, Result, Ok, Err, if◌then◌else◌, is_err, is_ok}
+use Rattle.std.proofs.lemmas.Bool.{false≢true}
 use Rattle.std.proofs.lemmas.List.{length-replicate, replicate-append-replicate, take-replicate}
 use Rattle.tp_model.specs.Geometry.{Geometry}
 use Rattle.tp_model.specs.Sectors.{Sector}
-use Rattle.tp_model.specs.Disk.{DiskState, seen}
+use Rattle.tp_model.specs.Disk.{DiskState, after_flush, seen}
 use Rattle.tp_model.specs.DiskStops.{Leaves, LeavesOnly}
 use Rattle.tp_model.proofs.DiskStopLaws.{weakens}
 use Rattle.tp_layout.specs.Super.{version_number}
@@ -19,7 +20,7 @@ use Rattle.tp_tm.specs.Holds.{Holds}
 use Rattle.tp_mapping.specs.Trees.{StandForVolumes}
 use Rattle.tp_mapping.specs.declared.trees.TreeMapping.{TreeMapping}
 use Rattle.tp_meta.specs.Committing.{IsNextCommit, IsStillCommit, MayCommit}
-use Rattle.tp_meta.specs.Metadata.{IsCommitting}
+use Rattle.tp_meta.specs.Metadata.{IsCommitting, RanWithFlushes}
 use Rattle.tp_meta.specs.Standing.{StandsFor, next_of}
 use Rattle.tp_meta.specs.Framing.{room_kept}
 use Rattle.tp_meta.specs.Stale.{AreCurrent}
@@ -27,8 +28,10 @@ use Rattle.tp_meta.specs.declared.stale.StaleBlocks.{StaleBlocks}
 use Rattle.tp_meta.specs.declared.whole.Meta.{Meta}
 use Rattle.tp_meta.proofs.Changing.{committed_contents, committing}
 use Rattle.tp_meta.proofs.Commits.{SameData-none}
+use Rattle.tp_meta.proofs.Contents.{is_settled}
 use Rattle.tp_meta.proofs.Kept.{holds_seen}
 use Rattle.tp_meta.proofs.Standing.{stands_unchanged, used_now}
+use Rattle.tp_meta.proofs.Times.{later_flush}
 
 -- ---- in memory
 
@@ -255,3 +258,29 @@ module _ (m : Meta) (disk : DiskState) (now kept : Contents) (st : StandsFor m d
             subst (λ (g : Geometry). SameData g (seen disk.cells) image) (sym st.geometry) (left image stop).1,
           ),
         )
+
+-- where nothing has changed, a commit is a flush alone
+pub flush_alone : {A E : Type 0} (changed : Bool) → changed ≡ false → (result : Result A E) (before after : DiskState) → after ≡ after_flush (is_ok result) before
+    → RanWithFlushes (if changed then 2 else 1) 2 (is_err result) result before after
+flush_alone changed unchanged (Ok value) before after is =
+    let failures : after.failures ≡ before.failures = ap (λ (x : DiskState). x.failures) is in
+    let flushes : after.flushes ≡ before.flushes + 1 = ap (λ (x : DiskState). x.flushes) is in
+    record {
+      time = later_flush true before after is;
+      same_disk = record { size = ap (λ (x : DiskState). x.size) is; is_honest = ap (λ (x : DiskState). x.is_honest) is };
+      cause = record { no_fewer = omega (arith, failures); more = λ yes. absurd (false≢true yes); none = λ _. failures };
+      flushes = (omega (arith, flushes), omega (arith, flushes));
+      flushed = subst (λ (b : Bool). after.flushes ≡ before.flushes + (if b then 2 else 1)) (sym unchanged) flushes;
+      settled = is_settled before after is;
+    }
+flush_alone changed unchanged (Err error) before after is =
+    let failures : after.failures ≡ before.failures + 1 = ap (λ (x : DiskState). x.failures) is in
+    let flushes : after.flushes ≡ before.flushes + 1 = ap (λ (x : DiskState). x.flushes) is in
+    record {
+      time = later_flush false before after is;
+      same_disk = record { size = ap (λ (x : DiskState). x.size) is; is_honest = ap (λ (x : DiskState). x.is_honest) is };
+      cause = record { no_fewer = omega (arith, failures); more = λ _. omega (arith, failures); none = λ none. absurd (false≢true none) };
+      flushes = (omega (arith, flushes), omega (arith, flushes));
+      flushed = tt;
+      settled = tt;
+    }

@@ -1,6 +1,6 @@
 -- What a stop leaves while a commit runs.
 use Rattle.std.proofs.Common.{◌≡◌, ◌⊎◌, inl, inr, ⊎_elim, ℕ, ◌+◌, ◌*◌, ◌<◌, ◌≤◌, Bool, true, false, List, [], length, take, drop, refl, sym, ap, subst, ◌∙◌, arith}
-use Rattle.std.specs.Prelude.{Result, Ok, Err, OnOk, is_ok, ◌%◌, ◌^◌}
+use Rattle.std.specs.Prelude.{Ok, ◌%◌, ◌^◌}
 use Rattle.std.proofs.lemmas.List.{take_at, drop_at}
 use Rattle.tp_model.specs.Geometry.{Geometry, IsWithinLimits, fixed_part, sectors_of_image}
 use Rattle.tp_model.specs.Sectors.{Sector}
@@ -209,10 +209,6 @@ module _ (last next : Superblock) (kept s : Store) (a d e : DiskState) (sound : 
   commit_leaves q chosen image stop = next_here image (now q image stop) (chosen image stop)
 
 -- ---- a flush alone
-
-pub flush_ok : {T E : Type 0} (r : Result T E) (a b : DiskState) → b ≡ after_flush (is_ok r) a → OnOk r (b ≡ after_flush true a)
-flush_ok (Ok x) a b e = e
-flush_ok (Err x) a b e = tt
 
 pub flush_keeps : (last : Superblock) (s : Store) (a b : DiskState) → LeavesCommit last s a.cells → b ≡ after_flush true a
     → Leaves (λ image. IsCommit image last s × SameData last.geometry (seen a.cells) image) b.cells

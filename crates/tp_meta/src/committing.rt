@@ -150,16 +150,3 @@ pub(crate) fn write_back<D: Disk>(disk: &mut D) -> Result<(), Fault>
 {
     disk.write(0, &[])
 }
-
-/// Keeps what was written to data blocks, under a commit that stays.
-pub fn keep_data<D: Disk>(disk: &mut D) -> Result<(), Fault>
-    ensures any_moment { (last : Superblock) (kept : Store) → Leaves (λ image. IsCommit image last kept) (D.state disk.old).cells
-        → LeavesOnly (D.state disk.old) (D.state disk.new) (IsStillCommit last kept (D.state disk.old).cells) }
-    ensures kept { OnOk result ((last : Superblock) (kept : Store) → Leaves (λ image. IsCommit image last kept) (D.state disk.old).cells
-        → Leaves (λ image. IsCommit image last kept × SameData last.geometry (seen (D.state disk.old).cells) image) (D.state disk.new).cells) }
-    ensures seen { seen (D.state disk.new).cells ≡ seen (D.state disk.old).cells }
-    ensures ran { RanWithFlushes 1 1 (is_err result) result (D.state disk.old) (D.state disk.new) }
-    ensures once { (D.state disk.new).flushes ≡ (D.state disk.old).flushes + 1 }
-{
-    disk.flush()
-}

@@ -8,7 +8,6 @@ mod devices;
 mod ending;
 mod formatting;
 mod homes;
-mod keeping;
 mod laws;
 mod losing;
 mod marking;
@@ -19,7 +18,7 @@ mod pool_metadata;
 mod stale;
 mod whole;
 
-pub use committing::{commit_store, keep_data};
+pub use committing::commit_store;
 pub use formatting::format;
 pub use laws::{changes_leave_the_last_commit, commits_leave_contents};
 pub use metadata::{Home, Metadata};

@@ -22,7 +22,7 @@ pub(crate) fn has_some(places: &[Option<Mapped>]) -> bool
     false
 }
 
-/// Marks the data block that a slot lost, if it had one.
+/// Marks the data block that a virtual block had and has no more, if it had one.
 pub(crate) fn lose(marks: &mut Marks, lost: Option<Mapped>)
     ensures { marks.new ≡ marked (option_map (λ at. at.place) lost) marks.old }
 {

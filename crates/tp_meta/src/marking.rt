@@ -14,8 +14,8 @@ use tp_disk::Disk;
 use tp_mapping::{Mapping, TreeMapping};
 use tp_model::{DevId, MOST_SLOTS, Slot, Slots, Vb};
 
-/// The numbers of virtual blocks are below this one.
-const MOST_BLOCKS: u32 = 16_777_216;
+/// The most blocks of a volume: their numbers are below this one.
+const MOST_VOLUME: u32 = 16_777_216;
 
 /// Marks the data blocks of slots.
 fn mark_slots(marks: &mut Marks, slots: &[Slot])
@@ -36,7 +36,7 @@ fn behind(piece: &[Slot], from: u32) -> Result<u32, StoreError>
 {
     let len = piece.len();
     if len < MOST_SLOTS {
-        return Ok(MOST_BLOCKS);
+        return Ok(MOST_VOLUME);
     }
     let next = piece[MOST_SLOTS - 1].block().number() + 1;
     if next <= from {
@@ -77,7 +77,7 @@ pub(crate) fn mark_device<D: Disk>(
     ensures { LooksUp (StandForVolumes mapping.now) (D.state disk.old) (D.state disk.new) result (λ done now. marks.new ≡ marked_all (slots_of device now) marks.old) }
 {
     let mut from = 0;
-    while from < MOST_BLOCKS {
+    while from < MOST_VOLUME {
         from = mark_piece(mapping, disk, device, from, marks)?;
     }
     Ok(())

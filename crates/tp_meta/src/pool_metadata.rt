@@ -1,9 +1,13 @@
 //! The trees of a pool, with what is in memory beside them, keep the contract of a pool's metadata.
+ghost use Rattle.std.specs.Prelude.{◌≡◌};
+ghost use Rattle.tp_tm.specs.Tm.{IsSized};
 ghost use Rattle.tp_meta.specs.Framing.{frame_stands, stands_bounded, stands_counted, stands_left, stands_one, stands_trees, stands_within};
 ghost use Rattle.tp_meta.specs.Midway.{IsMidway, TellsFor, tells_so};
-ghost use Rattle.tp_meta.specs.Standing.{StandsFor, changed_of, marks_of, room_of};
+ghost use Rattle.tp_meta.specs.Standing.{StandsFor, changed_of, marks_of, next_of, room_of};
 
+use crate::committing::{begin_store, commit_store, go_on_store, write_back};
 use crate::devices::{one_fewer, one_more};
+use crate::ending::end_store;
 use crate::homes::homes_in;
 use crate::losing::{has_some, lose, lose_each};
 use crate::marking::mark_device;
@@ -11,6 +15,7 @@ use crate::metadata::{Home, Metadata};
 use crate::whole::Meta;
 use tp_counts::StoreError;
 use tp_disk::{Disk, Fault};
+use tp_layout::{Superblock, Version};
 use tp_mapping::{MOST_RUN, Mapping};
 use tp_model::{DevId, Geometry, Pb, Slots, Vb};
 
@@ -228,19 +233,54 @@ impl Metadata for Meta {
     }
 
     fn commit<D: Disk>(&mut self, disk: &mut D) -> Result<(), Fault> {
-        self.commit_all(disk)
+        if !self.is_changed {
+            disk.flush()?;
+            self.marks.clear();
+            return Ok(());
+        }
+        let next = self.next_superblock();
+        let last = next;
+        commit_store(self.mapping.store_mut(), disk, next, &mut self.stale)?;
+        self.last = last;
+        self.is_changed = false;
+        self.marks.clear();
+        Ok(())
     }
 
     fn begin<D: Disk>(&mut self, disk: &mut D) -> Result<bool, Fault> {
-        self.begin_all(disk)
+        if !self.is_changed {
+            return Ok(false);
+        }
+        let next = self.next_superblock();
+        match begin_store(self.mapping.store_mut(), disk, next, &self.stale) {
+            Ok(()) => {}
+            Err(Fault) => return Err(Fault),
+        }
+        match write_back(disk) {
+            Ok(()) => Ok(true),
+            Err(Fault) => Err(Fault),
+        }
     }
 
     fn go_on<D: Disk>(&mut self, disk: &mut D) -> Result<(), Fault> {
-        self.go_on_all(disk)
+        let next = self.next_superblock();
+        match go_on_store(self.mapping.store(), disk, next, &self.stale) {
+            Ok(()) => Ok(()),
+            Err(Fault) => Err(Fault),
+        }
     }
 
     fn end<D: Disk>(&mut self, disk: &mut D) -> Result<(), Fault> {
-        self.end_all(disk)
+        let next = self.next_superblock();
+        let last = next;
+        match end_store(self.mapping.store_mut(), disk, next, &mut self.stale) {
+            Ok(()) => {}
+            Err(Fault) => return Err(Fault),
+        }
+        self.last = last;
+        self.is_changed = false;
+        self.marks.clear();
+        Ok(())
     }
 
     ghost within = { λ m disk now kept st. stands_within m disk now kept st };
@@ -262,4 +302,24 @@ impl Metadata for Meta {
     ghost trees = { λ m disk now kept p st has. stands_trees m disk now kept p st has };
 
     ghost frame = { λ m old new now kept keeps st. frame_stands m old new now kept keeps st };
+}
+
+impl Meta {
+    /// The superblock of the next commit.
+    fn next_superblock(&self) -> Superblock
+        ensures value { result ≡ next_of self.now }
+        ensures sized { IsSized self.now.mapping.tm }
+    {
+        let _ = self.mapping.store().geometry();
+        let held_root = self.mapping.store().held_root();
+        Superblock {
+            version: Version::OwnSizes,
+            needs_check: self.needs_check,
+            sequence: self.last.sequence.wrapping_add(1),
+            transaction_id: self.transaction_id,
+            geometry: self.last.geometry,
+            root: self.mapping.root(),
+            held_root,
+        }
+    }
 }

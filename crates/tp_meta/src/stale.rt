@@ -96,7 +96,8 @@ impl StaleBlocks {
         }
     }
 
-    /// A commit was kept whose counts this area holds. In the other area the blocks whose counts it changed are stale too.
+    /// Called behind a commit into `area`, which holds the counts of now from then on. The blocks that this commit changed are stale in the other area, beside
+    /// those that were stale there before.
     pub(crate) fn kept_in(&mut self, area: SlotId, changed: &AreaMarks)
         ensures others { (other : SlotId) (part : Part) (j : ℕ) → other ≢ area → IsUnmarked (marks_in (in_area self.new other) part) j
             → IsUnmarked (marks_in (in_area self.old other) part) j × IsUnmarked (marks_in changed.now part) j }

@@ -52,20 +52,20 @@ pub struct Meta {
 
 /// The memory of what is kept beside the trees.
 #[derive(Drop)]
-struct Room {
+struct MarksMemory {
     marks: Marks,
     stale: Box<StaleBlocks>,
 }
 
-impl Room {
+impl MarksMemory {
     /// No data block is marked, and nothing is known of what the areas hold.
-    fn new(alloc: Global, blocks: usize) -> Result<Room, AllocError>
+    fn new(alloc: Global, blocks: usize) -> Result<MarksMemory, AllocError>
         ensures marks { IfOk result (λ room. room.marks ≡ replicate blocks false) }
         ensures stale { IfOk result (λ room. (area : SlotId) (part : Part) → marks_in (in_area room.stale.value area) part ≡ replicate 1024 true) }
     {
         let marks = Marks::new(alloc, blocks)?;
         let stale = Box::new(alloc, StaleBlocks::all())?;
-        Ok(Room { marks, stale })
+        Ok(MarksMemory { marks, stale })
     }
 }
 
@@ -92,7 +92,7 @@ impl Meta {
     {
         let opened = open_store(alloc, disk)?;
         let blocks = opened.superblock.geometry.data_blocks() as usize;
-        let Ok(room) = Room::new(alloc, blocks) else {
+        let Ok(room) = MarksMemory::new(alloc, blocks) else {
             return Err(Refusal::Memory);
         };
         let mut meta = Meta::unchanged(opened.tm, &opened.superblock, room);
@@ -125,7 +125,7 @@ impl Meta {
         ensures same { IsSameDisk (D.state disk.old) (D.state disk.new) }
         ensures cause { FaultHasCause (is_fault result) (D.state disk.old) (D.state disk.new) }
     {
-        let Ok(room) = Room::new(alloc, geometry.data_blocks() as usize) else {
+        let Ok(room) = MarksMemory::new(alloc, geometry.data_blocks() as usize) else {
             return Err(Refusal::Memory);
         };
         let tm = format(alloc, disk, geometry)?;
@@ -146,7 +146,7 @@ impl Meta {
     }
 
     /// The metadata of a commit that is the last one. Its devices were not counted yet.
-    fn unchanged(tm: Tm, last: &Superblock, room: Room) -> Meta
+    fn unchanged(tm: Tm, last: &Superblock, room: MarksMemory) -> Meta
         ensures stands { (disk : DiskState) (s : Store) → IsTrue disk.is_honest → Leaves (λ image. IsCommit image last.now s) disk.cells
             → Holds tm disk [] (held_by last.now.geometry last.now.root last.now.held_root) s → tm.geometry ≡ last.now.geometry → tm.held_root ≡ last.now.held_root → kept_now tm ≡ tm → room.marks ≡ replicate last.now.geometry.data_blocks false
             → ((area : SlotId) (part : Part) → marks_in (in_area room.stale.value area) part ≡ replicate 1024 true)
@@ -155,7 +155,7 @@ impl Meta {
         ensures last { result.last ≡ last.now }
         ensures changed { changed_of result ≡ false }
     {
-        let Room { marks, stale } = room;
+        let MarksMemory { marks, stale } = room;
         let _ = tm.geometry();
         let mapping = TreeMapping::new(tm, last.root);
         Meta {

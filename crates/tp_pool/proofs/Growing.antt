@@ -1,10 +1,8 @@
 -- A volume grows, in a pool that works.
-use Rattle.std.proofs.Common.{◌≡◌, ◌⊎◌, inl, inr, ℕ, ◌+◌, ◌*◌, ◌/◌, ◌^◌, ◌≤◌, ◌<◌, ◌↔◌, Bool, true, false, not, Option, None, Some, is_some, Result, Ok, Err, List, [], ◌∷◌, length, refl, sym, ◌∙◌, ap, subst, arith}
+use Rattle.std.proofs.Common.{◌≡◌, ◌⊎◌, inl, inr, ℕ, ◌+◌, ◌^◌, ◌≤◌, ◌<◌, ◌↔◌, Bool, true, false, not, Option, None, Some, is_some, Result, Ok, Err, List, [], ◌∷◌, length, refl, sym, ◌∙◌, ap, subst, arith}
 use Rattle.std.specs.Prelude.{IsSome, IsTrue, OnOk, is_err, nat_lt, if◌then◌else◌}
 use Rattle.std.specs.Option.{option_map, option_map_or}
-use Rattle.std.specs.FinMap.{get}
 use Rattle.std.proofs.lemmas.Bool.{cases_eq, cases_lt, eq-eqb, false≢true, ne_eqb, true≢false}
-use Rattle.std.proofs.lemmas.Nat.{div-mul-add}
 use Rattle.std.proofs.lemmas.Option.{none-some, same_Some}
 use Rattle.tp_model.specs.declared.mode.Mode.TheVariants as mode
 use Rattle.tp_model.specs.declared.refusal.Refusal.{Refusal}
@@ -12,7 +10,7 @@ use Rattle.tp_model.specs.declared.refusal.Refusal.TheVariants.{BadSize, Busy, D
 use Rattle.tp_model.specs.Geometry.{Geometry, IsWithinLimits}
 use Rattle.tp_model.specs.Told.{IsToldSize, told_blocks, told_sectors}
 use Rattle.tp_model.specs.Sectors.{Sector}
-use Rattle.tp_model.specs.Pool.{PlainPool, Volume, hold_count}
+use Rattle.tp_model.specs.Pool.{PlainPool, hold_count}
 use Rattle.tp_model.specs.PoolStops.{Given as GivenIn}
 use Rattle.tp_model.specs.Refusals.{is_fault, is_fault_refusal}
 use Rattle.tp_model.specs.Calls.{Call, Flush, Grow, IsAllowed, Refused, exists, first_failed, has_metadata_room, is_failed, is_failure, is_read_only, refusal_of, volume_blocks, refused_commits}
@@ -47,6 +45,7 @@ use Rattle.tp_pool.proofs.Halves.{half_changing}
 use Rattle.tp_pool.proofs.Keeping.{same_data_shows}
 use Rattle.tp_pool.proofs.Putting.{writable_is}
 use Rattle.tp_pool.proofs.Serving.{called_tested, is_some_to, write_refused}
+use Rattle.tp_pool.proofs.Sizes.{blocks_by}
 use Rattle.tp_pool.proofs.Stops.{Given, nothing_given}
 use Rattle.tp_pool.proofs.Times.{at_once}
 
@@ -66,13 +65,7 @@ module _ (g : Geometry) (id present : ℕ) (now : Contents) (has : HasBlocks g i
   plain_are : (image : List Sector) (s : PlainPool) → IsWithinLimits g → HasContents g now image s → volume_blocks s id ≡ present
   plain_are image s limits contents =
       let same : s.geometry.block_sectors ≡ g.block_sectors = ap (λ (x : Geometry). x.block_sectors) contents.geometry in
-      let long = by (get s.volumes id) (contents.sizes id ∙ ap (option_map (told_sectors g)) has.1) in
-      let plain : told_blocks g has.0 * g.block_sectors ≡ told_blocks g has.0 * g.block_sectors + 0 = omega arith in
-      (λ i. long i / same i) ∙ (ap (λ k. k / g.block_sectors) plain ∙ (div-mul-add (told_blocks g has.0) g.block_sectors 0 (omega (arith, limits.block_least)) ∙ sym has.2))
-    where
-      by : (o : Option Volume) → option_map (λ (v : Volume). length v.sectors) o ≡ Some (told_sectors g has.0) → length (option_map_or (λ (v : Volume). v.sectors) o []) ≡ told_sectors g has.0
-      by (Some v) e = same_Some (length v.sectors) (told_sectors g has.0) e
-      by None e = absurd (none-some (told_sectors g has.0) e)
+      blocks_by s id (told_blocks g has.0) g.block_sectors (omega (arith, limits.block_least)) same (contents.sizes id ∙ ap (option_map (told_sectors g)) has.1) ∙ sym has.2
 
   -- no fewer than the pool's own size has
   own_least : IsWithinLimits g → IsWithin g now.volumes → g.virtual_blocks ≤ present

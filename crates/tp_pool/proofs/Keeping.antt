@@ -159,9 +159,3 @@ module _ {M : Type 0} {geometry : M → Geometry} {stands : M → DiskState → 
   pub read_only_settled : (old : Held M) → old.mode ≡ mode.ReadOnly → (s : PlainPool) → shows geometry stands old s → IsSettled old.disk.cells
   read_only_settled old read_only s (inl w) = (w.2.settled read_only).cells
   read_only_settled old read_only s (inr f) = absurd (true≢false (sym (ap is_failed f.failed) ∙ ap is_failed read_only))
-
--- the disk of a pool that kept all
-pub settled_by : {M : Type 0} (mid new : Held M) (answer result : Result (Unit {0}) Refusal) → result ≡ answer → OnOk answer (new ≡ mid) → OnOk answer (IsSettled mid.disk.cells) → OnOk result (IsSettled new.disk.cells)
-settled_by mid new (Ok x) result same done settled =
-    subst (λ (r : Result (Unit {0}) Refusal). OnOk r (IsSettled new.disk.cells)) (sym same) (subst IsSettled (sym (ap (λ h. h.disk.cells) done)) settled)
-settled_by mid new (Err reason) result same done settled = subst (λ (r : Result (Unit {0}) Refusal). OnOk r (IsSettled new.disk.cells)) (sym same) tt

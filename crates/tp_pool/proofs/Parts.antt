@@ -7,7 +7,7 @@ use Rattle.tp_model.specs.declared.refusal.Refusal.{Refusal}
 use Rattle.tp_model.specs.declared.refusal.Refusal.TheVariants.{Fault}
 use Rattle.tp_model.specs.Geometry.{Geometry, data_sector}
 use Rattle.tp_model.specs.Sectors.{Sector, sectors_of}
-use Rattle.tp_model.specs.Calls.{Flush, is_failed}
+use Rattle.tp_model.specs.Calls.{Call, Flush, is_failed}
 use Rattle.tp_model.specs.Clauses.{EndsInVolume}
 use Rattle.tp_model.specs.Disk.{DiskState, seen}
 use Rattle.tp_model.specs.Refusals.{is_fault}
@@ -16,9 +16,10 @@ use Rattle.tp_sharing.specs.Volumes.{Volumes, device_of, slot_of}
 use Rattle.tp_stored.specs.Contents.{Contents, SameData}
 use Rattle.tp_shown.specs.Shown.{value_at, value_of, values_at}
 use Rattle.tp_meta.specs.Metadata.{IsCommitted, RanWithFlushes}
-use Rattle.tp_pool.specs.Held.{Held, LiesIn, failed_by, view}
+use Rattle.tp_pool.specs.Held.{Held, IsFlush, LiesIn, failed_by, view}
 use Rattle.tp_pool.specs.Midway.{IsFlushed, IsMidFlush}
 use Rattle.tp_pool.specs.Shared.{IsSharedRead}
+use Rattle.tp_pool.specs.Unkept.{IsMade}
 use Rattle.tp_pool.specs.Writing.{IsKept, IsReclaiming}
 use Rattle.tp_pool.proofs.Answering.{flush_tried, flush_writes, settled_answers}
 use Rattle.tp_pool.proofs.Calling.{Laws, settled}
@@ -61,37 +62,52 @@ module _ {M : Type 0} {geometry : M → Geometry} {stands : M → DiskState → 
     same_holders (Ok x) new done failed = ap (λ (h : Held M). h.holders) done
     same_holders (Err reason) new done failed = ap (λ (h : Held M). h.holders) failed
 
-    flushed_by : (result : Result (Unit {0}) Refusal) → IfErr result (λ reason. reason ≡ Fault)
+    -- a commit is all of FLUSH and of closing
+    keeps_by : (call : Call) → IsFlush call → (result : Result (Unit {0}) Refusal) → IfErr result (λ reason. reason ≡ Fault)
         → OnOk result ((now kept : Contents) → stands old.metadata old.disk now kept → now.meta_used + 128 ≤ (geometry old.metadata).metadata_blocks
         → IsKept geometry stands marks old.metadata metadata old.disk disk now × (room metadata + now.meta_used ≡ (geometry old.metadata).metadata_blocks))
         → ((now kept : Contents) → stands old.metadata old.disk now kept → now.meta_used + 128 ≤ (geometry old.metadata).metadata_blocks → LeavesOnly old.disk disk (IsReclaiming (geometry old.metadata) now kept old.disk))
         → RanWithFlushes (if changed old.metadata then 2 else 1) 2 (is_fault result) result old.disk disk → OnOk result (changed metadata ≡ false)
-        → (new : Held M) → OnOk result (new ≡ mid) → IfErr result (λ reason. new ≡ failed_by reason mid) → IsFlushed geometry stands marks room changed old new result
-    flushed_by result only kept left ran unchanged new done failed =
-        met_same geometry stands marks room changed old new Flush (same_sizes result new done failed) result (λ answer. refl) (same_holders result new done failed)
-        (settled laws Flush old mid new result result refl done failed
-        (keep_tried {marks = marks} {room = room} laws Flush (flushes_are Flush (inl refl)) old disk metadata works sizes ran.time left result ran.cause only kept))
-        (settled_answers geometry stands Flush old mid new result result (flush_writes geometry stands Flush (inl refl)) refl done failed (flush_tried geometry stands Flush (inl refl) old mid result works refl only))
-        (flush_flushes geometry stands marks room changed Flush (inl refl) old mid new works ran.flushes result result refl done failed ran.flushed unchanged only)
+        → (new : Held M) → OnOk result (new ≡ mid) → IfErr result (λ reason. new ≡ failed_by reason mid) → IsMade geometry stands marks room changed old new call result
+    keeps_by call is result only kept left ran unchanged new done failed = record {
+      called =
+          settled laws call old mid new result result refl done failed
+          (keep_tried {marks = marks} {room = room} laws call (flushes_are call is) old disk metadata works sizes ran.time left result ran.cause only kept);
+      answered = settled_answers geometry stands call old mid new result result (flush_writes geometry stands call is) refl done failed (flush_tried geometry stands call is old mid result works refl only);
+      flushes = flush_flushes geometry stands marks room changed call is old mid new works ran.flushes result result refl done failed ran.flushed unchanged only;
+    }
 
-    pub flush_made : {A E : Type 0} (value : A) → IsCommitted geometry stands marks room changed {A = A} {E = E} old.metadata metadata (Ok value) old.disk disk → (new : Held M) → new ≡ mid
-        → IsFlushed geometry stands marks room changed old new (Ok tt)
-    flush_made value c new is =
-        flushed_by (Ok tt) tt
+    pub keeps_made : {A E : Type 0} (call : Call) → IsFlush call → (value : A) → IsCommitted geometry stands marks room changed {A = A} {E = E} old.metadata metadata (Ok value) old.disk disk → (new : Held M) → new ≡ mid
+        → IsMade geometry stands marks room changed old new call (Ok tt)
+    keeps_made call is value c new same =
+        keeps_by call is (Ok tt) tt
         (λ now kept st spare.
         let k = c.kept now kept st spare in
         (record { standing = k.0; unmarked = c.marks; same_data = (c.committing now kept st spare).same_data; left = k.2; settled = c.ran.settled }, k.1))
         (λ now kept st spare. (c.committing now kept st spare).any_moment)
         (record { time = c.ran.time; same_disk = c.ran.same_disk; cause = c.ran.cause; flushes = c.ran.flushes; flushed = c.ran.flushed; settled = c.ran.settled })
-        c.unchanged new is tt
+        c.unchanged new same tt
+
+    pub keeps_failed : {A E : Type 0} (call : Call) → IsFlush call → (error : E) → IsCommitted geometry stands marks room changed {A = A} {E = E} old.metadata metadata (Err error) old.disk disk → (new : Held M)
+        → new ≡ failed_by Fault mid → IsMade geometry stands marks room changed old new call (Err Fault)
+    keeps_failed call is error c new same =
+        keeps_by call is (Err Fault) refl tt
+        (λ now kept st spare. (c.committing now kept st spare).any_moment)
+        (record { time = c.ran.time; same_disk = c.ran.same_disk; cause = c.ran.cause; flushes = c.ran.flushes; flushed = tt; settled = tt })
+        tt new tt same
+
+    flushed_so : (result : Result (Unit {0}) Refusal) (new : Held M) → OnOk result (new ≡ mid) → IfErr result (λ reason. new ≡ failed_by reason mid) → IsMade geometry stands marks room changed old new Flush result
+        → IsFlushed geometry stands marks room changed old new result
+    flushed_so result new done failed k =
+        met_same geometry stands marks room changed old new Flush (same_sizes result new done failed) result (λ answer. refl) (same_holders result new done failed) k.called k.answered k.flushes
+
+    pub flush_made : {A E : Type 0} (value : A) → IsCommitted geometry stands marks room changed {A = A} {E = E} old.metadata metadata (Ok value) old.disk disk → (new : Held M) → new ≡ mid
+        → IsFlushed geometry stands marks room changed old new (Ok tt)
+    flush_made value c new is = flushed_so (Ok tt) new is tt (keeps_made Flush (inl refl) value c new is)
 
     pub flush_failed : {A E : Type 0} (error : E) → IsCommitted geometry stands marks room changed {A = A} {E = E} old.metadata metadata (Err error) old.disk disk → (new : Held M) → new ≡ failed_by Fault mid
         → IsFlushed geometry stands marks room changed old new (Err Fault)
-    flush_failed error c new is =
-        flushed_by (Err Fault) refl tt
-        (λ now kept st spare. (c.committing now kept st spare).any_moment)
-        (record { time = c.ran.time; same_disk = c.ran.same_disk; cause = c.ran.cause; flushes = c.ran.flushes; flushed = tt; settled = tt })
-        tt new tt is
+    flush_failed error c new is = flushed_so (Err Fault) new tt is (keeps_failed Flush (inl refl) error c new is)
 
   -- ---- reads in between
 

@@ -34,7 +34,7 @@ told_of (Sized blocks) = blocks
 told_of answer = 0
 
 -- the blocks of a volume by its sectors
-blocks_by : (s : PlainPool) (id blocks n : ℕ) → 0 < n → s.geometry.block_sectors ≡ n → volume_size s id ≡ Some (blocks * n) → volume_blocks s id ≡ blocks
+pub blocks_by : (s : PlainPool) (id blocks n : ℕ) → 0 < n → s.geometry.block_sectors ≡ n → volume_size s id ≡ Some (blocks * n) → volume_blocks s id ≡ blocks
 blocks_by s id blocks n some same is =
     let long : length (volume_sectors s id) ≡ blocks * n = by (get s.volumes id) is in
     (λ i. long i / same i) ∙ (ap (λ k. k / n) (let plain : blocks * n ≡ blocks * n + 0 = omega arith in plain) ∙ div-mul-add blocks n 0 some)

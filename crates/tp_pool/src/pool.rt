@@ -1,5 +1,5 @@
 //! The pool.
-ghost use Rattle.std.specs.Prelude.{ℕ, ◌≡◌, ◌≢◌, ◌⊎◌, ◌+◌, ◌*◌, ◌^◌, ◌/◌, ◌%◌, ◌<◌, ◌≤◌, IsTrue, IfErr, MatchResult, OnOk, OnErr, Err, IfOk, IfSome, IsSome, false, if◌then◌else◌, is_some, length, not, true, []};
+ghost use Rattle.std.specs.Prelude.{ℕ, ◌≡◌, ◌≢◌, ◌⊎◌, ◌+◌, ◌*◌, ◌^◌, ◌/◌, ◌%◌, ◌<◌, ◌≤◌, IsTrue, IfErr, MatchResult, OnOk, OnErr, Err, IfOk, IfSome, IsSome, false, is_some, length, not, true, []};
 ghost use Rattle.tp_model.specs.Geometry.{sectors_of_image};
 ghost use Rattle.tp_model.specs.Sectors.{sectors_of};
 ghost use Rattle.tp_model.specs.Calls.{Call, Done, Flush, Found, Gave, Hold, LetGo, NextId, Read, Refused, Sized, VolumeBlocks, Write, holds_after, is_failed, is_read_only};
@@ -350,21 +350,6 @@ impl<D: Disk, M: Metadata> Pool<D, M> {
         answer
     }
 
-    /// Keeps all that was done.
-    fn keep_all(&mut self) -> Result<(), Refusal>
-        requires works { self.old.mode ≡ mode.Writable }
-        ensures called { (call : Call) → IsFlush call → PoolTried M.geometry M.stands self.old self.new call result }
-        ensures flushes { (self.old.disk.flushes ≤ self.new.disk.flushes) × (self.new.disk.flushes ≤ self.old.disk.flushes + 2) }
-        ensures flushed { OnOk result (self.new.disk.flushes ≡ self.old.disk.flushes + (if M.changed self.old.metadata then 2 else 1)) }
-        ensures unchanged { OnOk result (M.changed self.new.metadata ≡ false) }
-        ensures held { self.new ≡ record self.old { disk = self.new.disk; metadata = self.new.metadata } }
-        ensures geometry { M.geometry self.new.metadata ≡ M.geometry self.old.metadata }
-        ensures settled { OnOk result (IsSettled self.new.disk.cells) }
-        ensures only { IfErr result (λ refusal. refusal ≡ Refusal.Fault) }
-    {
-        keep(&mut self.disk, &mut self.metadata)
-    }
-
     /// Flushes or closes.
     fn keep_or_fail(&mut self) -> Result<(), Refusal>
         ensures called { (call : Call) → IsFlush call → PoolAnswered M.geometry M.stands self.old self.new call result }
@@ -380,10 +365,13 @@ impl<D: Disk, M: Metadata> Pool<D, M> {
         match self.mode {
             Mode::Failed => Err(Refusal::Failed),
             Mode::ReadOnly => Ok(()),
-            Mode::Writable => {
-                let answer = self.keep_all();
-                self.settle(answer)
-            }
+            Mode::Writable => match self.metadata.commit(&mut self.disk) {
+                Ok(()) => Ok(()),
+                Err(Fault) => {
+                    self.mode = Mode::Failed;
+                    Err(Refusal::Fault)
+                }
+            },
         }
     }
 

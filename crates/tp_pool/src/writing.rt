@@ -224,7 +224,10 @@ pub(crate) fn put_part<D: Disk, M: Metadata>(
     let block_sectors = geometry.block_sectors() as u64;
     let offset = sector % block_sectors;
     match own_place(&home) {
-        Some(place) => put_in_place(disk, blocks, place, offset, bytes),
+        Some(place) => match blocks.write_part(disk, place, offset, bytes) {
+            Ok(()) => Ok(()),
+            Err(Fault) => Err(StoreError::Fault),
+        },
         None => {
             if offset + bytes.len() as u64 / SECTOR > block_sectors {
                 return put_new_run(disk, metadata, blocks, id, sector, bytes);

@@ -6,7 +6,7 @@ use std::alloc::Global;
 use tp_check::check;
 use tp_disk::{Disk, Fault, MemDisk};
 use tp_layout::Superblock;
-use tp_meta::{Home, Meta, Metadata, StaleBlocks, commit_store, format, keep_data, open_store};
+use tp_meta::{Home, Meta, Metadata, StaleBlocks, commit_store, format, open_store};
 use tp_model::{DevId, Geometry, Mb, Refusal, Vb};
 use tp_super::load;
 use tp_tm::Tm;
@@ -351,12 +351,12 @@ fn a_commit_that_stops_leaves_the_old_or_the_new(rt: HostRuntime) {
     assert_eq!(rt; first_wrong_commit(rt.alloc()), Ok(None));
 }
 
-/// Writes the first sector of the data blocks and keeps it.
+/// Writes the first sector of the data blocks and flushes it, as a commit does where no metadata has changed.
 fn keep_first_sector(disk: &mut MemDisk, first: &[u8; 512]) -> Result<(), Fault> {
     if disk.sectors() > 16384 {
         disk.write(16384, first)?;
     }
-    keep_data(disk)
+    disk.flush()
 }
 
 /// What a stop leaves of that sector.

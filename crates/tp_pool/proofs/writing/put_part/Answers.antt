@@ -2,19 +2,18 @@ use Rattle.std.proofs.Common.{◌≡◌, ◌+◌, ◌*◌, ◌/◌, ◌%◌, ◌
 use Rattle.std.proofs.lemmas.Result.{on_ok_weaker}
 use Rattle.tp_model.specs.Geometry.{Geometry, IsWithinLimits}
 use Rattle.tp_model.specs.Sectors.{sectors_of}
-use Rattle.tp_model.specs.Disk.{FaultHasCause}
+use Rattle.tp_model.specs.Disk.{DiskState}
 use Rattle.tp_model.proofs.DiskLaws.{length-sectors_of}
 use Rattle.tp_shown.specs.Shown.{blocks_touched}
 use Rattle.tp_pool.specs.Writing.{HasWrittenPart, IsOwnRun, told_taken}
 use Rattle.tp_pool.proofs.InPlace.{after_same, half_in_place, writes_same, written_in_place}
-use Rattle.tp_counts.proofs.Refusing.{err_is_fault}
 use Rattle.tp_pool.proofs.Rounds.{touched_one, touched_whole}
-use Rattle.tp_pool.proofs.Runs.{ran_at_most, write_ran}
+use Rattle.tp_pool.proofs.Runs.{no_fault, one_fault, ran_at_most, write_ran}
 use Rattle.tp_pool.proofs.Taken.{told_if_not_own}
 use Rattle.tp_pool.proofs.writing.put_part.Goals as goal
 
-pub put_in_place-requires-clause-inside : goal.put_in_place-requires-clause-inside
-put_in_place-requires-clause-inside g c =
+pub write_part-requires-clause-inside : goal.write_part-requires-clause-inside
+write_part-requires-clause-inside g c =
     let size = g.M.Metadata.geometry c.args.metadata.now in
     let place = c.in-Some.place in
     let n = length c.args.bytes.now / 512 in
@@ -22,14 +21,12 @@ put_in_place-requires-clause-inside g c =
     subst (λ (x : Geometry). place * x.block_sectors + c.args.sector % c.block_sectors-block_sectors.result + n ≤ x.data_blocks * x.block_sectors) (sym c.requires.blocks)
     (subst (λ r. place * size.block_sectors + c.args.sector % r + n ≤ size.data_blocks * size.block_sectors) (sym sectors_is) (c.requires.inside place (sym c.own_place.ensures ∙ c.in-Some.is)))
 
-pub returns-in-Some-clause-written : goal.returns-in-Some-clause-written
-returns-in-Some-clause-written g c =
-    on_ok_weaker c.put_in_place.result
-    (λ done now kept stood device known.
+pub returns-in-Ok-clause-written : goal.returns-in-Ok-clause-written
+returns-in-Ok-clause-written g c now kept stood device known =
     let M = g.M.Metadata in
     let size = M.geometry c.args.metadata.now in
     let old = g.D.Disk.state c.args.disk.now in
-    let new = g.D.Disk.state c.put_in_place.new.disk in
+    let new = g.D.Disk.state c.write_part.new.disk in
     let place = c.in-Some.place in
     let sectors = sectors_of c.args.bytes.now in
     let count = length-sectors_of c.args.bytes.now in
@@ -39,19 +36,18 @@ returns-in-Some-clause-written g c =
     let own : IsOwnRun size c.args.id c.args.sector (length sectors) now.volumes (M.marks c.args.metadata.now) place =
     subst (λ n. IsOwnRun size c.args.id c.args.sector n now.volumes (M.marks c.args.metadata.now) place) (sym count) (known.run place (sym c.own_place.ensures ∙ c.in-Some.is)) in
     written_in_place M.geometry M.stands M.marks c.args.id c.args.sector place sectors c.args.metadata.now old new now kept (omega (arith, within.limits.block_least)) own
-    (writes_same c.args.blocks.now size (c.args.sector % c.block_sectors-block_sectors.result) (c.args.sector % size.block_sectors) place sectors old old new c.requires.blocks offset refl c.put_in_place.ensures.any)
+    (writes_same c.args.blocks.now size (c.args.sector % c.block_sectors-block_sectors.result) (c.args.sector % size.block_sectors) place sectors old old new c.requires.blocks offset refl c.write_part.ensures.any)
     (blocks_touched size c.args.sector (length c.args.bytes.now / 512)) (told_taken c.args.home)
     (λ x a b k s. g.met.M.Metadata.frame c.args.metadata.now a b x kept k s) stood
-    (after_same c.args.blocks.now size (c.args.sector % c.block_sectors-block_sectors.result) (c.args.sector % size.block_sectors) place sectors old old new c.requires.blocks offset refl done)
-    within.volumes_now (g.met.D.Disk.well_formed c.args.disk.now) c.requires.disk)
-    c.put_in_place.ensures.ok
+    (after_same c.args.blocks.now size (c.args.sector % c.block_sectors-block_sectors.result) (c.args.sector % size.block_sectors) place sectors old old new c.requires.blocks offset refl c.in-Ok.ensures.ok)
+    within.volumes_now (g.met.D.Disk.well_formed c.args.disk.now) c.requires.disk
 
-pub returns-in-Some-clause-left : goal.returns-in-Some-clause-left
-returns-in-Some-clause-left g c now kept stood device known =
+pub returns-in-Ok-clause-left : goal.returns-in-Ok-clause-left
+returns-in-Ok-clause-left g c now kept stood device known =
     let M = g.M.Metadata in
     let size = M.geometry c.args.metadata.now in
     let old = g.D.Disk.state c.args.disk.now in
-    let new = g.D.Disk.state c.put_in_place.new.disk in
+    let new = g.D.Disk.state c.write_part.new.disk in
     let place = c.in-Some.place in
     let sectors = sectors_of c.args.bytes.now in
     let count = length-sectors_of c.args.bytes.now in
@@ -61,14 +57,34 @@ returns-in-Some-clause-left g c now kept stood device known =
     let own : IsOwnRun size c.args.id c.args.sector (length sectors) now.volumes (M.marks c.args.metadata.now) place =
     subst (λ n. IsOwnRun size c.args.id c.args.sector n now.volumes (M.marks c.args.metadata.now) place) (sym count) (known.run place (sym c.own_place.ensures ∙ c.in-Some.is)) in
     half_in_place M.geometry M.stands M.marks c.args.id c.args.sector place sectors c.args.metadata.now old new now kept (omega (arith, within.limits.block_least)) own
-    (writes_same c.args.blocks.now size (c.args.sector % c.block_sectors-block_sectors.result) (c.args.sector % size.block_sectors) place sectors old old new c.requires.blocks offset refl c.put_in_place.ensures.any)
+    (writes_same c.args.blocks.now size (c.args.sector % c.block_sectors-block_sectors.result) (c.args.sector % size.block_sectors) place sectors old old new c.requires.blocks offset refl c.write_part.ensures.any)
     within.tracked (g.met.M.Metadata.left c.args.metadata.now old now kept stood)
 
-pub returns-in-Some-clause-ran : goal.returns-in-Some-clause-ran
-returns-in-Some-clause-ran g c =
+pub returns-in-Ok-clause-ran : goal.returns-in-Ok-clause-ran
+returns-in-Ok-clause-ran g c =
+    let same : (g.D.Disk.state c.write_part.new.disk).failures ≡ (g.D.Disk.state c.args.disk.now).failures = ap (λ (d : DiskState). d.failures) c.in-Ok.ensures.ok in
+    ran_at_most (write_ran c.write_part.ensures.any (no_fault same)) (omega arith)
+
+pub returns-in-Err-clause-left : goal.returns-in-Err-clause-left
+returns-in-Err-clause-left g c now kept stood device known =
+    let M = g.M.Metadata in
+    let size = M.geometry c.args.metadata.now in
     let old = g.D.Disk.state c.args.disk.now in
-    let new = g.D.Disk.state c.put_in_place.new.disk in
-    ran_at_most (write_ran c.put_in_place.ensures.any (subst (λ b. FaultHasCause b old new) (err_is_fault c.put_in_place.result c.put_in_place.ensures.only) c.put_in_place.ensures.cause)) (omega arith)
+    let new = g.D.Disk.state c.write_part.new.disk in
+    let place = c.in-Some.place in
+    let sectors = sectors_of c.args.bytes.now in
+    let count = length-sectors_of c.args.bytes.now in
+    let offset : c.args.sector % c.block_sectors-block_sectors.result ≡ c.args.sector % size.block_sectors =
+    ap (λ n. c.args.sector % n) (c.block_sectors-block_sectors.ensures.value ∙ ap (λ (x : Geometry). x.block_sectors) c.geometry-geometry.ensures) in
+    let within = g.met.M.Metadata.within c.args.metadata.now old now kept stood in
+    let own : IsOwnRun size c.args.id c.args.sector (length sectors) now.volumes (M.marks c.args.metadata.now) place =
+    subst (λ n. IsOwnRun size c.args.id c.args.sector n now.volumes (M.marks c.args.metadata.now) place) (sym count) (known.run place (sym c.own_place.ensures ∙ c.in-Some.is)) in
+    half_in_place M.geometry M.stands M.marks c.args.id c.args.sector place sectors c.args.metadata.now old new now kept (omega (arith, within.limits.block_least)) own
+    (writes_same c.args.blocks.now size (c.args.sector % c.block_sectors-block_sectors.result) (c.args.sector % size.block_sectors) place sectors old old new c.requires.blocks offset refl c.write_part.ensures.any)
+    within.tracked (g.met.M.Metadata.left c.args.metadata.now old now kept stood)
+
+pub returns-in-Err-clause-ran : goal.returns-in-Err-clause-ran
+returns-in-Err-clause-ran g c = ran_at_most (write_ran c.write_part.ensures.any (one_fault c.in-Err.ensures.err)) (omega arith)
 
 pub put_new_run-requires-clause-room : goal.put_new_run-requires-clause-room
 put_new_run-requires-clause-room g c =

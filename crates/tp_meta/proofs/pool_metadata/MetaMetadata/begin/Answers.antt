@@ -8,7 +8,7 @@ use Rattle.tp_meta.specs.Standing.{next_of}
 use Rattle.tp_meta.specs.declared.whole.Meta.{Meta}
 use Rattle.tp_meta.proofs.Begun.{between_written, carried, commit_failed}
 use Rattle.tp_meta.proofs.Midway.{back_failed, back_on}
-use Rattle.tp_meta.proofs.whole.Meta.begin_all.Goals as goal
+use Rattle.tp_meta.proofs.pool_metadata.MetaMetadata.begin.Goals as goal
 
 pub returns-in-Err-clause-failed : goal.returns-in-Err-clause-failed
 returns-in-Err-clause-failed g c =

@@ -5,7 +5,7 @@ use Rattle.tp_tm.specs.Tm.{Tm}
 use Rattle.tp_meta.specs.Midway.{IsNamed, StoresCommit}
 use Rattle.tp_meta.specs.declared.whole.Meta.{Meta}
 use Rattle.tp_meta.proofs.Begun.{carried, commit_failed, commit_made, lent}
-use Rattle.tp_meta.proofs.whole.Meta.end_all.Goals as goal
+use Rattle.tp_meta.proofs.pool_metadata.MetaMetadata.end.Goals as goal
 
 pub returns-in-Err-clause-committed : goal.returns-in-Err-clause-committed
 returns-in-Err-clause-committed g c before midway =

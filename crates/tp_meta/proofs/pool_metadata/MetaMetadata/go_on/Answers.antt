@@ -3,7 +3,7 @@ use Rattle.std.specs.Prelude.{Err}
 use Rattle.tp_disk.specs.declared.disk.Fault.{Fault}
 use Rattle.tp_meta.specs.Midway.{IsNamed, IsWritten, StoresCommit}
 use Rattle.tp_meta.proofs.Begun.{between_named, carried, commit_failed, lent}
-use Rattle.tp_meta.proofs.whole.Meta.go_on_all.Goals as goal
+use Rattle.tp_meta.proofs.pool_metadata.MetaMetadata.go_on.Goals as goal
 
 pub returns-in-Ok-clause-named : goal.returns-in-Ok-clause-named
 returns-in-Ok-clause-named g c before midway =
