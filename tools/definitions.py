@@ -230,7 +230,7 @@ class Source:
         self.read(head + 1, stop - 1, "    ", front)
 
     def keep_impl(self, start, head, stop):
-        """Of an impl of a trait the ghost members that it gives; of another one its calls."""
+        """Of an impl of a trait the ghost members that it gives, and those calls that have clauses of their own; of another one its calls."""
         said = re.match(r"(?:(!?[\w:]+)(?:<.*?>)? for )?&?(?:mut )?(\w+)", behind_generics(" ".join(self.text[start:head].split())))
         trait, name = said.groups() if said else (None, "")
         whole = self.piece(name, start, head)
@@ -238,8 +238,19 @@ class Source:
         if trait:
             self.members.setdefault((trait, name), whole)
             self.add_ghosts(whole, head, stop, lambda it: trait != "Model" or it in ("Value", "view"))
+            self.add_calls(whole, head, stop)
         else:
             self.read(head + 1, stop - 1, "    ", whole)
+
+    def add_calls(self, owner, head, stop):
+        """The calls of an impl of a trait whose clauses stand in the place of the trait's, for whoever knows the type."""
+        at = head + 1
+        while found := ITEM.search(self.text, at, stop - 1):
+            front, at = end_of_item(self.text, found.end())
+            if found.group(1, 2) == ("    ", "fn") and re.search(r"^ +(?:requires|ensures)\b", self.text[found.start():front], re.M):
+                whole = f"{owner.name}::{found.group(3)}"
+                made = self.items[whole] = self.piece(whole, found.start(), front, owner)
+                made.is_public = True
 
     def add_ghosts(self, piece, start, stop, wanted):
         for it in GHOST.finditer(self.text, start, stop):

@@ -19,7 +19,7 @@ use tp_failures::{Cause, Failure};
 use tp_hub::{Received, Stream};
 use tp_images::Images;
 use tp_meta::Meta;
-use tp_model::{DevId, Refusal};
+use tp_model::{DevId, Refusal, Volumes};
 use tp_progress::Progress;
 use tp_served::Served;
 use tp_words::Sizes;

@@ -3,7 +3,7 @@
 ghost use Rattle.std.specs.Prelude.{◌≡◌, ◌+◌, ◌++◌, ◌≤◌, length, take};
 ghost use Rattle.tp_model.specs.Calls.{Status, ThinStatus};
 ghost use Rattle.tp_msg.specs.Asked.{call_of};
-ghost use Rattle.tp_served.specs.Served.{cached};
+ghost use Rattle.tp_served.specs.AtMetadata.{cached};
 ghost use Rattle.tp_commands.specs.Images.{PrintsCheck};
 ghost use Rattle.tp_commands.specs.Printing.{IsLineGiven, Prints, PrintsCall, newline, status_call};
 
@@ -13,7 +13,7 @@ use tp_disk::Disk;
 use tp_hub::{Stream, send_all};
 use tp_meta::Metadata;
 use tp_model::{DevId, Refusal};
-use tp_msg::{LineBuffer, Message, read_message};
+use tp_msg::{LineBuffer, Managed, Message, read_message};
 use tp_served::Served;
 
 /// The most bytes of a status line, and with its newline.
@@ -70,20 +70,20 @@ pub fn print_status<D: Disk + Drop, M: Metadata + Drop, S: Stream>(
     pool: &mut Served<D, M>,
     stream: &mut S,
 ) -> Result<(), Refusal>
-    ensures { PrintsCall (cached M.geometry M.stands M.marks M.room M.changed) pool.old pool.new Status (S.calls stream.old) (S.calls stream.new) result }
+    ensures { PrintsCall (cached M.Metadata) pool.old pool.new Status (S.calls stream.old) (S.calls stream.new) result }
 {
     let mut line = [0; LINE];
     let len = pool.status(&mut line);
     print_line(stream, &line[..len])
 }
 
-/// Prints the status line of a volume: 15, 5, or 5 where the stream fails.
+/// Prints the status line of a volume: `NoSuchDevice` or `Fault`, or `Fault` where the stream fails.
 fn print_thin_status<D: Disk + Drop, M: Metadata + Drop, S: Stream>(
     pool: &mut Served<D, M>,
     id: DevId,
     stream: &mut S,
 ) -> Result<(), Refusal>
-    ensures { PrintsCall (cached M.geometry M.stands M.marks M.room M.changed) pool.old pool.new (ThinStatus id) (S.calls stream.old) (S.calls stream.new) result }
+    ensures { PrintsCall (cached M.Metadata) pool.old pool.new (ThinStatus id) (S.calls stream.old) (S.calls stream.new) result }
 {
     let mut line = [0; LINE];
     match pool.thin_status(id, &mut line) {
@@ -98,7 +98,7 @@ pub fn tell_status<D: Disk + Drop, M: Metadata + Drop, S: Stream>(
     id: Option<DevId>,
     stream: &mut S,
 ) -> Result<(), Refusal>
-    ensures { PrintsCall (cached M.geometry M.stands M.marks M.room M.changed) pool.old pool.new (status_call id) (S.calls stream.old) (S.calls stream.new) result }
+    ensures { PrintsCall (cached M.Metadata) pool.old pool.new (status_call id) (S.calls stream.old) (S.calls stream.new) result }
 {
     match id {
         None => print_status(pool, stream),
@@ -112,7 +112,7 @@ fn give<D: Disk + Drop, M: Metadata + Drop, S: Stream>(
     message: &Message,
     stream: &mut S,
 ) -> Result<(), Refusal>
-    ensures { PrintsCall (cached M.geometry M.stands M.marks M.room M.changed) pool.old pool.new (call_of message.now) (S.calls stream.old) (S.calls stream.new) result }
+    ensures { PrintsCall (cached M.Metadata) pool.old pool.new (call_of message.now) (S.calls stream.old) (S.calls stream.new) result }
 {
     match pool.order(message) {
         Ok(()) => print_line(stream, b"ok"),
@@ -126,7 +126,7 @@ pub fn give_line<D: Disk + Drop, M: Metadata + Drop, S: Stream>(
     line: &str,
     stream: &mut S,
 ) -> Result<(), Refusal>
-    ensures { IsLineGiven (cached M.geometry M.stands M.marks M.room M.changed) pool.old pool.new line.now (S.calls stream.old) (S.calls stream.new) result }
+    ensures { IsLineGiven (cached M.Metadata) pool.old pool.new line.now (S.calls stream.old) (S.calls stream.new) result }
 {
     match read_message(line.as_bytes()) {
         Ok(message) => give(pool, &message, stream),

@@ -11,9 +11,10 @@ ghost use Rattle.tp_msg.specs.Messages.{reading};
 ghost use Rattle.tp_msg.specs.declared.message.Message.{Message};
 ghost use Rattle.tp_image.specs.Fresh.{empty_pool};
 ghost use Rattle.tp_image.specs.Stands.{StandsFor};
-ghost use Rattle.tp_pool.specs.Flushes.{served};
+ghost use Rattle.tp_pool.specs.AtMetadata.{served};
 ghost use Rattle.tp_pool.specs.Held.{Held, IsSomePool};
-ghost use Rattle.tp_served.specs.Served.{Cached, cached};
+ghost use Rattle.tp_served.specs.AtMetadata.{cached};
+ghost use Rattle.tp_served.specs.Served.{Cached};
 ghost use Rattle.nbd_session.specs.Turns.{AreLives, AreRuns, Life};
 ghost use Rattle.tp_hub.specs.Serving.{Slots};
 ghost use Rattle.tp_hub.specs.Desks.{Exchange};
@@ -50,7 +51,7 @@ use tp_served::Served;
 /// honest one; by `tp_pool::pool_calls_are_calls` the pool's other calls are turns; a client's turn is what `nbd_session::Session` says.
 pub fn stored_pools_are_plain<D: Disk, M: Metadata>()
     ensures { (image : List Sector) (s : PlainPool) (lives : List (Life (Held M) (List Sector))) → IsSomePool image × StandsFor image s
-        → AreLives (served M.geometry M.stands M.marks M.room M.changed) image lives → AreRuns (served M.geometry M.stands M.marks M.room M.changed) s lives }
+        → AreLives (served M.Metadata) image lives → AreRuns (served M.Metadata) s lives }
 {
     lives_are_runs::<Pool<D, M>>();
 }
@@ -61,7 +62,7 @@ pub fn stored_pools_are_plain<D: Disk, M: Metadata>()
 /// call `Served` says itself that it is a turn.
 pub fn served_pools_are_plain<D: Disk + Drop, M: Metadata + Drop>()
     ensures { (image : List Sector) (s : PlainPool) (lives : List (Life (Cached M) (List Sector))) → IsSomePool image × StandsFor image s
-        → AreLives (cached M.geometry M.stands M.marks M.room M.changed) image lives → AreRuns (cached M.geometry M.stands M.marks M.room M.changed) s lives }
+        → AreLives (cached M.Metadata) image lives → AreRuns (cached M.Metadata) s lives }
 {
     lives_are_runs::<Served<D, M>>();
 }

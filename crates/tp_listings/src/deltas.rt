@@ -43,7 +43,7 @@ pub(crate) fn differ(one: Option<u32>, other: Option<u32>) -> bool
     one != other
 }
 
-/// Puts a block behind the others where it is wanted: Ok, or 10.
+/// Puts a block behind the others where it is wanted: `Memory` where there is none.
 fn push_wanted(extents: &mut Vec<Extent>, block: u32, is_wanted: bool) -> Result<(), Refusal>
     requires { block < 16777216 }
     ensures wanted { OnOk result (IsTrue is_wanted → IsPushed block extents.old.items extents.new.items) }
@@ -92,8 +92,9 @@ fn list_next<V: Walked>(
     Ok(block + 1)
 }
 
-/// The blocks of `new` in which it may differ from `old`, where the two have not the same data block, as runs in their order: Ok, or 21, 15, 5, 2, or 10 where there is no
-/// memory for the list. It writes nothing.
+/// The blocks of `new` in which it may differ from `old`, where the two have not the same data block, as runs in their order. It writes nothing.
+///
+/// Refused by `Failed`, `NoSuchDevice`, `Fault`, `Damaged`, or by `Memory` where there is none for the list.
 pub fn delta<V: Walked>(
     alloc: Global,
     pool: &mut V,

@@ -16,7 +16,7 @@ pub(crate) fn goes_on(run: Extent, block: u32) -> bool
     block - run.first == run.blocks
 }
 
-/// Puts a run behind the others: Ok, or 10.
+/// Puts a run behind the others: `Memory` where there is none.
 fn push_run(extents: &mut Vec<Extent>, run: Extent) -> Result<(), Refusal>
     ensures pushed { OnOk result (extents.new.items ≡ extents.old.items ++ run ∷ []) }
     ensures refused { IfErr result (λ reason. reason ≡ Refusal.Memory) }
@@ -27,7 +27,7 @@ fn push_run(extents: &mut Vec<Extent>, run: Extent) -> Result<(), Refusal>
     }
 }
 
-/// Puts a run behind the others, which goes on with the last one where that ends at it: Ok, or 10.
+/// Puts a run behind the others, which goes on with the last one where that ends at it: `Memory` where there is none.
 pub fn add_run(extents: &mut Vec<Extent>, run: Extent) -> Result<(), Refusal>
     requires { run.first + run.blocks < 4294967296 }
     ensures added { OnOk result (extents.new.items ≡ joined extents.old.items (run ∷ [])) }
@@ -47,7 +47,7 @@ pub fn add_run(extents: &mut Vec<Extent>, run: Extent) -> Result<(), Refusal>
     push_run(extents, run)
 }
 
-/// Puts a block behind the others, which goes on with the last run where it is the next one: Ok, or 10.
+/// Puts a block behind the others, which goes on with the last run where it is the next one: `Memory` where there is none.
 pub(crate) fn push_block(extents: &mut Vec<Extent>, block: u32) -> Result<(), Refusal>
     requires { block < 16777216 }
     ensures pushed { OnOk result (IsPushed block extents.old.items extents.new.items) }

@@ -49,7 +49,9 @@ pub(crate) struct Cursor {
 }
 
 impl Cursor {
-    /// The slots of a volume from block 0 on: Ok, or 21, 15, 5, 2.
+    /// The slots of a volume from block 0 on.
+    ///
+    /// Refused by `Failed`, `NoSuchDevice`, `Fault` or `Damaged`.
     pub(crate) fn begin<V: Walked>(pool: &mut V, id: DevId) -> Result<Cursor, Refusal>
         ensures looks { LooksOver V.view pool.old pool.new result }
         ensures still { ShowsStill V.view pool.old pool.new }
@@ -62,7 +64,9 @@ impl Cursor {
         Ok(Cursor { id, slots, at: 0 })
     }
 
-    /// The first slot with block `from` or a later one, if there is one: Ok, or 21, 15, 5, 2. Of what was asked for before, no block was a later one.
+    /// The first slot with block `from` or a later one, if there is one. Of what was asked for before, no block was a later one.
+    ///
+    /// Refused by `Failed`, `NoSuchDevice`, `Fault` or `Damaged`.
     pub(crate) fn first_from<V: Walked>(
         &mut self,
         pool: &mut V,

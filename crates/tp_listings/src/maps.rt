@@ -37,7 +37,9 @@ fn list_next<V: Walked>(
     Ok(block + 1)
 }
 
-/// The blocks of a volume that are mapped, as runs in their order: Ok, or 21, 15, 5, 2, or 10 where there is no memory for the list. It writes nothing.
+/// The blocks of a volume that are mapped, as runs in their order. It writes nothing.
+///
+/// Refused by `Failed`, `NoSuchDevice`, `Fault`, `Damaged`, or by `Memory` where there is none for the list.
 pub fn map<V: Walked>(alloc: Global, pool: &mut V, id: DevId) -> Result<Vec<Extent>, Refusal>
     ensures looks { LooksOver V.view pool.old pool.new result }
     ensures still { ShowsStill V.view pool.old pool.new }

@@ -25,7 +25,7 @@ const SEVERAL: u32 = 1;
 /// The number of the first volume of a list, which has the data block alone. That of the next one is one more.
 pub(crate) const FIRST: u32 = 2;
 
-/// A table of so many data blocks, none of which anybody has: Ok, or 10. It takes 4 bytes for each.
+/// A table of so many data blocks, none of which anybody has: `Memory` where there is none for it. It takes 4 bytes for each.
 pub(crate) fn new_table(alloc: Global, places: usize) -> Result<Vec<u32>, Refusal>
     ensures long { IfOk result (λ owners. length owners.items ≡ places) }
     ensures blank { IfOk result (λ owners. (place : ℕ) → slice_index owners.items place ≡ 0) }
@@ -97,7 +97,9 @@ fn behind(from: u32, slots: &[Slot]) -> u32
     next_of(from, last)
 }
 
-/// Marks the data blocks of a volume with the number `mine`, and tells how many slots it has: Ok, or 21, 15, 5, 2.
+/// Marks the data blocks of a volume with the number `mine`, and tells how many slots it has.
+///
+/// Refused by `Failed`, `NoSuchDevice`, `Fault` or `Damaged`.
 pub(crate) fn mark_volume<V: Walked>(
     pool: &mut V,
     id: DevId,

@@ -13,7 +13,7 @@ use crate::usage::survey;
 use std::alloc::Global;
 use tp_model::{Refusal, Walked};
 
-/// Puts a data block behind the others where nobody has it: Ok, or 10.
+/// Puts a data block behind the others where nobody has it: `Memory` where there is none.
 fn list_unowned(extents: &mut Vec<Extent>, owner: u32, place: u32) -> Result<(), Refusal>
     requires { place < 16777216 }
     ensures blank { owner ≡ 0 → OnOk result (IsPushed place extents.old.items extents.new.items) }
@@ -26,7 +26,7 @@ fn list_unowned(extents: &mut Vec<Extent>, owner: u32, place: u32) -> Result<(),
     push_block(extents, place)
 }
 
-/// Those of the first data blocks that nobody has, so many of them looked at, as runs in their order: Ok, or 10.
+/// Those of the first data blocks that nobody has, so many of them looked at, as runs in their order: `Memory` where there is none.
 fn blank_runs(alloc: Global, owners: &[u32], blocks: u32) -> Result<Vec<Extent>, Refusal>
     requires inside { blocks ≤ length owners.now }
     requires most { blocks ≤ 1048576 }
@@ -40,8 +40,9 @@ fn blank_runs(alloc: Global, owners: &[u32], blocks: u32) -> Result<Vec<Extent>,
     Ok(extents)
 }
 
-/// The data blocks that no volume has, as runs in their order: Ok, or 21, 5, 2, or 10 where there is no memory for it: 4 MiB, 16 bytes for each volume, and 8 for each run. Those that
-/// a held mapping alone has are among them. It writes nothing.
+/// The data blocks that no volume has, as runs in their order. Those that a held mapping alone has are among them. It writes nothing.
+///
+/// Refused by `Failed`, `Fault`, `Damaged`, or by `Memory` where there is none for it: 4 MiB, 16 bytes for each volume, and 8 for each run.
 pub fn free<V: Walked>(alloc: Global, pool: &mut V) -> Result<Vec<Extent>, Refusal>
     ensures looks { LooksOver V.view pool.old pool.new result }
     ensures still { ShowsStill V.view pool.old pool.new }

@@ -15,8 +15,10 @@ use tp_model::{DevId, Refusal, Walked};
 /// Ids of volumes are below this one.
 const VOLUMES: u32 = 16_777_216;
 
-/// The volume with the least id from `from` on, if there is one, whose data blocks are marked with the number `mine`: Ok, or 21, 15, 5, 2. What it has alone is not
-/// counted yet.
+/// The volume with the least id from `from` on, if there is one, whose data blocks are marked with the number `mine`. What it has alone is not counted
+/// yet.
+///
+/// Refused by `Failed`, `NoSuchDevice`, `Fault` or `Damaged`.
 fn next_usage<V: Walked>(
     pool: &mut V,
     from: u32,
@@ -43,7 +45,7 @@ fn next_usage<V: Walked>(
     }))
 }
 
-/// Puts a volume behind the others: Ok, or 10.
+/// Puts a volume behind the others: `Memory` where there is none.
 fn push_usage(usages: &mut Vec<Usage>, usage: Usage) -> Result<(), Refusal>
     ensures pushed { OnOk result (usages.new.items ≡ usages.old.items ++ usage ∷ []) }
     ensures refused { IfErr result (λ reason. reason ≡ Refusal.Memory) }
@@ -54,8 +56,9 @@ fn push_usage(usages: &mut Vec<Usage>, usage: Usage) -> Result<(), Refusal>
     }
 }
 
-/// All volumes in the order of their ids, whose data blocks are marked in the table: Ok, or 21, 5, 2, or 10 where there is no memory for the list. What they have alone is not
-/// counted yet.
+/// All volumes in the order of their ids, whose data blocks are marked in the table. What they have alone is not counted yet.
+///
+/// Refused by `Failed`, `Fault`, `Damaged`, or by `Memory` where there is none for the list.
 pub(crate) fn survey<V: Walked>(
     alloc: Global,
     pool: &mut V,
@@ -82,7 +85,9 @@ pub(crate) fn survey<V: Walked>(
     Ok(usages)
 }
 
-/// What each volume has, in the order of their ids: Ok, or 21, 5, 2, or 10 where there is no memory for it: 4 MiB, and 16 bytes for each volume. It writes nothing.
+/// What each volume has, in the order of their ids. It writes nothing.
+///
+/// Refused by `Failed`, `Fault`, `Damaged`, or by `Memory` where there is none for it: 4 MiB, and 16 bytes for each volume.
 pub fn usages<V: Walked>(alloc: Global, pool: &mut V) -> Result<Vec<Usage>, Refusal>
     ensures looks { LooksOver V.view pool.old pool.new result }
     ensures still { ShowsStill V.view pool.old pool.new }

@@ -9,8 +9,8 @@ use tp_cache::ReadCache;
 use tp_disk::MemDisk;
 use tp_hub::Hub;
 use tp_meta::Meta;
-use tp_model::{DevId, Geometry, Refusal};
-use tp_msg::Message;
+use tp_model::{DevId, Geometry, Refusal, Volumes};
+use tp_msg::{Managed, Message};
 use tp_served::{Room, Served};
 
 pub(crate) type MemServed = Served<ReadCache<MemDisk>, Meta>;

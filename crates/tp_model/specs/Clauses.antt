@@ -1,9 +1,10 @@
 -- Trusted reading: the clauses of a pool's contract: that a call is the plain pool's, and what a stop leaves, in it and after it. And the traced plain
 -- pool, on which answers, faults and stops stand together (own).
-use Rattle.std.specs.Prelude.{◌≡◌, ℕ, ◌+◌, ◌*◌, ◌^◌, ◌<◌, ◌≤◌, false, None, Some, List, [], ◌∷◌, ◌++◌, map, ◌⊎◌, Bool, IsSome, IsTrue, if◌then◌else◌}
+use Rattle.std.specs.Prelude.{◌≡◌, ℕ, ◌+◌, ◌*◌, ◌^◌, ◌<◌, ◌≤◌, false, None, Some, List, [], ◌∷◌, ◌++◌, map, ◌⊎◌, Bool, IsSome, IsTrue, MatchResult, Result, if◌then◌else◌}
 use Rattle.tp_model.specs.Pool.{IsConsistent, PlainPool, Outline, hold_count, outline_of, volume_size}
-use Rattle.tp_model.specs.Calls.{Call, Answer, VolumeBlocks, Sized, Makes, Takes, HasCause, holds_after, is_failed, MayAnswer, Done, changes_nothing, commits, has_committed, is_flush, is_silent, is_writing, may_reclaim, mode_after, most_flushes, refusal_of}
+use Rattle.tp_model.specs.Calls.{Call, Answer, VolumeBlocks, Sized, Makes, Takes, HasCause, holds_after, is_failed, MayAnswer, Done, Refused, changes_nothing, commits, has_committed, is_flush, is_silent, is_writing, may_reclaim, mode_after, most_flushes, refusal_of}
 use Rattle.tp_model.specs.declared.mode.Mode.TheVariants.{Writable}
+use Rattle.tp_model.specs.declared.refusal.Refusal.{Refusal}
 use Rattle.tp_model.specs.Geometry.{sectors_of_volume}
 use Rattle.tp_model.specs.PoolStops.{During, Event, Nothing, MayBeLeft, MayBeLeftSince, MayReopen, StopsWithin, reopened}
 
@@ -183,6 +184,10 @@ module _ {D : Type 0} (v : View D) where
     pub meets : (s : PlainPool) → v.shows old s →
         (made : PlainPool) × (refusal_of s call ≡ None) × Makes s call made × v.shows new made
         × ((P : PlainPool) → found_since new (v.moment old) P → During (found_now old) (record { before = s; call = call; answer = Done; made = made }) P)
+
+-- One call, by its result: the answer that is meant where it was accepted, and else its refusal.
+abbrev pub MetBy : {D : Type 0} {A : Type 0} → View D → D → D → Call → (A → Answer) → Result A Refusal → Type 0
+MetBy v old new call meant result = MatchResult result (λ x. Meets v old new call (meant x)) (λ reason. Meets v old new call (Refused reason))
 
 -- ---- a pool and the traced plain pool
 

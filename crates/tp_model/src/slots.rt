@@ -69,9 +69,11 @@ impl Default for Slot {
 
 /// Volumes of which the slots can be listed.
 pub trait Walked: Volumes {
-    /// Lists the slots of a volume with blocks from `from` on, in the order of their blocks, each with the number of its data block: Ok, or 21, 15, 5, 2. It lists 252 where
-    /// there are so many, and the next call asks for those from behind the last one; where it lists fewer, there are no more. It writes nothing and takes no memory. Behind an
-    /// `Err` `slots` may hold anything.
+    /// Lists the slots of a volume with blocks from `from` on, in the order of their blocks, each with the number of its data block. It lists 252 where
+    /// there are so many, and the next call asks for those from behind the last one; where it lists fewer, there are no more. It writes nothing and takes
+    /// no memory. Behind an `Err` `slots` may hold anything.
+    ///
+    /// Refused by `Failed`, `NoSuchDevice`, `Fault` or `Damaged`.
     fn walk(&mut self, id: DevId, from: Vb, slots: &mut Slots) -> Result<(), Refusal>
         ensures { MatchResult result
             (λ _. Meets Self.view self.old self.new (Walk id from) (Listed (listed slots.new.items)))

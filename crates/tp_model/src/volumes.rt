@@ -26,8 +26,10 @@ pub trait Volumes {
     fn mode(&self) -> Mode
         ensures { result ≡ (view.outline self.now).mode };
 
-    /// Reads at most 2048 sectors of a volume: Ok, or 15, 21, 5, 2. The range lies in the volume. Where nobody holds it, or there is no such
-    /// volume, one that lies in the pool's own size will do.
+    /// Reads at most 2048 sectors of a volume. The range lies in the volume. Where nobody holds it, or there is no such volume, one that lies in the
+    /// pool's own size will do.
+    ///
+    /// Refused by `NoSuchDevice`, `Failed`, `Fault` or `Damaged`.
     fn read(&mut self, id: DevId, sector: u64, out: &mut [u8]) -> Result<(), Refusal>
         requires whole { length out.old % 512 ≡ 0 }
         requires range { EndsInVolume view self.old id (sector + length out.old / 512) }
@@ -36,8 +38,9 @@ pub trait Volumes {
             (λ _. Meets view self.old self.new (Read id sector (length out.old / 512)) (Gave (sectors_of out.new)))
             (λ reason. Meets view self.old self.new (Read id sector (length out.old / 512)) (Refused reason)) };
 
-    /// Writes at most 2048 sectors of a volume, and with `fua` keeps them: Ok, or 15, 21, 20, 18, 24, 5, 2. The range lies
-    /// in the volume.
+    /// Writes at most 2048 sectors of a volume, and with `fua` keeps them. The range lies in the volume.
+    ///
+    /// Refused by `NoSuchDevice`, `Failed`, `ReadOnly`, `NoMetadataSpace`, `NoDataSpace`, `Fault` or `Damaged`.
     fn write(&mut self, id: DevId, sector: u64, bytes: &[u8], fua: bool) -> Result<(), Refusal>
         requires whole { length bytes.now % 512 ≡ 0 }
         requires range { EndsInVolume view self.old id (sector + length bytes.now / 512) }
@@ -46,8 +49,10 @@ pub trait Volumes {
             (λ _. Meets view self.old self.new (Write id sector (sectors_of bytes.now) fua) Done)
             (λ reason. Meets view self.old self.new (Write id sector (sectors_of bytes.now) fua) (Refused reason)) };
 
-    /// Takes the data blocks of the blocks of a volume that lie wholly in a range of at most 2048 sectors, and with `fua` keeps that: Ok, or
-    /// 15, 21, 20, 18, 5, 2. Blocks that lie in it in part stay as they are. The range lies in the volume.
+    /// Takes the data blocks of the blocks of a volume that lie wholly in a range of at most 2048 sectors, and with `fua` keeps that. Blocks that lie in
+    /// it in part stay as they are. The range lies in the volume.
+    ///
+    /// Refused by `NoSuchDevice`, `Failed`, `ReadOnly`, `NoMetadataSpace`, `Fault` or `Damaged`.
     fn trim(&mut self, id: DevId, sector: u64, count: u64, fua: bool) -> Result<(), Refusal>
         requires range { EndsInVolume view self.old id (sector + count) }
         requires most { count ≤ 2048 }
@@ -55,9 +60,10 @@ pub trait Volumes {
             (λ _. Meets view self.old self.new (Trim id sector count fua) Done)
             (λ reason. Meets view self.old self.new (Trim id sector count fua) (Refused reason)) };
 
-    /// Makes at most 2048 sectors of a volume zero, and with `fua` keeps that: Ok, or 15, 21, 20, 18, 24, 5, 2. With `no_hole` each of them has a
-    /// data block then. Else blocks that lie wholly in the range have none, and one that lies in it in part has one where it had one. The
-    /// range lies in the volume.
+    /// Makes at most 2048 sectors of a volume zero, and with `fua` keeps that. With `no_hole` each of them has a data block then. Else blocks that lie
+    /// wholly in the range have none, and one that lies in it in part has one where it had one. The range lies in the volume.
+    ///
+    /// Refused by `NoSuchDevice`, `Failed`, `ReadOnly`, `NoMetadataSpace`, `NoDataSpace`, `Fault` or `Damaged`.
     fn write_zeroes(
         &mut self,
         id: DevId,
@@ -72,27 +78,34 @@ pub trait Volumes {
             (λ _. Meets view self.old self.new (WriteZeroes id sector count no_hole fua) Done)
             (λ reason. Meets view self.old self.new (WriteZeroes id sector count no_hole fua) (Refused reason)) };
 
-    /// Keeps all that was done: Ok, or 21, 5, 2.
+    /// Keeps all that was done.
+    ///
+    /// Refused by `Failed`, `Fault` or `Damaged`.
     fn flush(&mut self) -> Result<(), Refusal>
         ensures { MatchResult result
             (λ _. Meets view self.old self.new Flush Done)
             (λ reason. Meets view self.old self.new Flush (Refused reason)) };
 
-    /// The least id of a volume that is `from` or more, if there is one: Ok, or 21, 5, 2. It writes nothing and takes no memory.
+    /// The least id of a volume that is `from` or more, if there is one. It writes nothing and takes no memory.
+    ///
+    /// Refused by `Failed`, `Fault` or `Damaged`.
     fn next_id(&mut self, from: DevId) -> Result<Option<DevId>, Refusal>
         ensures { MatchResult result
             (λ found. Meets view self.old self.new (NextId from) (Found found))
             (λ reason. Meets view self.old self.new (NextId from) (Refused reason)) };
 
-    /// How many blocks a volume has: Ok, or 21, 15, 5, 2. It writes nothing and takes no memory, and makes no call of the disk for a volume
-    /// that is held.
+    /// How many blocks a volume has. It writes nothing and takes no memory, and makes no call of the disk for a volume that is held.
+    ///
+    /// Refused by `Failed`, `NoSuchDevice`, `Fault` or `Damaged`.
     fn volume_blocks(&mut self, id: DevId) -> Result<u32, Refusal>
         ensures told { MatchResult result
             (λ blocks. Meets view self.old self.new (VolumeBlocks id) (Sized blocks))
             (λ reason. Meets view self.old self.new (VolumeBlocks id) (Refused reason)) }
         ensures most { IfOk result (λ blocks. blocks ≤ 16777216) };
 
-    /// Holds a volume, which is Busy then: Ok, or 21, 15, 5, 2. At most 64 holds stand at once.
+    /// Holds a volume, which is Busy then. At most 64 holds stand at once.
+    ///
+    /// Refused by `Failed`, `NoSuchDevice`, `Fault` or `Damaged`.
     fn hold(&mut self, id: DevId) -> Result<(), Refusal>
         requires { hold_total (view.outline self.old).holds < 64 }
         ensures { MatchResult result
@@ -193,8 +206,10 @@ pub trait Staged: SharedVolumes + Sized {
     /// Such volumes in the middle of a flush.
     type Midway: SharedReads<Self>;
 
-    /// The first part of a flush, or the whole of it, which is one of `flush`: Ok, or 21, 5, 2. Where others are left, what this one wrote is brought to the
-    /// device by `sync_beside` before the next, which finds less to wait for.
+    /// The first part of a flush, or the whole of it, which is one of `flush`. Where others are left, what this one wrote is brought to the device by
+    /// `sync_beside` before the next, which finds less to wait for.
+    ///
+    /// Refused by `Failed`, `Fault` or `Damaged`.
     fn begin_flush(self) -> Flushing<Self, Self::Midway>
         ensures { IsFlushing Self.view Self.Midway.of self result };
 

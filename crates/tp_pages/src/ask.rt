@@ -15,8 +15,10 @@ fn unit_of(geometry: Geometry) -> u64
     geometry.block_sectors() as u64 * 512
 }
 
-/// Writes the line of a page of the blocks of a volume, from `from` on, that are mapped: up to seven `OFFSET+LENGTH`, in bytes, and `next BLOCK`, or `end` where there are no more:
-/// Ok, or 21, 15, 5, 2. It is told by one walk, which writes nothing. Behind an `Err` the line means nothing.
+/// Writes the line of a page of the blocks of a volume, from `from` on, that are mapped: up to seven `OFFSET+LENGTH`, in bytes, and `next BLOCK`, or `end`
+/// where there are no more. It is told by one walk, which writes nothing. Behind an `Err` the line means nothing.
+///
+/// Refused by `Failed`, `NoSuchDevice`, `Fault` or `Damaged`.
 pub fn map_line<V: Walked>(
     pool: &mut V,
     id: DevId,
@@ -37,7 +39,9 @@ pub fn map_line<V: Walked>(
     }
 }
 
-/// Writes the size of a volume and that of a block, in bytes: Ok, or 21, 15, 5, 2. It writes nothing to the pool. Behind an `Err` the line means nothing.
+/// Writes the size of a volume and that of a block, in bytes. It writes nothing to the pool. Behind an `Err` the line means nothing.
+///
+/// Refused by `Failed`, `NoSuchDevice`, `Fault` or `Damaged`.
 pub fn size_line<V: Walked>(pool: &mut V, id: DevId, line: &mut PageLine) -> Result<(), Refusal>
     ensures { (qs : List Question) × AreMade V.view pool.old qs pool.new
         × AsksSize (unit_of (V.view.outline pool.old).geometry) id qs (told_by result line.new.bytes) }
@@ -99,8 +103,10 @@ fn walk_both<V: Walked>(
     }
 }
 
-/// Writes the line of a page of the blocks of `new`, from `from` on, in which it may differ from `old`, as [`map_line`] does: Ok, or 21, 15, 5, 2. It is told by the size of `new` and a
-/// walk over each. Behind an `Err` the line means nothing.
+/// Writes the line of a page of the blocks of `new`, from `from` on, in which it may differ from `old`, as [`map_line`] does. It is told by the size of
+/// `new` and a walk over each. Behind an `Err` the line means nothing.
+///
+/// Refused by `Failed`, `NoSuchDevice`, `Fault` or `Damaged`.
 pub fn delta_line<V: Walked>(
     pool: &mut V,
     old: DevId,

@@ -15,3 +15,4 @@ pub mod Bounds
 pub mod Shared
 pub mod Midway
 pub mod Unkept
+pub mod AtMetadata

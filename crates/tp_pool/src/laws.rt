@@ -12,10 +12,10 @@ ghost use Rattle.tp_model.specs.DiskStops.{AfterStop, StoppedSince};
 ghost use Rattle.tp_image.specs.Bound.{IsBounded};
 ghost use Rattle.tp_image.specs.Stands.{StandsFor};
 ghost use Rattle.tp_pool.specs.Bounds.{BoundLeavesRoom, IsNotShort};
-ghost use Rattle.tp_pool.specs.Flushes.{PoolClosed, served};
-ghost use Rattle.tp_pool.specs.Held.{HasUse, Held, IsPool, PoolCalled, PoolRefused, blocks_of_held, moment_of, shows, view};
+ghost use Rattle.tp_pool.specs.Held.{HasUse, Held, IsPool, blocks_of_held, moment_of};
 ghost use Rattle.tp_holders.specs.Holders.{blocks_held, holds_of};
-ghost use Rattle.tp_pool.specs.Lives.{AreLives, AreRuns, IsReopenedFrom, Life};
+ghost use Rattle.tp_pool.specs.AtMetadata.{AreLives, AreRuns, IsReopenedFrom, PoolCalled, PoolClosed, PoolRefused, served, shows, view};
+ghost use Rattle.tp_pool.specs.Lives.{Life};
 
 use tp_meta::Metadata;
 
@@ -23,17 +23,17 @@ use tp_meta::Metadata;
 /// it, where the disk and the memory allow it.
 pub fn stops_leave_pools<M: Metadata>()
     // Between two calls.
-    ensures at_rest { (h : Held M) (s : PlainPool) (image : List Sector) → shows M.geometry M.stands h s → AfterStop h.disk.cells image
+    ensures at_rest { (h : Held M) (s : PlainPool) (image : List Sector) → shows M.Metadata h s → AfterStop h.disk.cells image
         → IsPool (M.geometry h.metadata) image }
 
     // At any moment of a call, whatever it answers.
     ensures in_call { (old new : Held M) (call : Call) (answer : Answer) (s : PlainPool) (image : List Sector)
-        → PoolCalled M.geometry M.stands old new call answer → shows M.geometry M.stands old s → StoppedSince (moment_of old) new.disk image
+        → PoolCalled M.Metadata old new call answer → shows M.Metadata old s → StoppedSince (moment_of old) new.disk image
         → IsPool (M.geometry old.metadata) image }
 
     // While it is closed, and on the disk that is handed back.
     ensures in_close { (old : Held M) (disk : DiskState) (answer : Answer) (s : PlainPool) (image : List Sector)
-        → PoolClosed M.geometry M.stands M.marks M.room M.changed old disk answer → shows M.geometry M.stands old s → StoppedSince (moment_of old) disk image
+        → PoolClosed M.Metadata old disk answer → shows M.Metadata old s → StoppedSince (moment_of old) disk image
         → IsPool (M.geometry old.metadata) image }
 {}
 
@@ -47,13 +47,13 @@ pub fn images_stand_for_one_pool()
 /// may be found after a stop in that run: a state not before the last answer that kept, but for sectors that were given a value since.
 pub fn lives_are_runs<M: Metadata>()
     ensures { (image : List Sector) (s : PlainPool) (lives : List (Life M)) → (g : Geometry) × IsPool g image → StandsFor image s
-        → AreLives M.geometry M.stands M.marks M.room M.changed image lives → AreRuns M.geometry M.stands M.marks M.room M.changed s lives }
+        → AreLives M.Metadata image lives → AreRuns M.Metadata s lives }
 {}
 
 /// A pool that was opened from an image goes on from each plain pool that the image stands for, with nothing changed since the last commit.
 pub fn opened_pools_go_on<M: Metadata>()
-    ensures { (image : List Sector) (h : Held M) → IsReopenedFrom M.geometry M.stands image h → M.changed h.metadata ≡ false
-        → IsOpened (served M.geometry M.stands M.marks M.room M.changed) image h }
+    ensures { (image : List Sector) (h : Held M) → IsReopenedFrom M.Metadata image h → M.changed h.metadata ≡ false
+        → IsOpened (served M.Metadata) image h }
 {}
 
 /// A call of the pool is one of those who are served, where it keeps the geometry and holds are as they have to be. So a message may be
@@ -63,9 +63,9 @@ pub fn pool_calls_are_calls<M: Metadata>()
         → holds_of new.holders ≡ holds_after (holds_of old.holders) call answer
         → ((id : ℕ) → 0 < hold_count (holds_of old.holders) id → 0 < hold_count (holds_of new.holders) id → blocks_held new.holders id ≡ blocks_held old.holders id)
         → ((id blocks : ℕ) → call ≡ VolumeBlocks id → answer ≡ Sized blocks → 0 < hold_count (holds_of old.holders) id → blocks ≡ blocks_of_held (M.geometry old.metadata) old.holders id)
-        → PoolCalled M.geometry M.stands old new call answer → IsAnswered (view M.geometry M.stands) old new call answer
-        → Flushes (served M.geometry M.stands M.marks M.room M.changed) old new call answer
-        → Meets (served M.geometry M.stands M.marks M.room M.changed) old new call answer }
+        → PoolCalled M.Metadata old new call answer → IsAnswered (view M.Metadata) old new call answer
+        → Flushes (served M.Metadata) old new call answer
+        → Meets (served M.Metadata) old new call answer }
 {}
 
 /// At every moment at which no metadata root is held, no more metadata blocks are in use than the volumes may use: the fixed part, 1, one for every 31
@@ -75,11 +75,11 @@ pub fn images_use_bounded_metadata<M: Metadata>()
     ensures images { (image : List Sector) (P : PlainPool) → (g : Geometry) × IsPool g image → StandsFor image P → P.held_root ≡ 0 → IsBounded P }
 
     // Of what a pool shows that has not failed.
-    ensures shown { (h : Held M) (s : PlainPool) → shows M.geometry M.stands h s → HasUse s }
+    ensures shown { (h : Held M) (s : PlainPool) → shows M.Metadata h s → HasUse s }
 
     // Of what a stop leaves at any moment of a call, whatever it answers.
     ensures in_call { (old new : Held M) (call : Call) (answer : Answer) (s : PlainPool) (image : List Sector) (P : PlainPool)
-        → PoolCalled M.geometry M.stands old new call answer → shows M.geometry M.stands old s → StoppedSince (moment_of old) new.disk image
+        → PoolCalled M.Metadata old new call answer → shows M.Metadata old s → StoppedSince (moment_of old) new.disk image
         → StandsFor image P → P.held_root ≡ 0 → IsBounded P }
 {}
 
@@ -90,8 +90,8 @@ pub fn room_lasts_to_the_bound<M: Metadata>()
     ensures tests { (s : PlainPool) (call : Call) → HasUse s → BoundLeavesRoom s call → refusal_of s call ≢ Some NoMetadataSpace }
 
     // By no call of a pool, whatever its disk does.
-    ensures called { (old new : Held M) (s : PlainPool) (call : Call) → shows M.geometry M.stands old s → BoundLeavesRoom s call
-        → PoolRefused M.geometry M.stands old new call NoMetadataSpace → ⊥ }
+    ensures called { (old new : Held M) (s : PlainPool) (call : Call) → shows M.Metadata old s → BoundLeavesRoom s call
+        → PoolRefused M.Metadata old new call NoMetadataSpace → ⊥ }
 
     // In no trace, at any place of it.
     ensures traced { (s : PlainPool) (trace : List Entry) (after : PlainPool) → HasUse s → IsTrace HasUse s trace after → AllByRecursion IsNotShort trace }

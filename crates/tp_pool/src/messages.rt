@@ -16,9 +16,9 @@ ghost use Rattle.tp_mapping.specs.Mapping.{size_for};
 ghost use Rattle.tp_stored.specs.Contents.{Contents};
 ghost use Rattle.tp_meta.specs.Metadata.{IsAltered, StandsWith};
 ghost use Rattle.tp_msg.specs.Asked.{call_of};
-ghost use Rattle.tp_pool.specs.Held.{AnswersSo, Held, IsTried, PoolAnswered, shows};
-ghost use Rattle.tp_pool.specs.Flushes.{FlushesSo, HasFlushed};
-ghost use Rattle.tp_pool.specs.Unkept.{HasLeft, HasRested, IsBegun, IsMade, PoolBegun};
+ghost use Rattle.tp_pool.specs.AtMetadata.{AnswersSo, FlushesSo, HasFlushed, IsBegun, IsMade, PoolAnswered, PoolBegun, shows};
+ghost use Rattle.tp_pool.specs.Held.{Held, IsTried};
+ghost use Rattle.tp_pool.specs.Unkept.{HasLeft, HasRested};
 ghost use Rattle.tp_pool.specs.Messages.{CountsBlocks, RefusesGrown, RefusesNew, RefusesOld, SizedSo, TestedSo, blocks_of_new, create_call, grown_tests, misses_origin, new_tests, old_tests, size_verdict, with_new};
 
 use crate::pool::{Pool, is_failed, is_read_only};
@@ -102,8 +102,8 @@ fn enlarge<D: Disk, M: Metadata>(
 impl<D: Disk, M: Metadata> Pool<D, M> {
     /// Keeps what a message has made, where it is not answered yet.
     fn keep_made(&mut self, begun: Option<Result<(), Refusal>>) -> Result<(), Refusal>
-        ensures made { (old : Held M) (call : Call) → ends_in_commit call ≡ true → is_flush call ≡ false → IsBegun M.geometry M.stands M.marks M.room M.changed old self.old call begun
-            → IsMade M.geometry M.stands M.marks M.room M.changed old self.new call result }
+        ensures made { (old : Held M) (call : Call) → ends_in_commit call ≡ true → is_flush call ≡ false → IsBegun M.Metadata old self.old call begun
+            → IsMade M.Metadata old self.new call result }
         ensures flushed { MatchOption begun (self.old.mode ≡ mode.Writable → M.changed self.old.metadata ≡ false → OnOk result (self.new.disk.flushes ≡ self.old.disk.flushes + 1))
             (λ answer. result ≡ answer) }
         ensures held { self.new ≡ record self.old { disk = self.new.disk; metadata = self.new.metadata; mode = self.new.mode } }
@@ -153,9 +153,9 @@ impl<D: Disk, M: Metadata> Pool<D, M> {
     /// Creates a volume in a pool that works. Nothing is kept yet.
     fn try_create(&mut self, id: DevId, origin: &Option<DevId>) -> Result<(), Refusal>
         requires works { is_failed self.old.mode ≡ false }
-        ensures called { PoolBegun M.geometry M.stands M.marks M.room M.changed self.old self.new (create_call id origin.now) result }
+        ensures called { PoolBegun M.Metadata self.old self.new (create_call id origin.now) result }
         ensures tried { IsTried self.old self.new (create_call id origin.now) result }
-        ensures flushes { HasFlushed M.geometry M.stands M.marks M.room self.old self.new.disk (create_call id origin.now) }
+        ensures flushes { HasFlushed M.Metadata self.old self.new.disk (create_call id origin.now) }
         ensures changes { HasLeft M.changed self.old.metadata self.new.metadata result }
         ensures held { self.new ≡ record self.old { disk = self.new.disk; metadata = self.new.metadata; mode = self.new.mode } }
         ensures geometry { M.geometry self.new.metadata ≡ M.geometry self.old.metadata }
@@ -174,7 +174,7 @@ impl<D: Disk, M: Metadata> Pool<D, M> {
 
     /// Creates a volume, but for the commit behind it: its answer where that is all of it, and else None.
     fn begin_create(&mut self, id: DevId, origin: &Option<DevId>) -> Option<Result<(), Refusal>>
-        ensures begun { IsBegun M.geometry M.stands M.marks M.room M.changed self.old self.new (create_call id origin.now) result }
+        ensures begun { IsBegun M.Metadata self.old self.new (create_call id origin.now) result }
         ensures held { self.new ≡ record self.old { disk = self.new.disk; metadata = self.new.metadata; mode = self.new.mode } }
         ensures geometry { M.geometry self.new.metadata ≡ M.geometry self.old.metadata }
     {
@@ -187,12 +187,14 @@ impl<D: Disk, M: Metadata> Pool<D, M> {
         }
     }
 
-    /// Creates a volume without data blocks, and keeps it: Ok, or 21, 20, 14, 19, 18, 5. Where it is refused with 18, the pool wants a check
-    /// from then on and is read-only, which a commit keeps. Behind an Ok at most 8 metadata blocks more are in use.
+    /// Creates a volume without data blocks, and keeps it. Where it is refused by `NoMetadataSpace`, the pool wants a check from then on and is read-only,
+    /// which a commit keeps. Behind an Ok at most 8 metadata blocks more are in use.
+    ///
+    /// Refused by `Failed`, `ReadOnly`, `Exists`, `TooManyDevices`, `NoMetadataSpace` or `Fault`.
     pub fn create_thin(&mut self, id: DevId) -> Result<(), Refusal>
-        ensures called { PoolAnswered M.geometry M.stands self.old self.new (CreateThin id) result }
-        ensures answered { AnswersSo M.geometry M.stands self.old self.new (CreateThin id) result }
-        ensures flushes { FlushesSo M.geometry M.stands M.marks M.room M.changed self.old self.new (CreateThin id) result }
+        ensures called { PoolAnswered M.Metadata self.old self.new (CreateThin id) result }
+        ensures answered { AnswersSo M.Metadata self.old self.new (CreateThin id) result }
+        ensures flushes { FlushesSo M.Metadata self.old self.new (CreateThin id) result }
         ensures held { self.new ≡ record self.old { disk = self.new.disk; metadata = self.new.metadata; mode = self.new.mode } }
         ensures geometry { M.geometry self.new.metadata ≡ M.geometry self.old.metadata }
     {
@@ -200,14 +202,15 @@ impl<D: Disk, M: Metadata> Pool<D, M> {
         self.keep_made(begun)
     }
 
-    /// Creates a volume with the sectors that another one has now, and shares its data blocks, and keeps it: Ok, or 21, 20, 15 (the origin),
-    /// 14, 19, 18, 5. The origin may be held, and may be a snapshot itself. Where it is refused with 18, the pool wants a check from then
-    /// on and is read-only, which a commit keeps. Behind an Ok at most 3 metadata blocks more are in use, whatever the origin maps, where no
-    /// metadata root is held.
+    /// Creates a volume with the sectors that another one has now, and shares its data blocks, and keeps it. The origin may be held, and may be a snapshot
+    /// itself. Where it is refused by `NoMetadataSpace`, the pool wants a check from then on and is read-only, which a commit keeps. Behind an Ok at most
+    /// 3 metadata blocks more are in use, whatever the origin maps, where no metadata root is held.
+    ///
+    /// Refused by `Failed`, `ReadOnly`, `NoSuchDevice` (the origin), `Exists`, `TooManyDevices`, `NoMetadataSpace` or `Fault`.
     pub fn create_snap(&mut self, id: DevId, origin: DevId) -> Result<(), Refusal>
-        ensures called { PoolAnswered M.geometry M.stands self.old self.new (CreateSnap id origin) result }
-        ensures answered { AnswersSo M.geometry M.stands self.old self.new (CreateSnap id origin) result }
-        ensures flushes { FlushesSo M.geometry M.stands M.marks M.room M.changed self.old self.new (CreateSnap id origin) result }
+        ensures called { PoolAnswered M.Metadata self.old self.new (CreateSnap id origin) result }
+        ensures answered { AnswersSo M.Metadata self.old self.new (CreateSnap id origin) result }
+        ensures flushes { FlushesSo M.Metadata self.old self.new (CreateSnap id origin) result }
         ensures held { self.new ≡ record self.old { disk = self.new.disk; metadata = self.new.metadata; mode = self.new.mode } }
         ensures geometry { M.geometry self.new.metadata ≡ M.geometry self.old.metadata }
     {
@@ -234,9 +237,9 @@ impl<D: Disk, M: Metadata> Pool<D, M> {
     /// Removes a volume from a pool that works. Nothing is kept yet.
     fn try_delete(&mut self, id: DevId) -> Result<(), Refusal>
         requires works { is_failed self.old.mode ≡ false }
-        ensures called { PoolBegun M.geometry M.stands M.marks M.room M.changed self.old self.new (Delete id) result }
+        ensures called { PoolBegun M.Metadata self.old self.new (Delete id) result }
         ensures tried { IsTried self.old self.new (Delete id) result }
-        ensures flushes { HasFlushed M.geometry M.stands M.marks M.room self.old self.new.disk (Delete id) }
+        ensures flushes { HasFlushed M.Metadata self.old self.new.disk (Delete id) }
         ensures changes { HasLeft M.changed self.old.metadata self.new.metadata result }
         ensures held { self.new ≡ record self.old { disk = self.new.disk; metadata = self.new.metadata; mode = self.new.mode } }
         ensures geometry { M.geometry self.new.metadata ≡ M.geometry self.old.metadata }
@@ -255,7 +258,7 @@ impl<D: Disk, M: Metadata> Pool<D, M> {
 
     /// Removes a volume, but for the commit behind it: its answer where that is all of it, and else None.
     fn begin_delete(&mut self, id: DevId) -> Option<Result<(), Refusal>>
-        ensures begun { IsBegun M.geometry M.stands M.marks M.room M.changed self.old self.new (Delete id) result }
+        ensures begun { IsBegun M.Metadata self.old self.new (Delete id) result }
         ensures held { self.new ≡ record self.old { disk = self.new.disk; metadata = self.new.metadata; mode = self.new.mode } }
         ensures geometry { M.geometry self.new.metadata ≡ M.geometry self.old.metadata }
     {
@@ -268,15 +271,16 @@ impl<D: Disk, M: Metadata> Pool<D, M> {
         }
     }
 
-    /// Removes a volume that no session holds, and keeps that: Ok, or 21, 20, 15, 16, 18, 5. Its data blocks are free again, but for those that
-    /// other volumes or a held copy share with it. It is refused for want of room only while a metadata root is held and fewer than 256 metadata blocks
-    /// are not in use: then the pool wants a check from then on and is read-only, which a commit keeps. Where no root is held, behind an Ok no more
-    /// metadata blocks are in use.
+    /// Removes a volume that no session holds, and keeps that. Its data blocks are free again, but for those that other volumes or a held copy share with
+    /// it. It is refused for want of room only while a metadata root is held and fewer than 256 metadata blocks are not in use: then the pool wants a
+    /// check from then on and is read-only, which a commit keeps. Where no root is held, behind an Ok no more metadata blocks are in use.
+    ///
+    /// Refused by `Failed`, `ReadOnly`, `NoSuchDevice`, `Busy`, `NoMetadataSpace` or `Fault`.
     pub fn delete(&mut self, id: DevId) -> Result<(), Refusal>
-        ensures called { PoolAnswered M.geometry M.stands self.old self.new (Delete id) result }
-        ensures answered { AnswersSo M.geometry M.stands self.old self.new (Delete id) result }
-        ensures flushes { FlushesSo M.geometry M.stands M.marks M.room M.changed self.old self.new (Delete id) result }
-        ensures room { result ≡ Err Refusal.NoMetadataSpace → (s : PlainPool) → shows M.geometry M.stands self.old s → s.held_root ≡ 0 → ⊥ }
+        ensures called { PoolAnswered M.Metadata self.old self.new (Delete id) result }
+        ensures answered { AnswersSo M.Metadata self.old self.new (Delete id) result }
+        ensures flushes { FlushesSo M.Metadata self.old self.new (Delete id) result }
+        ensures room { result ≡ Err Refusal.NoMetadataSpace → (s : PlainPool) → shows M.Metadata self.old s → s.held_root ≡ 0 → ⊥ }
         ensures held { self.new ≡ record self.old { disk = self.new.disk; metadata = self.new.metadata; mode = self.new.mode } }
         ensures geometry { M.geometry self.new.metadata ≡ M.geometry self.old.metadata }
     {
@@ -303,9 +307,9 @@ impl<D: Disk, M: Metadata> Pool<D, M> {
     /// Gives a volume of a pool that works so many blocks. Nothing is kept yet.
     fn try_grow(&mut self, id: DevId, blocks: u64) -> Result<(), Refusal>
         requires works { is_failed self.old.mode ≡ false }
-        ensures called { PoolBegun M.geometry M.stands M.marks M.room M.changed self.old self.new (Grow id blocks) result }
+        ensures called { PoolBegun M.Metadata self.old self.new (Grow id blocks) result }
         ensures tried { IsTried self.old self.new (Grow id blocks) result }
-        ensures flushes { HasFlushed M.geometry M.stands M.marks M.room self.old self.new.disk (Grow id blocks) }
+        ensures flushes { HasFlushed M.Metadata self.old self.new.disk (Grow id blocks) }
         ensures changes { HasLeft M.changed self.old.metadata self.new.metadata result }
         ensures held { self.new ≡ record self.old { disk = self.new.disk; metadata = self.new.metadata; mode = self.new.mode } }
         ensures geometry { M.geometry self.new.metadata ≡ M.geometry self.old.metadata }
@@ -332,7 +336,7 @@ impl<D: Disk, M: Metadata> Pool<D, M> {
 
     /// Gives a volume so many blocks, but for the commit behind it: its answer where that is all of it, and else None.
     fn begin_grow(&mut self, id: DevId, blocks: u64) -> Option<Result<(), Refusal>>
-        ensures begun { IsBegun M.geometry M.stands M.marks M.room M.changed self.old self.new (Grow id blocks) result }
+        ensures begun { IsBegun M.Metadata self.old self.new (Grow id blocks) result }
         ensures held { self.new ≡ record self.old { disk = self.new.disk; metadata = self.new.metadata; mode = self.new.mode } }
         ensures geometry { M.geometry self.new.metadata ≡ M.geometry self.old.metadata }
     {
@@ -345,13 +349,15 @@ impl<D: Disk, M: Metadata> Pool<D, M> {
         }
     }
 
-    /// Gives a volume that nobody holds so many blocks, and keeps that: Ok, or 21, 20, 15, 16, 25 (fewer than it has, or more than 2^24), 18,
-    /// 5. Those behind its old end have no data block; at its present size nothing changes. Where it is refused with 18, the pool wants a check
-    /// from then on and is read-only, which a commit keeps. Behind an Ok at most 1 metadata block more is in use, where no metadata root is held.
+    /// Gives a volume that nobody holds so many blocks, and keeps that. Those behind its old end have no data block; at its present size nothing changes.
+    /// Where it is refused by `NoMetadataSpace`, the pool wants a check from then on and is read-only, which a commit keeps. Behind an Ok at most 1
+    /// metadata block more is in use, where no metadata root is held.
+    ///
+    /// Refused by `Failed`, `ReadOnly`, `NoSuchDevice`, `Busy`, `BadSize` (fewer than it has, or more than 2^24), `NoMetadataSpace` or `Fault`.
     pub fn grow(&mut self, id: DevId, blocks: u64) -> Result<(), Refusal>
-        ensures called { PoolAnswered M.geometry M.stands self.old self.new (Grow id blocks) result }
-        ensures answered { AnswersSo M.geometry M.stands self.old self.new (Grow id blocks) result }
-        ensures flushes { FlushesSo M.geometry M.stands M.marks M.room M.changed self.old self.new (Grow id blocks) result }
+        ensures called { PoolAnswered M.Metadata self.old self.new (Grow id blocks) result }
+        ensures answered { AnswersSo M.Metadata self.old self.new (Grow id blocks) result }
+        ensures flushes { FlushesSo M.Metadata self.old self.new (Grow id blocks) result }
         ensures held { self.new ≡ record self.old { disk = self.new.disk; metadata = self.new.metadata; mode = self.new.mode } }
         ensures geometry { M.geometry self.new.metadata ≡ M.geometry self.old.metadata }
     {
@@ -362,11 +368,11 @@ impl<D: Disk, M: Metadata> Pool<D, M> {
     /// Sets the transaction id of a pool that works. Nothing is kept yet.
     fn try_set_transaction_id(&mut self, current: u64, next: u64) -> Result<(), Refusal>
         requires works { is_failed self.old.mode ≡ false }
-        ensures called { PoolBegun M.geometry M.stands M.marks M.room M.changed self.old self.new (SetTransactionId current next) result }
+        ensures called { PoolBegun M.Metadata self.old self.new (SetTransactionId current next) result }
         ensures tried { IsTried self.old self.new (SetTransactionId current next) result }
-        ensures flushes { HasFlushed M.geometry M.stands M.marks M.room self.old self.new.disk (SetTransactionId current next) }
+        ensures flushes { HasFlushed M.Metadata self.old self.new.disk (SetTransactionId current next) }
         ensures changes { HasLeft M.changed self.old.metadata self.new.metadata result }
-        ensures idle { current ≡ next → M.changed self.old.metadata ≡ false → (s : PlainPool) → shows M.geometry M.stands self.old s
+        ensures idle { current ≡ next → M.changed self.old.metadata ≡ false → (s : PlainPool) → shows M.Metadata self.old s
             → OnOk result (HasRested M.changed self.old self.new) }
         ensures held { self.new ≡ record self.old { disk = self.new.disk; metadata = self.new.metadata; mode = self.new.mode } }
         ensures geometry { M.geometry self.new.metadata ≡ M.geometry self.old.metadata }
@@ -384,8 +390,8 @@ impl<D: Disk, M: Metadata> Pool<D, M> {
 
     /// Sets the transaction id, but for the commit behind it: its answer where that is all of it, and else None.
     fn begin_set_transaction_id(&mut self, current: u64, next: u64) -> Option<Result<(), Refusal>>
-        ensures begun { IsBegun M.geometry M.stands M.marks M.room M.changed self.old self.new (SetTransactionId current next) result }
-        ensures idle { current ≡ next → M.changed self.old.metadata ≡ false → (s : PlainPool) → shows M.geometry M.stands self.old s
+        ensures begun { IsBegun M.Metadata self.old self.new (SetTransactionId current next) result }
+        ensures idle { current ≡ next → M.changed self.old.metadata ≡ false → (s : PlainPool) → shows M.Metadata self.old s
             → MatchOption result (HasRested M.changed self.old self.new) (λ answer. IsTrue (is_err answer)) }
         ensures held { self.new ≡ record self.old { disk = self.new.disk; metadata = self.new.metadata; mode = self.new.mode } }
         ensures geometry { M.geometry self.new.metadata ≡ M.geometry self.old.metadata }
@@ -399,13 +405,14 @@ impl<D: Disk, M: Metadata> Pool<D, M> {
         }
     }
 
-    /// Sets the transaction id, where it is `current`, and keeps it: Ok, or 21, 20, 17, 5. Where it stays and nothing has changed since the
-    /// last commit, that is one flush.
+    /// Sets the transaction id, where it is `current`, and keeps it. Where it stays and nothing has changed since the last commit, that is one flush.
+    ///
+    /// Refused by `Failed`, `ReadOnly`, `StaleTransactionId` or `Fault`.
     pub fn set_transaction_id(&mut self, current: u64, next: u64) -> Result<(), Refusal>
-        ensures called { PoolAnswered M.geometry M.stands self.old self.new (SetTransactionId current next) result }
-        ensures answered { AnswersSo M.geometry M.stands self.old self.new (SetTransactionId current next) result }
-        ensures flushes { FlushesSo M.geometry M.stands M.marks M.room M.changed self.old self.new (SetTransactionId current next) result }
-        ensures idle { current ≡ next → M.changed self.old.metadata ≡ false → (s : PlainPool) → shows M.geometry M.stands self.old s
+        ensures called { PoolAnswered M.Metadata self.old self.new (SetTransactionId current next) result }
+        ensures answered { AnswersSo M.Metadata self.old self.new (SetTransactionId current next) result }
+        ensures flushes { FlushesSo M.Metadata self.old self.new (SetTransactionId current next) result }
+        ensures idle { current ≡ next → M.changed self.old.metadata ≡ false → (s : PlainPool) → shows M.Metadata self.old s
             → OnOk result (self.new.disk.flushes ≡ self.old.disk.flushes + 1) }
         ensures held { self.new ≡ record self.old { disk = self.new.disk; metadata = self.new.metadata; mode = self.new.mode } }
         ensures geometry { M.geometry self.new.metadata ≡ M.geometry self.old.metadata }
@@ -417,9 +424,9 @@ impl<D: Disk, M: Metadata> Pool<D, M> {
     /// Holds the mapping of all volumes of a pool that works. Nothing is kept yet.
     fn try_reserve(&mut self) -> Result<(), Refusal>
         requires works { is_failed self.old.mode ≡ false }
-        ensures called { PoolBegun M.geometry M.stands M.marks M.room M.changed self.old self.new ReserveMetadataSnap result }
+        ensures called { PoolBegun M.Metadata self.old self.new ReserveMetadataSnap result }
         ensures tried { IsTried self.old self.new ReserveMetadataSnap result }
-        ensures flushes { HasFlushed M.geometry M.stands M.marks M.room self.old self.new.disk ReserveMetadataSnap }
+        ensures flushes { HasFlushed M.Metadata self.old self.new.disk ReserveMetadataSnap }
         ensures changes { HasLeft M.changed self.old.metadata self.new.metadata result }
         ensures held { self.new ≡ record self.old { disk = self.new.disk; metadata = self.new.metadata; mode = self.new.mode } }
         ensures geometry { M.geometry self.new.metadata ≡ M.geometry self.old.metadata }
@@ -439,7 +446,7 @@ impl<D: Disk, M: Metadata> Pool<D, M> {
 
     /// Holds the mapping of all volumes, but for the commit behind it: its answer where that is all of it, and else None.
     fn begin_reserve(&mut self) -> Option<Result<(), Refusal>>
-        ensures begun { IsBegun M.geometry M.stands M.marks M.room M.changed self.old self.new ReserveMetadataSnap result }
+        ensures begun { IsBegun M.Metadata self.old self.new ReserveMetadataSnap result }
         ensures held { self.new ≡ record self.old { disk = self.new.disk; metadata = self.new.metadata; mode = self.new.mode } }
         ensures geometry { M.geometry self.new.metadata ≡ M.geometry self.old.metadata }
     {
@@ -452,13 +459,15 @@ impl<D: Disk, M: Metadata> Pool<D, M> {
         }
     }
 
-    /// Holds the mapping of all volumes as it is now, and keeps that: Ok, or 21, 20, 26 (one is held already), 18, 5. Until it is given up, what the
-    /// volumes have now is read by `held_read`, whatever becomes of them. Where it is refused with 18, the pool wants a check from then on and
-    /// is read-only, which a commit keeps. Behind an Ok no more metadata blocks are in use.
+    /// Holds the mapping of all volumes as it is now, and keeps that. Until it is given up, what the volumes have now is read by `held_read`, whatever
+    /// becomes of them. Where it is refused by `NoMetadataSpace`, the pool wants a check from then on and is read-only, which a commit keeps. Behind an Ok
+    /// no more metadata blocks are in use.
+    ///
+    /// Refused by `Failed`, `ReadOnly`, `HeldRootExists` (one is held already), `NoMetadataSpace` or `Fault`.
     pub fn reserve_metadata_snap(&mut self) -> Result<(), Refusal>
-        ensures called { PoolAnswered M.geometry M.stands self.old self.new ReserveMetadataSnap result }
-        ensures answered { AnswersSo M.geometry M.stands self.old self.new ReserveMetadataSnap result }
-        ensures flushes { FlushesSo M.geometry M.stands M.marks M.room M.changed self.old self.new ReserveMetadataSnap result }
+        ensures called { PoolAnswered M.Metadata self.old self.new ReserveMetadataSnap result }
+        ensures answered { AnswersSo M.Metadata self.old self.new ReserveMetadataSnap result }
+        ensures flushes { FlushesSo M.Metadata self.old self.new ReserveMetadataSnap result }
         ensures held { self.new ≡ record self.old { disk = self.new.disk; metadata = self.new.metadata; mode = self.new.mode } }
         ensures geometry { M.geometry self.new.metadata ≡ M.geometry self.old.metadata }
     {
@@ -469,9 +478,9 @@ impl<D: Disk, M: Metadata> Pool<D, M> {
     /// Gives up what a pool that works holds of its mapping. Nothing is kept yet.
     fn try_release(&mut self) -> Result<(), Refusal>
         requires works { is_failed self.old.mode ≡ false }
-        ensures called { PoolBegun M.geometry M.stands M.marks M.room M.changed self.old self.new ReleaseMetadataSnap result }
+        ensures called { PoolBegun M.Metadata self.old self.new ReleaseMetadataSnap result }
         ensures tried { IsTried self.old self.new ReleaseMetadataSnap result }
-        ensures flushes { HasFlushed M.geometry M.stands M.marks M.room self.old self.new.disk ReleaseMetadataSnap }
+        ensures flushes { HasFlushed M.Metadata self.old self.new.disk ReleaseMetadataSnap }
         ensures changes { HasLeft M.changed self.old.metadata self.new.metadata result }
         ensures held { self.new ≡ record self.old { disk = self.new.disk; metadata = self.new.metadata; mode = self.new.mode } }
         ensures geometry { M.geometry self.new.metadata ≡ M.geometry self.old.metadata }
@@ -488,7 +497,7 @@ impl<D: Disk, M: Metadata> Pool<D, M> {
 
     /// Gives up the mapping that is held, but for the commit behind it: its answer where that is all of it, and else None.
     fn begin_release(&mut self) -> Option<Result<(), Refusal>>
-        ensures begun { IsBegun M.geometry M.stands M.marks M.room M.changed self.old self.new ReleaseMetadataSnap result }
+        ensures begun { IsBegun M.Metadata self.old self.new ReleaseMetadataSnap result }
         ensures held { self.new ≡ record self.old { disk = self.new.disk; metadata = self.new.metadata; mode = self.new.mode } }
         ensures geometry { M.geometry self.new.metadata ≡ M.geometry self.old.metadata }
     {
@@ -501,12 +510,14 @@ impl<D: Disk, M: Metadata> Pool<D, M> {
         }
     }
 
-    /// Gives up the mapping that is held, and keeps that: Ok, or 21, 20, 27 (none is held), 5. What no volume has is free again. It is never
-    /// refused for want of room, and behind an Ok no more metadata blocks are in use.
+    /// Gives up the mapping that is held, and keeps that. What no volume has is free again. It is never refused for want of room, and behind an Ok no more
+    /// metadata blocks are in use.
+    ///
+    /// Refused by `Failed`, `ReadOnly`, `NoHeldRoot` (none is held) or `Fault`.
     pub fn release_metadata_snap(&mut self) -> Result<(), Refusal>
-        ensures called { PoolAnswered M.geometry M.stands self.old self.new ReleaseMetadataSnap result }
-        ensures answered { AnswersSo M.geometry M.stands self.old self.new ReleaseMetadataSnap result }
-        ensures flushes { FlushesSo M.geometry M.stands M.marks M.room M.changed self.old self.new ReleaseMetadataSnap result }
+        ensures called { PoolAnswered M.Metadata self.old self.new ReleaseMetadataSnap result }
+        ensures answered { AnswersSo M.Metadata self.old self.new ReleaseMetadataSnap result }
+        ensures flushes { FlushesSo M.Metadata self.old self.new ReleaseMetadataSnap result }
         ensures room { result ≡ Err Refusal.NoMetadataSpace → ⊥ }
         ensures held { self.new ≡ record self.old { disk = self.new.disk; metadata = self.new.metadata; mode = self.new.mode } }
         ensures geometry { M.geometry self.new.metadata ≡ M.geometry self.old.metadata }
@@ -518,7 +529,7 @@ impl<D: Disk, M: Metadata> Pool<D, M> {
     /// Makes what a message asks for, but for the commit behind it: its answer where that is all of it, as where it is refused, and else None. Then nothing is
     /// kept yet, and a flush behind it, in parts or at once, makes it the message: its answer is the message's. READs of volumes that are held give what they gave before.
     pub fn change(&mut self, message: &Message) -> Option<Result<(), Refusal>>
-        ensures begun { IsBegun M.geometry M.stands M.marks M.room M.changed self.old self.new (call_of message.now) result }
+        ensures begun { IsBegun M.Metadata self.old self.new (call_of message.now) result }
         ensures held { self.new ≡ record self.old { disk = self.new.disk; metadata = self.new.metadata; mode = self.new.mode } }
         ensures geometry { M.geometry self.new.metadata ≡ M.geometry self.old.metadata }
     {

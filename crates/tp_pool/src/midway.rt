@@ -8,9 +8,8 @@ ghost use Rattle.tp_model.specs.Geometry.{sectors_of_image};
 ghost use Rattle.tp_model.specs.Sectors.{sectors_of};
 ghost use Rattle.tp_model.specs.Clauses.{EndsInVolume};
 ghost use Rattle.tp_pool.specs.Besides.{besides_of};
-ghost use Rattle.tp_pool.specs.Held.{Fits, Held, failed_by, view};
-ghost use Rattle.tp_pool.specs.Midway.{IsFlushed, IsMidFlush};
-ghost use Rattle.tp_pool.specs.Shared.{IsSharedRead};
+ghost use Rattle.tp_pool.specs.Held.{Fits, Held, failed_by};
+ghost use Rattle.tp_pool.specs.AtMetadata.{IsFlushed, IsMidFlush, IsSharedRead, view};
 
 use crate::pool::{Besides, Pool};
 use crate::shared::read_parts;
@@ -23,9 +22,9 @@ impl<D: Disk, M: Metadata> Pool<D, M> {
     fn begin_all(&mut self) -> Result<bool, Refusal>
         requires works { self.old.mode ≡ mode.Writable }
         ensures held { self.new ≡ record self.old { disk = self.new.disk } }
-        ensures begun { IfOk result (λ is_midway. is_midway ≡ true → IsMidFlush M.geometry M.stands M.tells M.midway self.old false self.new.disk) }
+        ensures begun { IfOk result (λ is_midway. is_midway ≡ true → IsMidFlush M.Metadata self.old false self.new.disk) }
         ensures none { IfOk result (λ is_midway. is_midway ≡ false → self.new ≡ self.old) }
-        ensures failed { IfErr result (λ reason. IsFlushed M.geometry M.stands M.marks M.room M.changed self.old (failed_by reason self.new) (Err reason)) }
+        ensures failed { IfErr result (λ reason. IsFlushed M.Metadata self.old (failed_by reason self.new) (Err reason)) }
     {
         let is_midway = match self.metadata.begin(&mut self.disk) {
             Ok(is_midway) => is_midway,
@@ -37,10 +36,10 @@ impl<D: Disk, M: Metadata> Pool<D, M> {
     /// The second part of a commit that was begun.
     fn go_on_all(&mut self) -> Result<(), Refusal>
         ensures held { self.new ≡ record self.old { disk = self.new.disk } }
-        ensures named { OnOk result ((old : Held M) → self.old ≡ record old { disk = self.old.disk } → IsMidFlush M.geometry M.stands M.tells M.midway old false self.old.disk
-            → IsMidFlush M.geometry M.stands M.tells M.midway old true self.new.disk) }
-        ensures failed { IfErr result (λ reason. (old : Held M) → self.old ≡ record old { disk = self.old.disk } → IsMidFlush M.geometry M.stands M.tells M.midway old false self.old.disk
-            → IsFlushed M.geometry M.stands M.marks M.room M.changed old (failed_by reason self.new) (Err reason)) }
+        ensures named { OnOk result ((old : Held M) → self.old ≡ record old { disk = self.old.disk } → IsMidFlush M.Metadata old false self.old.disk
+            → IsMidFlush M.Metadata old true self.new.disk) }
+        ensures failed { IfErr result (λ reason. (old : Held M) → self.old ≡ record old { disk = self.old.disk } → IsMidFlush M.Metadata old false self.old.disk
+            → IsFlushed M.Metadata old (failed_by reason self.new) (Err reason)) }
     {
         match self.metadata.go_on(&mut self.disk) {
             Ok(()) => {}
@@ -51,10 +50,10 @@ impl<D: Disk, M: Metadata> Pool<D, M> {
 
     /// The last part.
     fn end_all(&mut self) -> Result<(), Refusal>
-        ensures done { OnOk result ((old : Held M) → self.old ≡ record old { disk = self.old.disk } → IsMidFlush M.geometry M.stands M.tells M.midway old true self.old.disk
-            → IsFlushed M.geometry M.stands M.marks M.room M.changed old self.new result) }
-        ensures failed { IfErr result (λ reason. (old : Held M) → self.old ≡ record old { disk = self.old.disk } → IsMidFlush M.geometry M.stands M.tells M.midway old true self.old.disk
-            → IsFlushed M.geometry M.stands M.marks M.room M.changed old (failed_by reason self.new) (Err reason)) }
+        ensures done { OnOk result ((old : Held M) → self.old ≡ record old { disk = self.old.disk } → IsMidFlush M.Metadata old true self.old.disk
+            → IsFlushed M.Metadata old self.new result) }
+        ensures failed { IfErr result (λ reason. (old : Held M) → self.old ≡ record old { disk = self.old.disk } → IsMidFlush M.Metadata old true self.old.disk
+            → IsFlushed M.Metadata old (failed_by reason self.new) (Err reason)) }
     {
         match self.metadata.end(&mut self.disk) {
             Ok(()) => {}
@@ -67,8 +66,8 @@ impl<D: Disk, M: Metadata> Pool<D, M> {
     fn begin_or_fail(&mut self) -> Option<Result<(), Refusal>>
         requires works { self.old.mode ≡ mode.Writable }
         ensures { MatchOption result
-            ((self.new ≡ record self.old { disk = self.new.disk }) × IsMidFlush M.geometry M.stands M.tells M.midway self.old false self.new.disk)
-            (λ answer. IsFlushed M.geometry M.stands M.marks M.room M.changed self.old self.new answer) }
+            ((self.new ≡ record self.old { disk = self.new.disk }) × IsMidFlush M.Metadata self.old false self.new.disk)
+            (λ answer. IsFlushed M.Metadata self.old self.new answer) }
     {
         match self.begin_all() {
             Ok(is_midway) => {
@@ -85,8 +84,8 @@ impl<D: Disk, M: Metadata> Pool<D, M> {
     /// brought to the device (`sync_ahead`) while READs go on, and `go_on_flush` is to be called.
     pub fn begin_flush(&mut self) -> Option<Result<(), Refusal>>
         ensures { MatchOption result
-            ((self.new ≡ record self.old { disk = self.new.disk }) × IsMidFlush M.geometry M.stands M.tells M.midway self.old false self.new.disk)
-            (λ answer. IsFlushed M.geometry M.stands M.marks M.room M.changed self.old self.new answer) }
+            ((self.new ≡ record self.old { disk = self.new.disk }) × IsMidFlush M.Metadata self.old false self.new.disk)
+            (λ answer. IsFlushed M.Metadata self.old self.new answer) }
     {
         match self.mode {
             Mode::Failed => Some(Volumes::flush(self)),
@@ -97,8 +96,8 @@ impl<D: Disk, M: Metadata> Pool<D, M> {
 
     /// The last part of a commit that was begun; the pool has failed where the disk did.
     fn end_or_fail(&mut self) -> Result<(), Refusal>
-        ensures { (old : Held M) → self.old ≡ record old { disk = self.old.disk } → IsMidFlush M.geometry M.stands M.tells M.midway old true self.old.disk
-            → IsFlushed M.geometry M.stands M.marks M.room M.changed old self.new result }
+        ensures { (old : Held M) → self.old ≡ record old { disk = self.old.disk } → IsMidFlush M.Metadata old true self.old.disk
+            → IsFlushed M.Metadata old self.new result }
     {
         let answer = self.end_all();
         self.settle(answer)
@@ -107,10 +106,10 @@ impl<D: Disk, M: Metadata> Pool<D, M> {
     /// The second part of a flush, behind `begin_flush`: its answer where the disk failed, and else None. What it wrote can then be brought to the device while READs
     /// go on, and `end_flush` is to be called.
     pub fn go_on_flush(&mut self) -> Option<Result<(), Refusal>>
-        ensures { (old : Held M) → self.old ≡ record old { disk = self.old.disk } → IsMidFlush M.geometry M.stands M.tells M.midway old false self.old.disk
+        ensures { (old : Held M) → self.old ≡ record old { disk = self.old.disk } → IsMidFlush M.Metadata old false self.old.disk
             → MatchOption result
-            ((self.new ≡ record old { disk = self.new.disk }) × IsMidFlush M.geometry M.stands M.tells M.midway old true self.new.disk)
-            (λ answer. IsFlushed M.geometry M.stands M.marks M.room M.changed old self.new answer) }
+            ((self.new ≡ record old { disk = self.new.disk }) × IsMidFlush M.Metadata old true self.new.disk)
+            (λ answer. IsFlushed M.Metadata old self.new answer) }
     {
         match self.go_on_all() {
             Ok(()) => None,
@@ -120,8 +119,8 @@ impl<D: Disk, M: Metadata> Pool<D, M> {
 
     /// All parts that are left of a flush, behind `go_on_flush` where `is_named`, else behind `begin_flush`. The whole is a flush of the pool as it was.
     pub fn end_flush(&mut self, is_named: bool) -> Result<(), Refusal>
-        ensures { (old : Held M) → self.old ≡ record old { disk = self.old.disk } → IsMidFlush M.geometry M.stands M.tells M.midway old is_named self.old.disk
-            → IsFlushed M.geometry M.stands M.marks M.room M.changed old self.new result }
+        ensures { (old : Held M) → self.old ≡ record old { disk = self.old.disk } → IsMidFlush M.Metadata old is_named self.old.disk
+            → IsFlushed M.Metadata old self.new result }
     {
         if is_named {
             return self.end_or_fail();
@@ -147,9 +146,9 @@ impl<M: Metadata> Besides<M> {
         requires whole { length out.old % 512 ≡ 0 }
         requires within { Fits (M.geometry self.now.metadata) (sector + length out.old / 512) }
         ensures length { length out.new ≡ length out.old }
-        ensures read { IsTrue result → (old : Held M) (is_named : Bool) → besides_of old ≡ self.now → IsMidFlush M.geometry M.stands M.tells M.midway old is_named (D.state disk.now)
-            → EndsInVolume (view M.geometry M.stands) old id (sector + length out.old / 512)
-            → IsSharedRead M.geometry M.stands M.marks M.room M.changed old id sector (length out.old / 512) (sectors_of out.new) }
+        ensures read { IsTrue result → (old : Held M) (is_named : Bool) → besides_of old ≡ self.now → IsMidFlush M.Metadata old is_named (D.state disk.now)
+            → EndsInVolume (view M.Metadata) old id (sector + length out.old / 512)
+            → IsSharedRead M.Metadata old id sector (length out.old / 512) (sectors_of out.new) }
     {
         read_parts(
             disk,

@@ -15,8 +15,9 @@ ghost use Rattle.tp_stored.specs.Contents.{Contents, IsOpened};
 ghost use Rattle.tp_shown.specs.Shown.{blocks_touched};
 ghost use Rattle.tp_meta.specs.Metadata.{AreInside, AreTold};
 ghost use Rattle.tp_holders.specs.Holders.{LeftTold, blocks_held, holds_of};
-ghost use Rattle.tp_pool.specs.Held.{AnswersSo, EndsShort, Fits, IsAllKept, IsFlush, IsTried, LacksRoom, LiesIn, PoolAnswered, PoolCalled, PoolRefused, PoolTried, blocks_of_held, failed_by, shows, view};
-ghost use Rattle.tp_pool.specs.Flushes.{FlushesSo, HasChanged, HasFlushed, PoolClosed, StaysInPlace, served};
+ghost use Rattle.tp_pool.specs.AtMetadata.{AnswersSo, FlushesSo, HasFlushed, LacksRoom, LiesIn, PoolAnswered, PoolCalled, PoolClosed, PoolRefused, PoolTried, StaysInPlace, served, shows, view};
+ghost use Rattle.tp_pool.specs.Held.{EndsShort, Fits, IsAllKept, IsFlush, IsTried, blocks_of_held, failed_by};
+ghost use Rattle.tp_pool.specs.Flushes.{HasChanged};
 ghost use Rattle.tp_model.specs.Clauses.{EndsInVolume, Flushes, IsAnswered};
 ghost use Rattle.tp_pool.specs.Besides.{besides_of, pool_on};
 ghost use Rattle.tp_pool.specs.Checked.{HasOnlyRead, IsOnlyRead};
@@ -184,7 +185,7 @@ impl<D: Disk, M: Metadata> Pool<D, M> {
         ensures metadata { result.metadata ≡ metadata }
         ensures holders { result.holders ≡ [] }
         ensures shows { (now kept : Contents) (s : PlainPool) → M.stands metadata (D.state disk) now kept → IsOpened (M.geometry metadata) now (seen (D.state disk).cells) s
-            → now.meta_used + 128 ≤ (M.geometry metadata).metadata_blocks → (IsTrue now.needs_check → IsAllKept now kept (D.state disk)) → shows M.geometry M.stands result s }
+            → now.meta_used + 128 ≤ (M.geometry metadata).metadata_blocks → (IsTrue now.needs_check → IsAllKept now kept (D.state disk)) → shows M.Metadata result s }
     {
         let mode = if metadata.needs_check() {
             Mode::ReadOnly
@@ -221,21 +222,23 @@ impl<D: Disk, M: Metadata> Pool<D, M> {
         self.metadata.size(&mut self.disk, id)
     }
 
-    /// Reads sectors of a volume: Ok, or 21, 15, 5. The range lies in the volume. Where nobody holds it, or there is no such volume, one that
-    /// lies in the pool's own size will do.
+    /// Reads sectors of a volume. The range lies in the volume. Where nobody holds it, or there is no such volume, one that lies in the pool's own size
+    /// will do.
+    ///
+    /// Refused by `Failed`, `NoSuchDevice` or `Fault`.
     pub fn read(&mut self, id: DevId, sector: u64, out: &mut [u8]) -> Result<(), Refusal>
         requires whole { length out.old % 512 ≡ 0 }
-        requires range { EndsInVolume (view M.geometry M.stands) self.old id (sector + length out.old / 512) }
+        requires range { EndsInVolume (view M.Metadata) self.old id (sector + length out.old / 512) }
         ensures called { MatchResult result
-            (λ _. PoolCalled M.geometry M.stands self.old self.new (Read id sector (length out.old / 512)) (Gave (sectors_of out.new)))
-            (λ reason. PoolRefused M.geometry M.stands self.old self.new (Read id sector (length out.old / 512)) reason) }
+            (λ _. PoolCalled M.Metadata self.old self.new (Read id sector (length out.old / 512)) (Gave (sectors_of out.new)))
+            (λ reason. PoolRefused M.Metadata self.old self.new (Read id sector (length out.old / 512)) reason) }
         ensures length { length out.new ≡ length out.old }
         ensures answered { MatchResult result
-            (λ _. IsAnswered (view M.geometry M.stands) self.old self.new (Read id sector (length out.old / 512)) (Gave (sectors_of out.new)))
-            (λ reason. IsAnswered (view M.geometry M.stands) self.old self.new (Read id sector (length out.old / 512)) (Refused reason)) }
+            (λ _. IsAnswered (view M.Metadata) self.old self.new (Read id sector (length out.old / 512)) (Gave (sectors_of out.new)))
+            (λ reason. IsAnswered (view M.Metadata) self.old self.new (Read id sector (length out.old / 512)) (Refused reason)) }
         ensures flushes { MatchResult result
-            (λ _. Flushes (served M.geometry M.stands M.marks M.room M.changed) self.old self.new (Read id sector (length out.old / 512)) (Gave (sectors_of out.new)))
-            (λ reason. Flushes (served M.geometry M.stands M.marks M.room M.changed) self.old self.new (Read id sector (length out.old / 512)) (Refused reason)) }
+            (λ _. Flushes (served M.Metadata) self.old self.new (Read id sector (length out.old / 512)) (Gave (sectors_of out.new)))
+            (λ reason. Flushes (served M.Metadata) self.old self.new (Read id sector (length out.old / 512)) (Refused reason)) }
         ensures held { self.new ≡ record self.old { disk = after_read (not (is_fault result)) self.old.disk } }
     {
         if is_failed(self.mode) {
@@ -256,17 +259,19 @@ impl<D: Disk, M: Metadata> Pool<D, M> {
         Ok(())
     }
 
-    /// The least id of a volume that is `from` or more, if there is one: Ok, or 21, 5. It writes nothing.
+    /// The least id of a volume that is `from` or more, if there is one. It writes nothing.
+    ///
+    /// Refused by `Failed` or `Fault`.
     pub fn next_id(&mut self, from: DevId) -> Result<Option<DevId>, Refusal>
         ensures called { MatchResult result
-            (λ found. PoolCalled M.geometry M.stands self.old self.new (NextId from) (Found found))
-            (λ reason. PoolRefused M.geometry M.stands self.old self.new (NextId from) reason) }
+            (λ found. PoolCalled M.Metadata self.old self.new (NextId from) (Found found))
+            (λ reason. PoolRefused M.Metadata self.old self.new (NextId from) reason) }
         ensures answered { MatchResult result
-            (λ found. IsAnswered (view M.geometry M.stands) self.old self.new (NextId from) (Found found))
-            (λ reason. IsAnswered (view M.geometry M.stands) self.old self.new (NextId from) (Refused reason)) }
+            (λ found. IsAnswered (view M.Metadata) self.old self.new (NextId from) (Found found))
+            (λ reason. IsAnswered (view M.Metadata) self.old self.new (NextId from) (Refused reason)) }
         ensures flushes { MatchResult result
-            (λ found. Flushes (served M.geometry M.stands M.marks M.room M.changed) self.old self.new (NextId from) (Found found))
-            (λ reason. Flushes (served M.geometry M.stands M.marks M.room M.changed) self.old self.new (NextId from) (Refused reason)) }
+            (λ found. Flushes (served M.Metadata) self.old self.new (NextId from) (Found found))
+            (λ reason. Flushes (served M.Metadata) self.old self.new (NextId from) (Refused reason)) }
         ensures held { self.new ≡ record self.old { disk = after_read (not (is_fault result)) self.old.disk } }
     {
         if is_failed(self.mode) {
@@ -275,12 +280,14 @@ impl<D: Disk, M: Metadata> Pool<D, M> {
         Ok(self.metadata.next_id(&mut self.disk, from)?)
     }
 
-    /// Holds a volume, which is Busy then: Ok, or 21, 15, 5. At most 64 holds stand at once.
+    /// Holds a volume, which is Busy then. At most 64 holds stand at once.
+    ///
+    /// Refused by `Failed`, `NoSuchDevice` or `Fault`.
     pub fn hold(&mut self, id: DevId) -> Result<(), Refusal>
         requires { length self.old.holders < 64 }
-        ensures called { PoolAnswered M.geometry M.stands self.old self.new (Hold id) result }
-        ensures answered { AnswersSo M.geometry M.stands self.old self.new (Hold id) result }
-        ensures flushes { FlushesSo M.geometry M.stands M.marks M.room M.changed self.old self.new (Hold id) result }
+        ensures called { PoolAnswered M.Metadata self.old self.new (Hold id) result }
+        ensures answered { AnswersSo M.Metadata self.old self.new (Hold id) result }
+        ensures flushes { FlushesSo M.Metadata self.old self.new (Hold id) result }
         ensures held { self.new ≡ record self.old { disk = after_read (not (is_fault result)) self.old.disk; holders = self.new.holders } }
         ensures refused { OnErr result (self.new.holders ≡ self.old.holders) }
         ensures holds { OnOk result (holds_of self.new.holders ≡ holds_after (holds_of self.old.holders) (Hold id) Done) }
@@ -297,17 +304,19 @@ impl<D: Disk, M: Metadata> Pool<D, M> {
         Ok(())
     }
 
-    /// How many blocks a volume has: Ok, or 21, 15, 5, 2. It writes nothing, and makes no call of the disk for a volume that is held.
+    /// How many blocks a volume has. It writes nothing, and makes no call of the disk for a volume that is held.
+    ///
+    /// Refused by `Failed`, `NoSuchDevice`, `Fault` or `Damaged`.
     pub fn volume_blocks(&mut self, id: DevId) -> Result<u32, Refusal>
         ensures called { MatchResult result
-            (λ blocks. PoolCalled M.geometry M.stands self.old self.new (VolumeBlocks id) (Sized blocks))
-            (λ reason. PoolRefused M.geometry M.stands self.old self.new (VolumeBlocks id) reason) }
+            (λ blocks. PoolCalled M.Metadata self.old self.new (VolumeBlocks id) (Sized blocks))
+            (λ reason. PoolRefused M.Metadata self.old self.new (VolumeBlocks id) reason) }
         ensures answered { MatchResult result
-            (λ blocks. IsAnswered (view M.geometry M.stands) self.old self.new (VolumeBlocks id) (Sized blocks))
-            (λ reason. IsAnswered (view M.geometry M.stands) self.old self.new (VolumeBlocks id) (Refused reason)) }
+            (λ blocks. IsAnswered (view M.Metadata) self.old self.new (VolumeBlocks id) (Sized blocks))
+            (λ reason. IsAnswered (view M.Metadata) self.old self.new (VolumeBlocks id) (Refused reason)) }
         ensures flushes { MatchResult result
-            (λ blocks. Flushes (served M.geometry M.stands M.marks M.room M.changed) self.old self.new (VolumeBlocks id) (Sized blocks))
-            (λ reason. Flushes (served M.geometry M.stands M.marks M.room M.changed) self.old self.new (VolumeBlocks id) (Refused reason)) }
+            (λ blocks. Flushes (served M.Metadata) self.old self.new (VolumeBlocks id) (Sized blocks))
+            (λ reason. Flushes (served M.Metadata) self.old self.new (VolumeBlocks id) (Refused reason)) }
         ensures held { self.new ≡ record self.old { disk = after_read (not (is_fault result)) self.old.disk } }
         ensures known { 0 < hold_count (holds_of self.old.holders) id → IfOk result (λ blocks. blocks ≡ blocks_of_held (M.geometry self.old.metadata) self.old.holders id) }
         ensures quiet { 0 < hold_count (holds_of self.old.holders) id → self.new ≡ self.old }
@@ -328,9 +337,9 @@ impl<D: Disk, M: Metadata> Pool<D, M> {
     /// Lets go of a volume that is held.
     pub fn let_go(&mut self, id: DevId)
         requires { 0 < hold_count (holds_of self.old.holders) id }
-        ensures called { PoolCalled M.geometry M.stands self.old self.new (LetGo id) Done }
-        ensures answered { IsAnswered (view M.geometry M.stands) self.old self.new (LetGo id) Done }
-        ensures flushes { Flushes (served M.geometry M.stands M.marks M.room M.changed) self.old self.new (LetGo id) Done }
+        ensures called { PoolCalled M.Metadata self.old self.new (LetGo id) Done }
+        ensures answered { IsAnswered (view M.Metadata) self.old self.new (LetGo id) Done }
+        ensures flushes { Flushes (served M.Metadata) self.old self.new (LetGo id) Done }
         ensures held { self.new ≡ record self.old { holders = self.new.holders } }
         ensures holds { holds_of self.new.holders ≡ holds_after (holds_of self.old.holders) (LetGo id) Done }
         ensures sizes { LeftTold self.old.holders self.new.holders }
@@ -352,13 +361,13 @@ impl<D: Disk, M: Metadata> Pool<D, M> {
 
     /// Flushes or closes.
     fn keep_or_fail(&mut self) -> Result<(), Refusal>
-        ensures called { (call : Call) → IsFlush call → PoolAnswered M.geometry M.stands self.old self.new call result }
-        ensures answered { (call : Call) → IsFlush call → AnswersSo M.geometry M.stands self.old self.new call result }
-        ensures flushes { (call : Call) → IsFlush call → FlushesSo M.geometry M.stands M.marks M.room M.changed self.old self.new call result }
+        ensures called { (call : Call) → IsFlush call → PoolAnswered M.Metadata self.old self.new call result }
+        ensures answered { (call : Call) → IsFlush call → AnswersSo M.Metadata self.old self.new call result }
+        ensures flushes { (call : Call) → IsFlush call → FlushesSo M.Metadata self.old self.new call result }
         ensures held { self.new ≡ record self.old { disk = self.new.disk; metadata = self.new.metadata; mode = self.new.mode } }
         ensures geometry { M.geometry self.new.metadata ≡ M.geometry self.old.metadata }
         ensures read_only { self.old.mode ≡ mode.ReadOnly → self.new ≡ self.old }
-        ensures settled { OnOk result ((s : PlainPool) → shows M.geometry M.stands self.old s → IsSettled self.new.disk.cells) }
+        ensures settled { OnOk result ((s : PlainPool) → shows M.Metadata self.old s → IsSettled self.new.disk.cells) }
         ensures failed { self.old.mode ≡ mode.Failed → (result ≡ Err Refusal.Failed) × (self.new ≡ self.old) }
         ensures only { IfErr result (λ reason. (reason ≡ Refusal.Failed) ⊎ (reason ≡ Refusal.Fault)) }
     {
@@ -375,15 +384,17 @@ impl<D: Disk, M: Metadata> Pool<D, M> {
         }
     }
 
-    /// Keeps all that was done: Ok, or 21, 5. In a read-only pool all is kept already.
+    /// Keeps all that was done. In a read-only pool all is kept already.
+    ///
+    /// Refused by `Failed` or `Fault`.
     pub fn flush(&mut self) -> Result<(), Refusal>
-        ensures called { PoolAnswered M.geometry M.stands self.old self.new Flush result }
-        ensures answered { AnswersSo M.geometry M.stands self.old self.new Flush result }
-        ensures flushes { FlushesSo M.geometry M.stands M.marks M.room M.changed self.old self.new Flush result }
+        ensures called { PoolAnswered M.Metadata self.old self.new Flush result }
+        ensures answered { AnswersSo M.Metadata self.old self.new Flush result }
+        ensures flushes { FlushesSo M.Metadata self.old self.new Flush result }
         ensures held { self.new ≡ record self.old { disk = self.new.disk; metadata = self.new.metadata; mode = self.new.mode } }
         ensures geometry { M.geometry self.new.metadata ≡ M.geometry self.old.metadata }
         ensures read_only { self.old.mode ≡ mode.ReadOnly → self.new ≡ self.old }
-        ensures settled { OnOk result ((s : PlainPool) → shows M.geometry M.stands self.old s → IsSettled self.new.disk.cells) }
+        ensures settled { OnOk result ((s : PlainPool) → shows M.Metadata self.old s → IsSettled self.new.disk.cells) }
     {
         self.keep_or_fail()
     }
@@ -391,7 +402,7 @@ impl<D: Disk, M: Metadata> Pool<D, M> {
     /// Refuses a call for want of metadata room: from now on the pool wants a check and is read-only, and that is kept.
     pub(crate) fn refuse_for_room(&mut self) -> Result<(), Refusal>
         requires works { self.old.mode ≡ mode.Writable }
-        ensures called { (call : Call) → LacksRoom M.geometry M.stands self.old call → PoolTried M.geometry M.stands self.old self.new call result }
+        ensures called { (call : Call) → LacksRoom M.Metadata self.old call → PoolTried M.Metadata self.old self.new call result }
         ensures ends { EndsShort self.old self.new result }
         ensures held { self.new ≡ record self.old { disk = self.new.disk; metadata = self.new.metadata; mode = self.new.mode } }
         ensures geometry { M.geometry self.new.metadata ≡ M.geometry self.old.metadata }
@@ -409,16 +420,16 @@ impl<D: Disk, M: Metadata> Pool<D, M> {
     fn try_write(&mut self, id: DevId, sector: u64, bytes: &[u8], fua: bool) -> Result<(), Refusal>
         requires whole { length bytes.now % 512 ≡ 0 }
         requires range { Fits (M.geometry self.old.metadata) (sector + length bytes.now / 512) }
-        requires lies { LiesIn M.geometry M.stands self.old id (sector + length bytes.now / 512) }
+        requires lies { LiesIn M.Metadata self.old id (sector + length bytes.now / 512) }
         requires most { length bytes.now / 512 ≤ 2048 }
         requires works { is_failed self.old.mode ≡ false }
-        ensures called { PoolTried M.geometry M.stands self.old self.new (Write id sector (sectors_of bytes.now) fua) result }
+        ensures called { PoolTried M.Metadata self.old self.new (Write id sector (sectors_of bytes.now) fua) result }
         ensures tried { IsTried self.old self.new (Write id sector (sectors_of bytes.now) fua) result }
         ensures held { self.new ≡ record self.old { disk = self.new.disk; metadata = self.new.metadata; mode = self.new.mode } }
         ensures geometry { M.geometry self.new.metadata ≡ M.geometry self.old.metadata }
-        ensures flushes { HasFlushed M.geometry M.stands M.marks M.room self.old self.new.disk (Write id sector (sectors_of bytes.now) fua) }
+        ensures flushes { HasFlushed M.Metadata self.old self.new.disk (Write id sector (sectors_of bytes.now) fua) }
         ensures changes { HasChanged M.changed self.old.metadata self.new.metadata (Write id sector (sectors_of bytes.now) fua) result }
-        ensures in_place { OnOk result (StaysInPlace M.geometry M.stands M.marks M.room M.changed self.old self.new (Write id sector (sectors_of bytes.now) fua)) }
+        ensures in_place { OnOk result (StaysInPlace M.Metadata self.old self.new (Write id sector (sectors_of bytes.now) fua)) }
         ensures read_only { is_read_only self.old.mode ≡ true → HasOnlyRead self.old self.new result }
     {
         let count = bytes.len() as u64 / SECTOR;
@@ -471,7 +482,7 @@ impl<D: Disk, M: Metadata> Pool<D, M> {
         requires whole { length bytes.now % 512 ≡ 0 }
         requires some { 0 < length bytes.now / 512 }
         requires range { Fits (M.geometry self.old.metadata) (sector + length bytes.now / 512) }
-        requires lies { LiesIn M.geometry M.stands self.old id (sector + length bytes.now / 512) }
+        requires lies { LiesIn M.Metadata self.old id (sector + length bytes.now / 512) }
         requires most { length bytes.now / 512 ≤ 2048 }
         requires few { length homes.old ≤ 17 }
         requires homes { length homes.old ≡ blocks_touched (M.geometry self.old.metadata) sector (length bytes.now / 512) }
@@ -479,14 +490,14 @@ impl<D: Disk, M: Metadata> Pool<D, M> {
             → AreTold id (sector / (M.geometry self.old.metadata).block_sectors) now.volumes (M.marks self.old.metadata) (length homes.old) homes.old }
         requires places { AreInside (M.geometry self.old.metadata).data_blocks (length homes.old) homes.old }
         requires works { self.old.mode ≡ mode.Writable }
-        ensures called { ((now kept : Contents) → M.stands self.old.metadata self.old.disk now kept → IsSome (device_of id now.volumes)) → PoolTried M.geometry M.stands self.old self.new (Write id sector (sectors_of bytes.now) fua) result }
+        ensures called { ((now kept : Contents) → M.stands self.old.metadata self.old.disk now kept → IsSome (device_of id now.volumes)) → PoolTried M.Metadata self.old self.new (Write id sector (sectors_of bytes.now) fua) result }
         ensures tried { IsTried self.old self.new (Write id sector (sectors_of bytes.now) fua) result }
         ensures held { self.new ≡ record self.old { disk = self.new.disk; metadata = self.new.metadata; mode = self.new.mode } }
         ensures geometry { M.geometry self.new.metadata ≡ M.geometry self.old.metadata }
-        ensures flushes { ((now kept : Contents) → M.stands self.old.metadata self.old.disk now kept → IsSome (device_of id now.volumes)) → HasFlushed M.geometry M.stands M.marks M.room self.old self.new.disk (Write id sector (sectors_of bytes.now) fua) }
+        ensures flushes { ((now kept : Contents) → M.stands self.old.metadata self.old.disk now kept → IsSome (device_of id now.volumes)) → HasFlushed M.Metadata self.old self.new.disk (Write id sector (sectors_of bytes.now) fua) }
         ensures changes { HasChanged M.changed self.old.metadata self.new.metadata (Write id sector (sectors_of bytes.now) fua) result }
         ensures in_place { ((now kept : Contents) → M.stands self.old.metadata self.old.disk now kept → IsSome (device_of id now.volumes))
-            → OnOk result (StaysInPlace M.geometry M.stands M.marks M.room M.changed self.old self.new (Write id sector (sectors_of bytes.now) fua)) }
+            → OnOk result (StaysInPlace M.Metadata self.old self.new (Write id sector (sectors_of bytes.now) fua)) }
     {
         if lacks_metadata(&self.metadata) {
             return self.refuse_for_room();
@@ -509,22 +520,23 @@ impl<D: Disk, M: Metadata> Pool<D, M> {
         keep(&mut self.disk, &mut self.metadata)
     }
 
-    /// Writes at most 2048 sectors of a volume, and with `fua` keeps them: Ok, or 21, 15, 20, 18, 24, 5. The range lies in
-    /// the volume.
+    /// Writes at most 2048 sectors of a volume, and with `fua` keeps them. The range lies in the volume.
     ///
-    /// Where 512 metadata blocks are free and as many data blocks as it takes, it flushes the disk with `fua` alone. Elsewhere it
-    /// commits first, which may free some. A write in place changes no metadata, so a flush behind it is one of the disk. Where it is refused with 18, the pool wants a check from then on and is read-only, which a commit
-    /// keeps.
+    /// Where 512 metadata blocks are free and as many data blocks as it takes, it flushes the disk with `fua` alone. Elsewhere it commits first, which may
+    /// free some. A write in place changes no metadata, so a flush behind it is one of the disk. Where it is refused by `NoMetadataSpace`, the pool wants
+    /// a check from then on and is read-only, which a commit keeps.
+    ///
+    /// Refused by `Failed`, `NoSuchDevice`, `ReadOnly`, `NoMetadataSpace`, `NoDataSpace` or `Fault`.
     pub fn write(&mut self, id: DevId, sector: u64, bytes: &[u8], fua: bool) -> Result<(), Refusal>
         requires whole { length bytes.now % 512 ≡ 0 }
-        requires range { EndsInVolume (view M.geometry M.stands) self.old id (sector + length bytes.now / 512) }
+        requires range { EndsInVolume (view M.Metadata) self.old id (sector + length bytes.now / 512) }
         requires most { length bytes.now / 512 ≤ 2048 }
-        ensures called { PoolAnswered M.geometry M.stands self.old self.new (Write id sector (sectors_of bytes.now) fua) result }
-        ensures answered { AnswersSo M.geometry M.stands self.old self.new (Write id sector (sectors_of bytes.now) fua) result }
+        ensures called { PoolAnswered M.Metadata self.old self.new (Write id sector (sectors_of bytes.now) fua) result }
+        ensures answered { AnswersSo M.Metadata self.old self.new (Write id sector (sectors_of bytes.now) fua) result }
         ensures held { self.new ≡ record self.old { disk = self.new.disk; metadata = self.new.metadata; mode = self.new.mode } }
         ensures geometry { M.geometry self.new.metadata ≡ M.geometry self.old.metadata }
-        ensures flushes { FlushesSo M.geometry M.stands M.marks M.room M.changed self.old self.new (Write id sector (sectors_of bytes.now) fua) result }
-        ensures in_place { OnOk result (StaysInPlace M.geometry M.stands M.marks M.room M.changed self.old self.new (Write id sector (sectors_of bytes.now) fua)) }
+        ensures flushes { FlushesSo M.Metadata self.old self.new (Write id sector (sectors_of bytes.now) fua) result }
+        ensures in_place { OnOk result (StaysInPlace M.Metadata self.old self.new (Write id sector (sectors_of bytes.now) fua)) }
         // A pool that is read-only or has failed refuses it, and its disk is only read.
         ensures read_only { self.old.mode ≢ mode.Writable → IsOnlyRead self.old self.new result }
     {
@@ -540,10 +552,10 @@ impl<D: Disk, M: Metadata + Drop> Pool<D, M> {
     /// Keeps all that was done, as `flush` does and with its answers, and hands the disk back with any of them.
     pub fn close(self) -> (Result<(), Refusal>, D)
         ensures closed { MatchResult result.0
-            (λ _. PoolClosed M.geometry M.stands M.marks M.room M.changed self (D.state result.1) Done)
-            (λ reason. PoolClosed M.geometry M.stands M.marks M.room M.changed self (D.state result.1) (Refused reason)) }
+            (λ _. PoolClosed M.Metadata self (D.state result.1) Done)
+            (λ reason. PoolClosed M.Metadata self (D.state result.1) (Refused reason)) }
         // Nothing was written behind the last flush, so it can be opened at once.
-        ensures settled { OnOk result.0 ((s : PlainPool) → shows M.geometry M.stands self s → IsSettled (D.state result.1).cells) }
+        ensures settled { OnOk result.0 ((s : PlainPool) → shows M.Metadata self s → IsSettled (D.state result.1).cells) }
         ensures failed { self.mode ≡ mode.Failed → (result.0 ≡ Err Refusal.Failed) × (D.state result.1 ≡ self.disk) }
         ensures only { IfErr result.0 (λ reason. (reason ≡ Refusal.Failed) ⊎ (reason ≡ Refusal.Fault)) }
     {

@@ -13,8 +13,8 @@ ghost use Rattle.tp_sharing.specs.Volumes.{Volumes, device_of};
 ghost use Rattle.tp_stored.specs.Contents.{Contents};
 ghost use Rattle.tp_meta.specs.Metadata.{AreInside, LooksUp};
 ghost use Rattle.tp_shown.specs.Shown.{values_at};
-ghost use Rattle.tp_pool.specs.Held.{Fits, PoolCalled, PoolRefused, view};
-ghost use Rattle.tp_pool.specs.Flushes.{served};
+ghost use Rattle.tp_pool.specs.AtMetadata.{PoolCalled, PoolRefused, served, view};
+ghost use Rattle.tp_pool.specs.Held.{Fits};
 ghost use Rattle.tp_pool.specs.Writing.{old_place};
 ghost use Rattle.tp_pool.specs.Reading.{ArePlaced, IsRun, copied_home, id_read};
 
@@ -261,22 +261,23 @@ pub(crate) fn read_range<D: Disk, M: Metadata>(
 }
 
 impl<D: Disk, M: Metadata> Pool<D, M> {
-    /// Reads sectors that a volume had when the mapping that is held was reserved, whatever has become of the volume since: Ok, or 21, 27 (none is
-    /// held), 15, 5, 2. The range lies in the volume as it was; where nobody knows its size, one that lies in the pool's own size will do. It writes
-    /// nothing.
+    /// Reads sectors that a volume had when the mapping that is held was reserved, whatever has become of the volume since. The range lies in the volume
+    /// as it was; where nobody knows its size, one that lies in the pool's own size will do. It writes nothing.
+    ///
+    /// Refused by `Failed`, `NoHeldRoot` (none is held), `NoSuchDevice`, `Fault` or `Damaged`.
     pub fn held_read(&mut self, id: DevId, sector: u64, out: &mut [u8]) -> Result<(), Refusal>
         requires whole { length out.old % 512 ≡ 0 }
-        requires range { EndsInVolume (view M.geometry M.stands) self.old (copy_id id) (sector + length out.old / 512) }
+        requires range { EndsInVolume (view M.Metadata) self.old (copy_id id) (sector + length out.old / 512) }
         ensures called { MatchResult result
-            (λ _. PoolCalled M.geometry M.stands self.old self.new (HeldRead id sector (length out.old / 512)) (Gave (sectors_of out.new)))
-            (λ reason. PoolRefused M.geometry M.stands self.old self.new (HeldRead id sector (length out.old / 512)) reason) }
+            (λ _. PoolCalled M.Metadata self.old self.new (HeldRead id sector (length out.old / 512)) (Gave (sectors_of out.new)))
+            (λ reason. PoolRefused M.Metadata self.old self.new (HeldRead id sector (length out.old / 512)) reason) }
         ensures length { length out.new ≡ length out.old }
         ensures answered { MatchResult result
-            (λ _. IsAnswered (view M.geometry M.stands) self.old self.new (HeldRead id sector (length out.old / 512)) (Gave (sectors_of out.new)))
-            (λ reason. IsAnswered (view M.geometry M.stands) self.old self.new (HeldRead id sector (length out.old / 512)) (Refused reason)) }
+            (λ _. IsAnswered (view M.Metadata) self.old self.new (HeldRead id sector (length out.old / 512)) (Gave (sectors_of out.new)))
+            (λ reason. IsAnswered (view M.Metadata) self.old self.new (HeldRead id sector (length out.old / 512)) (Refused reason)) }
         ensures flushes { MatchResult result
-            (λ _. Flushes (served M.geometry M.stands M.marks M.room M.changed) self.old self.new (HeldRead id sector (length out.old / 512)) (Gave (sectors_of out.new)))
-            (λ reason. Flushes (served M.geometry M.stands M.marks M.room M.changed) self.old self.new (HeldRead id sector (length out.old / 512)) (Refused reason)) }
+            (λ _. Flushes (served M.Metadata) self.old self.new (HeldRead id sector (length out.old / 512)) (Gave (sectors_of out.new)))
+            (λ reason. Flushes (served M.Metadata) self.old self.new (HeldRead id sector (length out.old / 512)) (Refused reason)) }
         ensures held { self.new ≡ record self.old { disk = after_read (not (refusals.is_fault result)) self.old.disk } }
     {
         if is_failed(self.mode) {

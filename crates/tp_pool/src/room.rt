@@ -11,7 +11,8 @@ ghost use Rattle.tp_meta.specs.Metadata.{AreInside, AreTold, IsLater, RanWithFlu
 ghost use Rattle.tp_stored.specs.Contents.{Contents};
 ghost use Rattle.tp_shown.specs.Shown.{blocks_touched, blocks_wanted, blocks_wanted_by};
 ghost use Rattle.tp_pool.specs.Held.{Fits, most_sectors};
-ghost use Rattle.tp_pool.specs.Writing.{IsAsBefore, IsKept, IsReclaiming, LacksBlocks, LacksForRemoval, LacksMetadata, blocks_taken, blocks_taken_by, told_taken, told_wanted};
+ghost use Rattle.tp_pool.specs.AtMetadata.{IsAsBefore, IsKept};
+ghost use Rattle.tp_pool.specs.Writing.{IsReclaiming, LacksBlocks, LacksForRemoval, LacksMetadata, blocks_taken, blocks_taken_by, told_taken, told_wanted};
 ghost use Rattle.tp_pool.specs.Zeroing.{told_owned};
 
 use crate::sectors::{block_of, covered};
@@ -242,7 +243,7 @@ pub(crate) fn test_zeroes<M: Metadata>(
 pub(crate) fn keep<D: Disk, M: Metadata>(disk: &mut D, metadata: &mut M) -> Result<(), Refusal>
     requires disk { sectors_of_image (M.geometry metadata.old) ≤ (D.state disk.old).size }
     ensures kept { OnOk result ((now kept : Contents) → M.stands metadata.old (D.state disk.old) now kept → now.meta_used + 128 ≤ (M.geometry metadata.old).metadata_blocks
-        → IsKept M.geometry M.stands M.marks metadata.old metadata.new (D.state disk.old) (D.state disk.new) now
+        → IsKept M.Metadata metadata.old metadata.new (D.state disk.old) (D.state disk.new) now
         × (M.room metadata.new + now.meta_used ≡ (M.geometry metadata.old).metadata_blocks)) }
     ensures left { (now kept : Contents) → M.stands metadata.old (D.state disk.old) now kept → now.meta_used + 128 ≤ (M.geometry metadata.old).metadata_blocks
         → LeavesOnly (D.state disk.old) (D.state disk.new) (IsReclaiming (M.geometry metadata.old) now kept (D.state disk.old)) }
@@ -269,8 +270,8 @@ pub(crate) fn reclaim_for<D: Disk, M: Metadata>(
     requires least { 128 ≤ least }
     ensures room { OnOk result (least ≤ M.room metadata.new) }
     ensures done { OnOk result ((now kept : Contents) → M.stands metadata.old (D.state disk.old) now kept → (LacksBlocks least (M.geometry metadata.old) now → ⊥)
-        → ((IsAsBefore M.geometry M.stands M.marks metadata.old metadata.new (D.state disk.old) (D.state disk.new)) × (taken ≤ free_places (M.geometry metadata.old) now.volumes kept.volumes))
-        ⊎ IsKept M.geometry M.stands M.marks metadata.old metadata.new (D.state disk.old) (D.state disk.new) now) }
+        → ((IsAsBefore M.Metadata metadata.old metadata.new (D.state disk.old) (D.state disk.new)) × (taken ≤ free_places (M.geometry metadata.old) now.volumes kept.volumes))
+        ⊎ IsKept M.Metadata metadata.old metadata.new (D.state disk.old) (D.state disk.new) now) }
     ensures rests { result ≡ Ok false → (metadata.new ≡ metadata.old) × (D.state disk.new ≡ D.state disk.old) }
     ensures needed { result ≡ Ok true → least ≤ M.room metadata.old → (now kept : Contents) → M.stands metadata.old (D.state disk.old) now kept
         → taken ≤ free_places (M.geometry metadata.old) now.volumes kept.volumes → ⊥ }
@@ -307,8 +308,8 @@ pub(crate) fn reclaim<D: Disk, M: Metadata>(
     requires disk { sectors_of_image (M.geometry metadata.old) ≤ (D.state disk.old).size }
     ensures room { OnOk result (512 ≤ M.room metadata.new) }
     ensures done { OnOk result ((now kept : Contents) → M.stands metadata.old (D.state disk.old) now kept → (LacksMetadata (M.geometry metadata.old) now → ⊥)
-        → ((IsAsBefore M.geometry M.stands M.marks metadata.old metadata.new (D.state disk.old) (D.state disk.new)) × (taken ≤ free_places (M.geometry metadata.old) now.volumes kept.volumes))
-        ⊎ IsKept M.geometry M.stands M.marks metadata.old metadata.new (D.state disk.old) (D.state disk.new) now) }
+        → ((IsAsBefore M.Metadata metadata.old metadata.new (D.state disk.old) (D.state disk.new)) × (taken ≤ free_places (M.geometry metadata.old) now.volumes kept.volumes))
+        ⊎ IsKept M.Metadata metadata.old metadata.new (D.state disk.old) (D.state disk.new) now) }
     ensures rests { result ≡ Ok false → (metadata.new ≡ metadata.old) × (D.state disk.new ≡ D.state disk.old) }
     ensures needed { result ≡ Ok true → 512 ≤ M.room metadata.old → (now kept : Contents) → M.stands metadata.old (D.state disk.old) now kept
         → taken ≤ free_places (M.geometry metadata.old) now.volumes kept.volumes → ⊥ }
@@ -335,8 +336,8 @@ pub(crate) fn reclaim_metadata<D: Disk, M: Metadata>(
     requires disk { sectors_of_image (M.geometry metadata.old) ≤ (D.state disk.old).size }
     ensures room { OnOk result (16 ≤ M.room metadata.new) }
     ensures done { OnOk result ((now kept : Contents) → M.stands metadata.old (D.state disk.old) now kept → now.meta_used + 128 ≤ (M.geometry metadata.old).metadata_blocks
-        → IsAsBefore M.geometry M.stands M.marks metadata.old metadata.new (D.state disk.old) (D.state disk.new)
-        ⊎ IsKept M.geometry M.stands M.marks metadata.old metadata.new (D.state disk.old) (D.state disk.new) now) }
+        → IsAsBefore M.Metadata metadata.old metadata.new (D.state disk.old) (D.state disk.new)
+        ⊎ IsKept M.Metadata metadata.old metadata.new (D.state disk.old) (D.state disk.new) now) }
     ensures left { (now kept : Contents) → M.stands metadata.old (D.state disk.old) now kept → now.meta_used + 128 ≤ (M.geometry metadata.old).metadata_blocks
         → LeavesOnly (D.state disk.old) (D.state disk.new) (IsReclaiming (M.geometry metadata.old) now kept (D.state disk.old)) }
     ensures damaged { result ≡ Err Refusal.Damaged → (now kept : Contents) → M.stands metadata.old (D.state disk.old) now kept
@@ -379,8 +380,8 @@ pub(crate) fn make_room<D: Disk, M: Metadata>(
     ensures places { OnOk result (AreInside (M.geometry metadata.old).data_blocks (length homes.old) homes.new) }
     ensures room { OnOk result (512 ≤ M.room metadata.new) }
     ensures done { OnOk result ((now kept : Contents) → M.stands metadata.old (D.state disk.old) now kept → (LacksMetadata (M.geometry metadata.old) now → ⊥)
-        → ((IsAsBefore M.geometry M.stands M.marks metadata.old metadata.new (D.state disk.old) (D.state disk.new)) × (taken ≤ free_places (M.geometry metadata.old) now.volumes kept.volumes))
-        ⊎ IsKept M.geometry M.stands M.marks metadata.old metadata.new (D.state disk.old) (D.state disk.new) now) }
+        → ((IsAsBefore M.Metadata metadata.old metadata.new (D.state disk.old) (D.state disk.new)) × (taken ≤ free_places (M.geometry metadata.old) now.volumes kept.volumes))
+        ⊎ IsKept M.Metadata metadata.old metadata.new (D.state disk.old) (D.state disk.new) now) }
     ensures left { (now kept : Contents) → M.stands metadata.old (D.state disk.old) now kept → (LacksMetadata (M.geometry metadata.old) now → ⊥)
         → LeavesOnly (D.state disk.old) (D.state disk.new) (IsReclaiming (M.geometry metadata.old) now kept (D.state disk.old)) }
     ensures damaged { result ≡ Err Refusal.Damaged → (now kept : Contents) → M.stands metadata.old (D.state disk.old) now kept → (LacksMetadata (M.geometry metadata.old) now → ⊥) → ⊥ }

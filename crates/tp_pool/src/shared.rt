@@ -8,10 +8,10 @@ ghost use Rattle.tp_shown.specs.Shown.{values_at};
 ghost use Rattle.tp_model.specs.Geometry.{sectors_of_image};
 ghost use Rattle.tp_model.specs.Clauses.{EndsInVolume};
 ghost use Rattle.tp_holders.specs.Holders.{Holding};
-ghost use Rattle.tp_pool.specs.Held.{Fits, LiesIn, view};
+ghost use Rattle.tp_pool.specs.Held.{Fits};
 ghost use Rattle.tp_model.specs.Sectors.{sectors_of};
 ghost use Rattle.tp_pool.specs.Besides.{pool_on};
-ghost use Rattle.tp_pool.specs.Shared.{IsSharedRead};
+ghost use Rattle.tp_pool.specs.AtMetadata.{IsSharedRead, LiesIn, view};
 
 use crate::pool::{Besides, Pool, is_failed};
 use crate::reading::read_told;
@@ -36,8 +36,8 @@ pub(crate) fn read_parts<D: SharedDisk, M: Metadata>(
     requires whole { length out.old % 512 ≡ 0 }
     requires within { Fits (M.geometry metadata.now) (sector + length out.old / 512) }
     ensures length { length out.new ≡ length out.old }
-    ensures read { IsTrue result → (holders : List Holding) → LiesIn M.geometry M.stands (record { disk = D.state disk.now; metadata = metadata.now; holders = holders; mode = mode }) id (sector + length out.old / 512)
-        → IsSharedRead M.geometry M.stands M.marks M.room M.changed
+    ensures read { IsTrue result → (holders : List Holding) → LiesIn M.Metadata (record { disk = D.state disk.now; metadata = metadata.now; holders = holders; mode = mode }) id (sector + length out.old / 512)
+        → IsSharedRead M.Metadata
         (record { disk = D.state disk.now; metadata = metadata.now; holders = holders; mode = mode }) id sector (length out.old / 512) (sectors_of out.new) }
     // By what look-ups tell on the disk, also in the midst of a commit.
     ensures told { IsTrue result → (now kept : Contents) → M.tells metadata.now (D.state disk.now) now kept → IsSome (device_of id now.volumes)
@@ -63,9 +63,9 @@ impl<M: Metadata> Besides<M> {
     ) -> bool
         requires disk { sectors_of_image (M.geometry self.now.metadata) ≤ (D.state disk.now).size }
         requires whole { length out.old % 512 ≡ 0 }
-        requires range { EndsInVolume (view M.geometry M.stands) (pool_on (D.state disk.now) self.now) id (sector + length out.old / 512) }
+        requires range { EndsInVolume (view M.Metadata) (pool_on (D.state disk.now) self.now) id (sector + length out.old / 512) }
         ensures length { length out.new ≡ length out.old }
-        ensures read { IsTrue result → IsSharedRead M.geometry M.stands M.marks M.room M.changed (pool_on (D.state disk.now) self.now) id sector (length out.old / 512) (sectors_of out.new) }
+        ensures read { IsTrue result → IsSharedRead M.Metadata (pool_on (D.state disk.now) self.now) id sector (length out.old / 512) (sectors_of out.new) }
     {
         read_parts(
             disk,
@@ -85,9 +85,9 @@ impl<D: SharedDisk, M: Metadata> Pool<D, M> {
     /// volume.
     pub fn read_shared(&self, id: DevId, sector: u64, out: &mut [u8]) -> bool
         requires whole { length out.old % 512 ≡ 0 }
-        requires range { EndsInVolume (view M.geometry M.stands) self.now id (sector + length out.old / 512) }
+        requires range { EndsInVolume (view M.Metadata) self.now id (sector + length out.old / 512) }
         ensures length { length out.new ≡ length out.old }
-        ensures read { IsTrue result → IsSharedRead M.geometry M.stands M.marks M.room M.changed self.now id sector (length out.old / 512) (sectors_of out.new) }
+        ensures read { IsTrue result → IsSharedRead M.Metadata self.now id sector (length out.old / 512) (sectors_of out.new) }
     {
         read_parts(
             &self.disk,

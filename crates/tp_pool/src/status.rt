@@ -7,8 +7,7 @@ ghost use Rattle.tp_model.specs.Clauses.{Flushes, IsAnswered};
 ghost use Rattle.tp_model.specs.Disk.{after_read};
 ghost use Rattle.tp_sharing.specs.Volumes.{device_of};
 ghost use Rattle.tp_stored.specs.Contents.{Contents};
-ghost use Rattle.tp_pool.specs.Held.{PoolCalled, PoolRefused, shows, view};
-ghost use Rattle.tp_pool.specs.Flushes.{served};
+ghost use Rattle.tp_pool.specs.AtMetadata.{PoolCalled, PoolRefused, served, shows, view};
 ghost use Rattle.tp_pool.specs.Telling.{TellsLine, TellsVolumeLine};
 
 use crate::pool::{Pool, is_failed};
@@ -39,7 +38,7 @@ fn narrowed(number: u64) -> u32
 impl<D: Disk, M: Metadata> Pool<D, M> {
     /// What the pool's line tells.
     fn pool_status(&self) -> PoolStatus
-        ensures { (s : PlainPool) → shows M.geometry M.stands self.now s → TellsLine result s }
+        ensures { (s : PlainPool) → shows M.Metadata self.now s → TellsLine result s }
     {
         let geometry = self.metadata.geometry();
         PoolStatus {
@@ -58,9 +57,9 @@ impl<D: Disk, M: Metadata> Pool<D, M> {
     ///
     /// It tells how many data blocks some volume maps; those that only wait for a commit are not counted. A failed pool's line is `Fail`.
     pub fn status(&self, out: &mut LineBuffer) -> usize
-        ensures called { PoolCalled M.geometry M.stands self.now self.now Status (Line (take result out.new)) }
-        ensures answered { IsAnswered (view M.geometry M.stands) self.now self.now Status (Line (take result out.new)) }
-        ensures flushes { Flushes (served M.geometry M.stands M.marks M.room M.changed) self.now self.now Status (Line (take result out.new)) }
+        ensures called { PoolCalled M.Metadata self.now self.now Status (Line (take result out.new)) }
+        ensures answered { IsAnswered (view M.Metadata) self.now self.now Status (Line (take result out.new)) }
+        ensures flushes { Flushes (served M.Metadata) self.now self.now Status (Line (take result out.new)) }
         ensures fits { result ≤ 192 }
     {
         let status = self.pool_status();
@@ -69,7 +68,7 @@ impl<D: Disk, M: Metadata> Pool<D, M> {
 
     /// What a volume's line tells. A failed pool has a line for every id.
     fn volume_status(&mut self, id: DevId) -> Result<VolumeStatus, Refusal>
-        ensures told { IfOk result (λ status. (s : PlainPool) → shows M.geometry M.stands self.old s → (refusal_of s (ThinStatus id) ≡ None) × TellsVolumeLine status s id) }
+        ensures told { IfOk result (λ status. (s : PlainPool) → shows M.Metadata self.old s → (refusal_of s (ThinStatus id) ≡ None) × TellsVolumeLine status s id) }
         ensures sectors { IfOk result (λ status. 0 < status.block_sectors) }
         ensures absent { result ≡ Err Refusal.NoSuchDevice → (now kept : Contents) → M.stands self.old.metadata self.old.disk now kept → false ≡ is_some (device_of id now.volumes) }
         ensures damaged { result ≡ Err Refusal.Damaged → (now kept : Contents) → M.stands self.old.metadata self.old.disk now kept → ⊥ }
@@ -98,21 +97,23 @@ impl<D: Disk, M: Metadata> Pool<D, M> {
         })
     }
 
-    /// Writes a volume's status line into a buffer and answers its length, the bytes behind it being of no meaning: Ok, or 15, 5. It changes
-    /// nothing, whatever it answers.
+    /// Writes a volume's status line into a buffer and answers its length, the bytes behind it being of no meaning. It changes nothing, whatever it
+    /// answers.
     ///
-    /// The line tells how many sectors of 512 bytes are mapped, and the last sector of the highest block that is. In a failed pool it is
-    /// `Fail`, for every id.
+    /// The line tells how many sectors of 512 bytes are mapped, and the last sector of the highest block that is. In a failed pool it is `Fail`, for every
+    /// id.
+    ///
+    /// Refused by `NoSuchDevice` or `Fault`.
     pub fn thin_status(&mut self, id: DevId, out: &mut LineBuffer) -> Result<usize, Refusal>
         ensures called { MatchResult result
-            (λ length. PoolCalled M.geometry M.stands self.old self.new (ThinStatus id) (Line (take length out.new)))
-            (λ reason. PoolRefused M.geometry M.stands self.old self.new (ThinStatus id) reason) }
+            (λ length. PoolCalled M.Metadata self.old self.new (ThinStatus id) (Line (take length out.new)))
+            (λ reason. PoolRefused M.Metadata self.old self.new (ThinStatus id) reason) }
         ensures answered { MatchResult result
-            (λ length. IsAnswered (view M.geometry M.stands) self.old self.new (ThinStatus id) (Line (take length out.new)))
-            (λ reason. IsAnswered (view M.geometry M.stands) self.old self.new (ThinStatus id) (Refused reason)) }
+            (λ length. IsAnswered (view M.Metadata) self.old self.new (ThinStatus id) (Line (take length out.new)))
+            (λ reason. IsAnswered (view M.Metadata) self.old self.new (ThinStatus id) (Refused reason)) }
         ensures flushes { MatchResult result
-            (λ length. Flushes (served M.geometry M.stands M.marks M.room M.changed) self.old self.new (ThinStatus id) (Line (take length out.new)))
-            (λ reason. Flushes (served M.geometry M.stands M.marks M.room M.changed) self.old self.new (ThinStatus id) (Refused reason)) }
+            (λ length. Flushes (served M.Metadata) self.old self.new (ThinStatus id) (Line (take length out.new)))
+            (λ reason. Flushes (served M.Metadata) self.old self.new (ThinStatus id) (Refused reason)) }
         ensures held { self.new ≡ record self.old { disk = after_read (not (is_fault result)) self.old.disk } }
         ensures fits { IfOk result (λ length. length ≤ 192) }
     {

@@ -9,9 +9,9 @@ ghost use Rattle.tp_stored.specs.Contents.{Contents};
 ghost use Rattle.tp_shown.specs.Shown.{blocks_covered, first_covered};
 ghost use Rattle.tp_meta.specs.Metadata.{IsAltered};
 ghost use Rattle.tp_pool.specs.Checked.{HasOnlyRead, IsOnlyRead};
-ghost use Rattle.tp_pool.specs.Flushes.{FlushesSo, HasChanged, HasFlushed};
-ghost use Rattle.tp_pool.specs.Held.{AnswersSo, Fits, IsTried, LiesIn, PoolAnswered, PoolTried, view};
-ghost use Rattle.tp_pool.specs.Trimming.{HasUnmapped};
+ghost use Rattle.tp_pool.specs.Flushes.{HasChanged};
+ghost use Rattle.tp_pool.specs.AtMetadata.{AnswersSo, FlushesSo, HasFlushed, HasUnmapped, LiesIn, PoolAnswered, PoolTried, view};
+ghost use Rattle.tp_pool.specs.Held.{Fits, IsTried};
 
 use crate::pool::{Pool, is_failed, is_read_only};
 use crate::room::{TRIM_ROOM, keep, lacks, reclaim_for};
@@ -36,7 +36,7 @@ fn unmap_blocks<D: Disk, M: Metadata>(
     requires room { 256 ≤ M.room metadata.old }
     ensures altered { IsAltered M.geometry M.stands M.room 256 metadata.old metadata.new (D.state disk.old) (D.state disk.new) result
         (λ P. (now kept : Contents) → M.stands metadata.old (D.state disk.old) now kept → P now kept)
-        (λ done now kept. HasUnmapped M.geometry M.stands M.marks id first count metadata.new (D.state disk.new) now kept) }
+        (λ done now kept. HasUnmapped M.Metadata id first count metadata.new (D.state disk.new) now kept) }
     ensures spare { OnOk result (128 ≤ M.room metadata.new) }
 {
     if count == 0 {
@@ -61,7 +61,7 @@ pub(crate) fn unmap_covered<D: Disk, M: Metadata>(
     requires room { 256 ≤ M.room metadata.old }
     ensures altered { IsAltered M.geometry M.stands M.room 256 metadata.old metadata.new (D.state disk.old) (D.state disk.new) result
         (λ P. (now kept : Contents) → M.stands metadata.old (D.state disk.old) now kept → P now kept)
-        (λ done now kept. HasUnmapped M.geometry M.stands M.marks id (first_covered (M.geometry metadata.old) sector) (blocks_covered (M.geometry metadata.old) sector count)
+        (λ done now kept. HasUnmapped M.Metadata id (first_covered (M.geometry metadata.old) sector) (blocks_covered (M.geometry metadata.old) sector count)
         metadata.new (D.state disk.new) now kept) }
     ensures spare { OnOk result (128 ≤ M.room metadata.new) }
 {
@@ -74,14 +74,14 @@ impl<D: Disk, M: Metadata> Pool<D, M> {
     fn discard(&mut self, id: DevId, sector: u64, count: u64, fua: bool) -> Result<(), Refusal>
         requires some { 0 < count }
         requires range { Fits (M.geometry self.old.metadata) (sector + count) }
-        requires lies { LiesIn M.geometry M.stands self.old id (sector + count) }
+        requires lies { LiesIn M.Metadata self.old id (sector + count) }
         requires most { count ≤ 2048 }
         requires works { self.old.mode ≡ mode.Writable }
-        ensures called { ((now kept : Contents) → M.stands self.old.metadata self.old.disk now kept → IsSome (device_of id now.volumes)) → PoolTried M.geometry M.stands self.old self.new (Trim id sector count fua) result }
+        ensures called { ((now kept : Contents) → M.stands self.old.metadata self.old.disk now kept → IsSome (device_of id now.volumes)) → PoolTried M.Metadata self.old self.new (Trim id sector count fua) result }
         ensures tried { IsTried self.old self.new (Trim id sector count fua) result }
         ensures held { self.new ≡ record self.old { disk = self.new.disk; metadata = self.new.metadata; mode = self.new.mode } }
         ensures geometry { M.geometry self.new.metadata ≡ M.geometry self.old.metadata }
-        ensures flushes { ((now kept : Contents) → M.stands self.old.metadata self.old.disk now kept → IsSome (device_of id now.volumes)) → HasFlushed M.geometry M.stands M.marks M.room self.old self.new.disk (Trim id sector count fua) }
+        ensures flushes { ((now kept : Contents) → M.stands self.old.metadata self.old.disk now kept → IsSome (device_of id now.volumes)) → HasFlushed M.Metadata self.old self.new.disk (Trim id sector count fua) }
         ensures changes { HasChanged M.changed self.old.metadata self.new.metadata (Trim id sector count fua) result }
     {
         if lacks(&self.metadata, TRIM_ROOM) {
@@ -98,14 +98,14 @@ impl<D: Disk, M: Metadata> Pool<D, M> {
     /// Trims sectors in a pool that works, and with `fua` keeps that.
     fn try_trim(&mut self, id: DevId, sector: u64, count: u64, fua: bool) -> Result<(), Refusal>
         requires range { Fits (M.geometry self.old.metadata) (sector + count) }
-        requires lies { LiesIn M.geometry M.stands self.old id (sector + count) }
+        requires lies { LiesIn M.Metadata self.old id (sector + count) }
         requires most { count ≤ 2048 }
         requires works { is_failed self.old.mode ≡ false }
-        ensures called { PoolTried M.geometry M.stands self.old self.new (Trim id sector count fua) result }
+        ensures called { PoolTried M.Metadata self.old self.new (Trim id sector count fua) result }
         ensures tried { IsTried self.old self.new (Trim id sector count fua) result }
         ensures held { self.new ≡ record self.old { disk = self.new.disk; metadata = self.new.metadata; mode = self.new.mode } }
         ensures geometry { M.geometry self.new.metadata ≡ M.geometry self.old.metadata }
-        ensures flushes { HasFlushed M.geometry M.stands M.marks M.room self.old self.new.disk (Trim id sector count fua) }
+        ensures flushes { HasFlushed M.Metadata self.old self.new.disk (Trim id sector count fua) }
         ensures changes { HasChanged M.changed self.old.metadata self.new.metadata (Trim id sector count fua) result }
         ensures read_only { is_read_only self.old.mode ≡ true → HasOnlyRead self.old self.new result }
     {
@@ -121,19 +121,21 @@ impl<D: Disk, M: Metadata> Pool<D, M> {
         self.discard(id, sector, count, fua)
     }
 
-    /// Takes the data blocks of the blocks of a volume that lie wholly in a range of at most 2048 sectors, and with `fua` keeps that: Ok, or 21, 15,
-    /// 20, 18, 5. Blocks that lie in the range in part stay as they are. The range lies in the volume.
+    /// Takes the data blocks of the blocks of a volume that lie wholly in a range of at most 2048 sectors, and with `fua` keeps that. Blocks that lie in
+    /// the range in part stay as they are. The range lies in the volume.
     ///
-    /// Where 256 metadata blocks are free it flushes the disk with `fua` alone. Elsewhere it commits first, which may free some. Where it is
-    /// refused with 18, the pool wants a check from then on and is read-only, which a commit keeps.
+    /// Where 256 metadata blocks are free it flushes the disk with `fua` alone. Elsewhere it commits first, which may free some. Where it is refused by
+    /// `NoMetadataSpace`, the pool wants a check from then on and is read-only, which a commit keeps.
+    ///
+    /// Refused by `Failed`, `NoSuchDevice`, `ReadOnly`, `NoMetadataSpace` or `Fault`.
     pub fn trim(&mut self, id: DevId, sector: u64, count: u64, fua: bool) -> Result<(), Refusal>
-        requires range { EndsInVolume (view M.geometry M.stands) self.old id (sector + count) }
+        requires range { EndsInVolume (view M.Metadata) self.old id (sector + count) }
         requires most { count ≤ 2048 }
-        ensures called { PoolAnswered M.geometry M.stands self.old self.new (Trim id sector count fua) result }
-        ensures answered { AnswersSo M.geometry M.stands self.old self.new (Trim id sector count fua) result }
+        ensures called { PoolAnswered M.Metadata self.old self.new (Trim id sector count fua) result }
+        ensures answered { AnswersSo M.Metadata self.old self.new (Trim id sector count fua) result }
         ensures held { self.new ≡ record self.old { disk = self.new.disk; metadata = self.new.metadata; mode = self.new.mode } }
         ensures geometry { M.geometry self.new.metadata ≡ M.geometry self.old.metadata }
-        ensures flushes { FlushesSo M.geometry M.stands M.marks M.room M.changed self.old self.new (Trim id sector count fua) result }
+        ensures flushes { FlushesSo M.Metadata self.old self.new (Trim id sector count fua) result }
         // A pool that is read-only or has failed refuses it, and its disk is only read.
         ensures read_only { self.old.mode ≢ mode.Writable → IsOnlyRead self.old self.new result }
     {

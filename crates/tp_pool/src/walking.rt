@@ -11,11 +11,9 @@ ghost use Rattle.tp_mapping.specs.Mapping.{from_block, slots_of};
 ghost use Rattle.tp_meta.specs.Metadata.{LooksUp};
 ghost use Rattle.tp_holders.specs.Holders.{Holding};
 ghost use Rattle.tp_pool.specs.Besides.{besides_of, pool_on};
-ghost use Rattle.tp_pool.specs.Flushes.{served};
-ghost use Rattle.tp_pool.specs.Held.{Held, PoolCalled, PoolRefused, view};
+ghost use Rattle.tp_pool.specs.Held.{Held};
 ghost use Rattle.tp_model.specs.Slots.{listed};
-ghost use Rattle.tp_pool.specs.Midway.{IsMidFlush};
-ghost use Rattle.tp_pool.specs.Shared.{IsSharedCall};
+ghost use Rattle.tp_pool.specs.AtMetadata.{IsMidFlush, IsSharedCall, PoolCalled, PoolRefused, served, view};
 
 use crate::pool::{Besides, Pool, is_failed};
 use tp_counts::StoreError;
@@ -55,7 +53,7 @@ fn list_parts<D: SharedDisk, M: Metadata>(
 ) -> bool
     requires { sectors_of_image (M.geometry metadata.now) ≤ (D.state disk.now).size }
     ensures listed { IsTrue result → (holders : List Holding)
-        → IsSharedCall M.geometry M.stands M.marks M.room M.changed (record { disk = D.state disk.now; metadata = metadata.now; holders = holders; mode = mode }) (Walk id from) (Listed (listed slots.new.items)) }
+        → IsSharedCall M.Metadata (record { disk = D.state disk.now; metadata = metadata.now; holders = holders; mode = mode }) (Walk id from) (Listed (listed slots.new.items)) }
     ensures told { IsTrue result → (now kept : Contents) → M.tells metadata.now (D.state disk.now) now kept → IsSome (device_of id now.volumes)
         × (slots.new.items ≡ take 252 (from_block from (slots_of id now.volumes))) }
 {
@@ -67,19 +65,21 @@ fn list_parts<D: SharedDisk, M: Metadata>(
 }
 
 impl<D: Disk, M: Metadata> Pool<D, M> {
-    /// Lists the slots of a volume with blocks from `from` on, in the order of their blocks, each with the number of its data block: Ok, or 21, 15, 5, 2. It lists 252 where
-    /// there are so many, and the next call asks for those from behind the last one; where it lists fewer, there are no more. It writes nothing and takes no memory. Behind an
-    /// `Err` `slots` may hold anything.
+    /// Lists the slots of a volume with blocks from `from` on, in the order of their blocks, each with the number of its data block. It lists 252 where
+    /// there are so many, and the next call asks for those from behind the last one; where it lists fewer, there are no more. It writes nothing and takes
+    /// no memory. Behind an `Err` `slots` may hold anything.
+    ///
+    /// Refused by `Failed`, `NoSuchDevice`, `Fault` or `Damaged`.
     pub fn walk(&mut self, id: DevId, from: Vb, slots: &mut Slots) -> Result<(), Refusal>
         ensures called { MatchResult result
-            (λ _. PoolCalled M.geometry M.stands self.old self.new (Walk id from) (Listed (listed slots.new.items)))
-            (λ reason. PoolRefused M.geometry M.stands self.old self.new (Walk id from) reason) }
+            (λ _. PoolCalled M.Metadata self.old self.new (Walk id from) (Listed (listed slots.new.items)))
+            (λ reason. PoolRefused M.Metadata self.old self.new (Walk id from) reason) }
         ensures answered { MatchResult result
-            (λ _. IsAnswered (view M.geometry M.stands) self.old self.new (Walk id from) (Listed (listed slots.new.items)))
-            (λ reason. IsAnswered (view M.geometry M.stands) self.old self.new (Walk id from) (Refused reason)) }
+            (λ _. IsAnswered (view M.Metadata) self.old self.new (Walk id from) (Listed (listed slots.new.items)))
+            (λ reason. IsAnswered (view M.Metadata) self.old self.new (Walk id from) (Refused reason)) }
         ensures flushes { MatchResult result
-            (λ _. Flushes (served M.geometry M.stands M.marks M.room M.changed) self.old self.new (Walk id from) (Listed (listed slots.new.items)))
-            (λ reason. Flushes (served M.geometry M.stands M.marks M.room M.changed) self.old self.new (Walk id from) (Refused reason)) }
+            (λ _. Flushes (served M.Metadata) self.old self.new (Walk id from) (Listed (listed slots.new.items)))
+            (λ reason. Flushes (served M.Metadata) self.old self.new (Walk id from) (Refused reason)) }
         ensures held { self.new ≡ record self.old { disk = after_read (not (refusals.is_fault result)) self.old.disk } }
     {
         if is_failed(self.mode) {
@@ -97,7 +97,7 @@ impl<D: SharedDisk, M: Metadata> Pool<D, M> {
     /// Lists slots of a volume, for any of those who look at the pool at once: true where `slots` has what `walk` would list. False says nothing of the pool, and no call of it
     /// was made: `walk` is to be asked then. `slots` may hold anything behind it.
     pub fn walk_shared(&self, id: DevId, from: Vb, slots: &mut Slots) -> bool
-        ensures { IsTrue result → IsSharedCall M.geometry M.stands M.marks M.room M.changed self.now (Walk id from) (Listed (listed slots.new.items)) }
+        ensures { IsTrue result → IsSharedCall M.Metadata self.now (Walk id from) (Listed (listed slots.new.items)) }
     {
         list_parts(&self.disk, &self.metadata, self.mode, id, from, slots)
     }
@@ -114,7 +114,7 @@ impl<M: Metadata> Besides<M> {
         slots: &mut Slots,
     ) -> bool
         requires { sectors_of_image (M.geometry self.now.metadata) ≤ (D.state disk.now).size }
-        ensures { IsTrue result → IsSharedCall M.geometry M.stands M.marks M.room M.changed (pool_on (D.state disk.now) self.now) (Walk id from) (Listed (listed slots.new.items)) }
+        ensures { IsTrue result → IsSharedCall M.Metadata (pool_on (D.state disk.now) self.now) (Walk id from) (Listed (listed slots.new.items)) }
     {
         list_parts(disk, &self.metadata, self.mode, id, from, slots)
     }
@@ -129,8 +129,8 @@ impl<M: Metadata> Besides<M> {
         slots: &mut Slots,
     ) -> bool
         requires { sectors_of_image (M.geometry self.now.metadata) ≤ (D.state disk.now).size }
-        ensures { IsTrue result → (old : Held M) (is_named : Bool) → besides_of old ≡ self.now → IsMidFlush M.geometry M.stands M.tells M.midway old is_named (D.state disk.now)
-            → IsSharedCall M.geometry M.stands M.marks M.room M.changed old (Walk id from) (Listed (listed slots.new.items)) }
+        ensures { IsTrue result → (old : Held M) (is_named : Bool) → besides_of old ≡ self.now → IsMidFlush M.Metadata old is_named (D.state disk.now)
+            → IsSharedCall M.Metadata old (Walk id from) (Listed (listed slots.new.items)) }
     {
         list_parts(disk, &self.metadata, self.mode, id, from, slots)
     }

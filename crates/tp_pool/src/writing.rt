@@ -16,7 +16,8 @@ ghost use Rattle.tp_stored.specs.Contents.{Contents, HasContents};
 ghost use Rattle.tp_shown.specs.Shown.{blocks_touched};
 ghost use Rattle.tp_meta.specs.Metadata.{AreInside, AreTold, IsChanging, IsInside, Ran};
 ghost use Rattle.tp_pool.specs.Held.{most_sectors};
-ghost use Rattle.tp_pool.specs.Writing.{own_place, old_place, AreInBlocks, HasBlock, HasFree, HasWritten, HasWrittenPart, IsHalfWritten, IsKnown, LeavesHalf, Mapped, Reaches, blocks_taken, told_taken};
+ghost use Rattle.tp_pool.specs.AtMetadata.{HasFree, HasWritten, HasWrittenPart, LeavesHalf, Mapped};
+ghost use Rattle.tp_pool.specs.Writing.{own_place, old_place, AreInBlocks, HasBlock, IsHalfWritten, IsKnown, Reaches, blocks_taken, told_taken};
 
 use crate::sectors::{SECTOR, block_of, index_of, part_of};
 use crate::together::{blocks_together, old_place, own_place};
@@ -36,7 +37,7 @@ fn map_new<D: Disk, M: Metadata>(
     requires disk { sectors_of_image (M.geometry metadata.old) ≤ (D.state disk.old).size }
     requires room { 16 ≤ M.room metadata.old }
     ensures mapped { IfOk result (λ place. (now kept : Contents) → M.stands metadata.old (D.state disk.old) now kept → HasBlock (M.geometry metadata.old) id block now.volumes
-        → Mapped M.geometry M.stands M.marks id block place metadata.old metadata.new (D.state disk.new) now kept) }
+        → Mapped M.Metadata id block place metadata.old metadata.new (D.state disk.new) now kept) }
     ensures inside { IfOk result (λ place. place < (M.geometry metadata.old).data_blocks) }
     ensures changing { (now kept : Contents) → M.stands metadata.old (D.state disk.old) now kept → IsChanging (M.geometry metadata.old) kept (D.state disk.old) (D.state disk.new) }
     ensures damaged { result ≡ Err StoreError.Damaged → (now kept : Contents) → M.stands metadata.old (D.state disk.old) now kept → HasBlock (M.geometry metadata.old) id block now.volumes
@@ -69,8 +70,8 @@ fn put_new<D: Disk, M: Metadata>(
     requires room { 16 ≤ M.room metadata.old }
     ensures written { OnOk result ((now kept : Contents) → M.stands metadata.old (D.state disk.old) now kept → Reaches (M.geometry metadata.old) id (sector + length (sectors_of bytes.now)) now.volumes
         → from ≡ slot_of id (sector / (M.geometry metadata.old).block_sectors) now.volumes
-        → HasWrittenPart M.geometry M.stands M.marks id (sector / (M.geometry metadata.old).block_sectors) 1 sector (sectors_of bytes.now) true metadata.old metadata.new (D.state disk.old) (D.state disk.new) now kept) }
-    ensures left { LeavesHalf M.geometry M.stands M.marks id sector (sectors_of bytes.now) metadata.old (D.state disk.old) (D.state disk.new) }
+        → HasWrittenPart M.Metadata id (sector / (M.geometry metadata.old).block_sectors) 1 sector (sectors_of bytes.now) true metadata.old metadata.new (D.state disk.old) (D.state disk.new) now kept) }
+    ensures left { LeavesHalf M.Metadata id sector (sectors_of bytes.now) metadata.old (D.state disk.old) (D.state disk.new) }
     ensures damaged { result ≡ Err StoreError.Damaged → (now kept : Contents) → M.stands metadata.old (D.state disk.old) now kept → Reaches (M.geometry metadata.old) id (sector + length (sectors_of bytes.now)) now.volumes
         → 0 < free_places (M.geometry metadata.old) now.volumes kept.volumes → ⊥ }
     ensures ran { Ran 16 (is_fault result) (M.room metadata.old) (M.room metadata.new) (M.geometry metadata.old) (M.geometry metadata.new) (D.state disk.old) (D.state disk.new) }
@@ -156,9 +157,9 @@ fn put_new_run<D: Disk, M: Metadata>(
     requires within { sector + length bytes.now / 512 ≤ most_sectors (M.geometry metadata.old) }
     requires room { 16 * (length bytes.now / 512 / (M.geometry metadata.old).block_sectors) ≤ M.room metadata.old }
     ensures written { OnOk result ((now kept : Contents) → M.stands metadata.old (D.state disk.old) now kept → Reaches (M.geometry metadata.old) id (sector + length (sectors_of bytes.now)) now.volumes
-        → HasWrittenPart M.geometry M.stands M.marks id (sector / (M.geometry metadata.old).block_sectors) (length bytes.now / 512 / (M.geometry metadata.old).block_sectors) sector (sectors_of bytes.now) true
+        → HasWrittenPart M.Metadata id (sector / (M.geometry metadata.old).block_sectors) (length bytes.now / 512 / (M.geometry metadata.old).block_sectors) sector (sectors_of bytes.now) true
         metadata.old metadata.new (D.state disk.old) (D.state disk.new) now kept) }
-    ensures left { LeavesHalf M.geometry M.stands M.marks id sector (sectors_of bytes.now) metadata.old (D.state disk.old) (D.state disk.new) }
+    ensures left { LeavesHalf M.Metadata id sector (sectors_of bytes.now) metadata.old (D.state disk.old) (D.state disk.new) }
     ensures damaged { result ≡ Err StoreError.Damaged → (now kept : Contents) → M.stands metadata.old (D.state disk.old) now kept → Reaches (M.geometry metadata.old) id (sector + length (sectors_of bytes.now)) now.volumes
         → length bytes.now / 512 / (M.geometry metadata.old).block_sectors ≤ free_places (M.geometry metadata.old) now.volumes kept.volumes → ⊥ }
     ensures ran { Ran (16 * (length bytes.now / 512 / (M.geometry metadata.old).block_sectors)) (is_fault result) (M.room metadata.old) (M.room metadata.new) (M.geometry metadata.old) (M.geometry metadata.new) (D.state disk.old) (D.state disk.new) }
@@ -210,7 +211,7 @@ pub(crate) fn put_part<D: Disk, M: Metadata>(
     requires room { 16 * blocks_touched (M.geometry metadata.old) sector (length bytes.now / 512) ≤ M.room metadata.old }
     ensures written { OnOk result ((now kept : Contents) → M.stands metadata.old (D.state disk.old) now kept → Reaches (M.geometry metadata.old) id (sector + length (sectors_of bytes.now)) now.volumes
         → IsKnown (M.geometry metadata.old) id sector (length bytes.now / 512) now.volumes (M.marks metadata.old) home
-        → HasWrittenPart M.geometry M.stands M.marks id (sector / (M.geometry metadata.old).block_sectors) (blocks_touched (M.geometry metadata.old) sector (length bytes.now / 512)) sector (sectors_of bytes.now) (told_taken home) metadata.old metadata.new (D.state disk.old) (D.state disk.new) now kept) }
+        → HasWrittenPart M.Metadata id (sector / (M.geometry metadata.old).block_sectors) (blocks_touched (M.geometry metadata.old) sector (length bytes.now / 512)) sector (sectors_of bytes.now) (told_taken home) metadata.old metadata.new (D.state disk.old) (D.state disk.new) now kept) }
     ensures left { (now kept : Contents) → M.stands metadata.old (D.state disk.old) now kept → Reaches (M.geometry metadata.old) id (sector + length (sectors_of bytes.now)) now.volumes
         → IsKnown (M.geometry metadata.old) id sector (length bytes.now / 512) now.volumes (M.marks metadata.old) home
         → LeavesOnly (D.state disk.old) (D.state disk.new) (IsHalfWritten (M.geometry metadata.old) id sector (sectors_of bytes.now) kept (D.state disk.old).cells) }
@@ -261,13 +262,13 @@ pub(crate) fn put_blocks<D: Disk, M: Metadata>(
     requires room { 512 ≤ M.room metadata.old }
     ensures written { OnOk result ((now kept : Contents) (s : PlainPool) → M.stands metadata.old (D.state disk.old) now kept → Reaches (M.geometry metadata.old) id (sector + length (sectors_of bytes.now)) now.volumes
         → HasContents (M.geometry metadata.old) now (seen (D.state disk.old).cells) s
-        → HasWritten M.geometry M.stands M.marks id sector (sectors_of bytes.now) metadata.new (D.state disk.new) kept s) }
+        → HasWritten M.Metadata id sector (sectors_of bytes.now) metadata.new (D.state disk.new) kept s) }
     ensures still { OnOk result ((now kept : Contents) → M.stands metadata.old (D.state disk.old) now kept → IsSome (device_of id now.volumes)
         → blocks_taken id now.volumes (M.marks metadata.old) (sector / (M.geometry metadata.old).block_sectors) (blocks_touched (M.geometry metadata.old) sector (length bytes.now / 512)) ≡ 0
         → metadata.new ≡ metadata.old) }
-    ensures left { LeavesHalf M.geometry M.stands M.marks id sector (sectors_of bytes.now) metadata.old (D.state disk.old) (D.state disk.new) }
+    ensures left { LeavesHalf M.Metadata id sector (sectors_of bytes.now) metadata.old (D.state disk.old) (D.state disk.new) }
     ensures damaged { result ≡ Err StoreError.Damaged → (now kept : Contents) → M.stands metadata.old (D.state disk.old) now kept → Reaches (M.geometry metadata.old) id (sector + length (sectors_of bytes.now)) now.volumes
-        → HasFree M.geometry M.stands M.marks id metadata.old now kept (sector / (M.geometry metadata.old).block_sectors) (blocks_touched (M.geometry metadata.old) sector (length bytes.now / 512)) → ⊥ }
+        → HasFree M.Metadata id metadata.old now kept (sector / (M.geometry metadata.old).block_sectors) (blocks_touched (M.geometry metadata.old) sector (length bytes.now / 512)) → ⊥ }
     ensures ran { Ran 272 (is_fault result) (M.room metadata.old) (M.room metadata.new) (M.geometry metadata.old) (M.geometry metadata.new) (D.state disk.old) (D.state disk.new) }
     ensures blocks { blocks.new ≡ blocks.old }
 {

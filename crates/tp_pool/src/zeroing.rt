@@ -15,10 +15,11 @@ ghost use Rattle.tp_mapping.specs.Mapping.{free_places};
 ghost use Rattle.tp_stored.specs.Contents.{Contents, HasContents};
 ghost use Rattle.tp_meta.specs.Metadata.{AreInside, AreTold, IsInside, Ran};
 ghost use Rattle.tp_shown.specs.Shown.{blocks_touched};
-ghost use Rattle.tp_pool.specs.Flushes.{FlushesSo, HasChanged, HasFlushed};
-ghost use Rattle.tp_pool.specs.Held.{AnswersSo, Fits, IsTried, LiesIn, PoolAnswered, PoolTried, most_sectors, view};
+ghost use Rattle.tp_pool.specs.Flushes.{HasChanged};
+ghost use Rattle.tp_pool.specs.AtMetadata.{AnswersSo, FlushesSo, HasBlanked, HasCleared, HasFlushed, HasFreeFor, HasZeroed, LeavesZeroes, LiesIn, PoolAnswered, PoolTried, view};
+ghost use Rattle.tp_pool.specs.Held.{Fits, IsTried, most_sectors};
 ghost use Rattle.tp_pool.specs.Writing.{Reaches};
-ghost use Rattle.tp_pool.specs.Zeroing.{AreEdges, HasBlanked, HasCleared, HasFreeFor, HasZeroed, KnowsEdge, LeavesZeroes, edge_takes};
+ghost use Rattle.tp_pool.specs.Zeroing.{AreEdges, KnowsEdge, edge_takes};
 
 use crate::pool::{Pool, is_failed, is_read_only};
 use crate::room::{keep, lacks_metadata, make_room, test_zeroes};
@@ -71,10 +72,10 @@ fn zero_edge<D: Disk, M: Metadata>(
     requires room { 16 ≤ M.room metadata.old }
     ensures zeroed { OnOk result ((now kept : Contents) → M.stands metadata.old (D.state disk.old) now kept → Reaches (M.geometry metadata.old) id (sector + count) now.volumes
         → KnowsEdge (M.geometry metadata.old) id sector count now.volumes (M.marks metadata.old) home
-        → HasZeroed M.geometry M.stands M.marks id (sector / (M.geometry metadata.old).block_sectors) sector count (edge_takes count home) metadata.old metadata.new (D.state disk.old) (D.state disk.new) now kept) }
+        → HasZeroed M.Metadata id (sector / (M.geometry metadata.old).block_sectors) sector count (edge_takes count home) metadata.old metadata.new (D.state disk.old) (D.state disk.new) now kept) }
     ensures left { (now kept : Contents) → M.stands metadata.old (D.state disk.old) now kept → Reaches (M.geometry metadata.old) id (sector + count) now.volumes
         → KnowsEdge (M.geometry metadata.old) id sector count now.volumes (M.marks metadata.old) home
-        → LeavesZeroes M.geometry M.stands M.marks id sector count false metadata.old (D.state disk.old) (D.state disk.new) now kept }
+        → LeavesZeroes M.Metadata id sector count false metadata.old (D.state disk.old) (D.state disk.new) now kept }
     ensures damaged { result ≡ Err StoreError.Damaged → (now kept : Contents) → M.stands metadata.old (D.state disk.old) now kept → Reaches (M.geometry metadata.old) id (sector + count) now.volumes
         → (IsTrue (edge_takes count home) → 0 < free_places (M.geometry metadata.old) now.volumes kept.volumes) → ⊥ }
     ensures ran { Ran 16 (is_fault result) (M.room metadata.old) (M.room metadata.new) (M.geometry metadata.old) (M.geometry metadata.new) (D.state disk.old) (D.state disk.new) }
@@ -111,11 +112,11 @@ fn clear_range<D: Disk, M: Metadata>(
     requires places { AreInside (M.geometry metadata.old).data_blocks (length homes.now) homes.now }
     requires room { 512 ≤ M.room metadata.old }
     ensures cleared { OnOk result ((now kept : Contents) → M.stands metadata.old (D.state disk.old) now kept → Reaches (M.geometry metadata.old) id (sector + count) now.volumes
-        → HasCleared M.geometry M.stands M.marks id sector count metadata.old metadata.new (D.state disk.old) (D.state disk.new) now kept) }
+        → HasCleared M.Metadata id sector count metadata.old metadata.new (D.state disk.old) (D.state disk.new) now kept) }
     ensures left { (now kept : Contents) → M.stands metadata.old (D.state disk.old) now kept → Reaches (M.geometry metadata.old) id (sector + count) now.volumes
-        → LeavesZeroes M.geometry M.stands M.marks id sector count false metadata.old (D.state disk.old) (D.state disk.new) now kept }
+        → LeavesZeroes M.Metadata id sector count false metadata.old (D.state disk.old) (D.state disk.new) now kept }
     ensures damaged { result ≡ Err StoreError.Damaged → (now kept : Contents) → M.stands metadata.old (D.state disk.old) now kept → Reaches (M.geometry metadata.old) id (sector + count) now.volumes
-        → HasFreeFor M.geometry M.stands M.marks id sector count false metadata.old now kept → ⊥ }
+        → HasFreeFor M.Metadata id sector count false metadata.old now kept → ⊥ }
     ensures spare { OnOk result (128 ≤ M.room metadata.new) }
     ensures ran { Ran 288 (is_fault result) (M.room metadata.old) (M.room metadata.new) (M.geometry metadata.old) (M.geometry metadata.new) (D.state disk.old) (D.state disk.new) }
     ensures blocks { blocks.new ≡ blocks.old }
@@ -155,11 +156,11 @@ fn zero_range<D: Disk, M: Metadata>(
     requires room { 512 ≤ M.room metadata.old }
     ensures blanked { OnOk result ((now kept : Contents) (s : PlainPool) → M.stands metadata.old (D.state disk.old) now kept → Reaches (M.geometry metadata.old) id (sector + count) now.volumes
         → HasContents (M.geometry metadata.old) now (seen (D.state disk.old).cells) s
-        → HasBlanked M.geometry M.stands M.marks id sector count no_hole metadata.new (D.state disk.new) kept s) }
+        → HasBlanked M.Metadata id sector count no_hole metadata.new (D.state disk.new) kept s) }
     ensures left { (now kept : Contents) → M.stands metadata.old (D.state disk.old) now kept → Reaches (M.geometry metadata.old) id (sector + count) now.volumes
-        → LeavesZeroes M.geometry M.stands M.marks id sector count no_hole metadata.old (D.state disk.old) (D.state disk.new) now kept }
+        → LeavesZeroes M.Metadata id sector count no_hole metadata.old (D.state disk.old) (D.state disk.new) now kept }
     ensures damaged { result ≡ Err StoreError.Damaged → (now kept : Contents) → M.stands metadata.old (D.state disk.old) now kept → Reaches (M.geometry metadata.old) id (sector + count) now.volumes
-        → HasFreeFor M.geometry M.stands M.marks id sector count no_hole metadata.old now kept → ⊥ }
+        → HasFreeFor M.Metadata id sector count no_hole metadata.old now kept → ⊥ }
     ensures spare { OnOk result (128 ≤ M.room metadata.new) }
     ensures ran { Ran 288 (is_fault result) (M.room metadata.old) (M.room metadata.new) (M.geometry metadata.old) (M.geometry metadata.new) (D.state disk.old) (D.state disk.new) }
     ensures blocks { blocks.new ≡ blocks.old }
@@ -183,7 +184,7 @@ impl<D: Disk, M: Metadata> Pool<D, M> {
     ) -> Result<(), Refusal>
         requires some { 0 < count }
         requires range { Fits (M.geometry self.old.metadata) (sector + count) }
-        requires lies { LiesIn M.geometry M.stands self.old id (sector + count) }
+        requires lies { LiesIn M.Metadata self.old id (sector + count) }
         requires most { count ≤ 2048 }
         requires few { length homes.old ≤ 17 }
         requires homes { length homes.old ≡ blocks_touched (M.geometry self.old.metadata) sector count }
@@ -191,11 +192,11 @@ impl<D: Disk, M: Metadata> Pool<D, M> {
             → AreTold id (sector / (M.geometry self.old.metadata).block_sectors) now.volumes (M.marks self.old.metadata) (length homes.old) homes.old }
         requires places { AreInside (M.geometry self.old.metadata).data_blocks (length homes.old) homes.old }
         requires works { self.old.mode ≡ mode.Writable }
-        ensures called { ((now kept : Contents) → M.stands self.old.metadata self.old.disk now kept → IsSome (device_of id now.volumes)) → PoolTried M.geometry M.stands self.old self.new (WriteZeroes id sector count no_hole fua) result }
+        ensures called { ((now kept : Contents) → M.stands self.old.metadata self.old.disk now kept → IsSome (device_of id now.volumes)) → PoolTried M.Metadata self.old self.new (WriteZeroes id sector count no_hole fua) result }
         ensures tried { IsTried self.old self.new (WriteZeroes id sector count no_hole fua) result }
         ensures held { self.new ≡ record self.old { disk = self.new.disk; metadata = self.new.metadata; mode = self.new.mode } }
         ensures geometry { M.geometry self.new.metadata ≡ M.geometry self.old.metadata }
-        ensures flushes { ((now kept : Contents) → M.stands self.old.metadata self.old.disk now kept → IsSome (device_of id now.volumes)) → HasFlushed M.geometry M.stands M.marks M.room self.old self.new.disk (WriteZeroes id sector count no_hole fua) }
+        ensures flushes { ((now kept : Contents) → M.stands self.old.metadata self.old.disk now kept → IsSome (device_of id now.volumes)) → HasFlushed M.Metadata self.old self.new.disk (WriteZeroes id sector count no_hole fua) }
         ensures changes { HasChanged M.changed self.old.metadata self.new.metadata (WriteZeroes id sector count no_hole fua) result }
     {
         if lacks_metadata(&self.metadata) {
@@ -230,14 +231,14 @@ impl<D: Disk, M: Metadata> Pool<D, M> {
         fua: bool,
     ) -> Result<(), Refusal>
         requires range { Fits (M.geometry self.old.metadata) (sector + count) }
-        requires lies { LiesIn M.geometry M.stands self.old id (sector + count) }
+        requires lies { LiesIn M.Metadata self.old id (sector + count) }
         requires most { count ≤ 2048 }
         requires works { is_failed self.old.mode ≡ false }
-        ensures called { PoolTried M.geometry M.stands self.old self.new (WriteZeroes id sector count no_hole fua) result }
+        ensures called { PoolTried M.Metadata self.old self.new (WriteZeroes id sector count no_hole fua) result }
         ensures tried { IsTried self.old self.new (WriteZeroes id sector count no_hole fua) result }
         ensures held { self.new ≡ record self.old { disk = self.new.disk; metadata = self.new.metadata; mode = self.new.mode } }
         ensures geometry { M.geometry self.new.metadata ≡ M.geometry self.old.metadata }
-        ensures flushes { HasFlushed M.geometry M.stands M.marks M.room self.old self.new.disk (WriteZeroes id sector count no_hole fua) }
+        ensures flushes { HasFlushed M.Metadata self.old self.new.disk (WriteZeroes id sector count no_hole fua) }
         ensures changes { HasChanged M.changed self.old.metadata self.new.metadata (WriteZeroes id sector count no_hole fua) result }
     {
         let mut places = [None; MOST_BLOCKS];
@@ -254,12 +255,13 @@ impl<D: Disk, M: Metadata> Pool<D, M> {
         self.make_zero(id, sector, count, no_hole, homes, fua)
     }
 
-    /// Makes at most 2048 sectors of a volume zero, and with `fua` keeps that: Ok, or 21, 15, 20, 18, 24, 5. With `no_hole` each of them has a
-    /// data block then. Else blocks that lie wholly in the range have none, and one that lies in it in part has one where it had one. The
-    /// range lies in the volume.
+    /// Makes at most 2048 sectors of a volume zero, and with `fua` keeps that. With `no_hole` each of them has a data block then. Else blocks that lie
+    /// wholly in the range have none, and one that lies in it in part has one where it had one. The range lies in the volume.
     ///
-    /// Where 512 metadata blocks are free and as many data blocks as it takes, it flushes the disk with `fua` alone. Elsewhere it commits
-    /// first, which may free some. Where it is refused with 18, the pool wants a check from then on and is read-only, which a commit keeps.
+    /// Where 512 metadata blocks are free and as many data blocks as it takes, it flushes the disk with `fua` alone. Elsewhere it commits first, which may
+    /// free some. Where it is refused by `NoMetadataSpace`, the pool wants a check from then on and is read-only, which a commit keeps.
+    ///
+    /// Refused by `Failed`, `NoSuchDevice`, `ReadOnly`, `NoMetadataSpace`, `NoDataSpace` or `Fault`.
     pub fn write_zeroes(
         &mut self,
         id: DevId,
@@ -268,13 +270,13 @@ impl<D: Disk, M: Metadata> Pool<D, M> {
         no_hole: bool,
         fua: bool,
     ) -> Result<(), Refusal>
-        requires range { EndsInVolume (view M.geometry M.stands) self.old id (sector + count) }
+        requires range { EndsInVolume (view M.Metadata) self.old id (sector + count) }
         requires most { count ≤ 2048 }
-        ensures called { PoolAnswered M.geometry M.stands self.old self.new (WriteZeroes id sector count no_hole fua) result }
-        ensures answered { AnswersSo M.geometry M.stands self.old self.new (WriteZeroes id sector count no_hole fua) result }
+        ensures called { PoolAnswered M.Metadata self.old self.new (WriteZeroes id sector count no_hole fua) result }
+        ensures answered { AnswersSo M.Metadata self.old self.new (WriteZeroes id sector count no_hole fua) result }
         ensures held { self.new ≡ record self.old { disk = self.new.disk; metadata = self.new.metadata; mode = self.new.mode } }
         ensures geometry { M.geometry self.new.metadata ≡ M.geometry self.old.metadata }
-        ensures flushes { FlushesSo M.geometry M.stands M.marks M.room M.changed self.old self.new (WriteZeroes id sector count no_hole fua) result }
+        ensures flushes { FlushesSo M.Metadata self.old self.new (WriteZeroes id sector count no_hole fua) result }
     {
         if is_failed(self.mode) {
             return Err(Refusal::Failed);

@@ -8,7 +8,7 @@ use Rattle.std.specs.Prelude.{IfErr, MatchResult, OnOk, if◌then◌else◌, not
 use Rattle.tp_model.specs.declared.refusal.Refusal.{Refusal}
 use Rattle.tp_model.specs.Geometry.{Geometry}
 use Rattle.tp_model.specs.Calls.{Answer, Call, Close, Done, Refused, ends_in_commit, holds_after}
-use Rattle.tp_model.specs.Clauses.{Called, EndsInVolume, Flushes, IsAnswered, Meets, Unkept, View}
+use Rattle.tp_model.specs.Clauses.{Called, EndsInVolume, Flushes, IsAnswered, Meets, MetBy, Unkept, View}
 use Rattle.tp_model.specs.Pool.{PlainPool}
 use Rattle.tp_model.specs.Disk.{Cell, DiskState, IsSettled, after_read}
 use Rattle.tp_model.specs.Refusals.{is_fault_refusal}
@@ -30,10 +30,6 @@ use Rattle.tp_served.proofs.Inner.{LeftLaw, answers_under, called_under, flushes
 pub got_is : {A : Type 0} (o : Option A) (there : IsSome o) (a : A) → o ≡ Some a → a ≡ got o there
 got_is None there a e = absurd (false≢true there)
 got_is (Some x) there a e = same_Some a x (sym e)
-
--- what is said of a call by its result: the answer where it was accepted
-abbrev pub MetBy : {D : Type 0} {A : Type 0} → View D → D → D → Call → (A → Answer) → Result A Refusal → Type 0
-MetBy v old new call meant r = MatchResult r (λ x. Meets v old new call (meant x)) (λ reason. Meets v old new call (Refused reason))
 
 pub met_geometry : {D : Type 0} {A : Type 0} (v : View D) (old new : D) (call : Call) (meant : A → Answer) (r : Result A Refusal) → MetBy v old new call meant r → (v.outline new).geometry ≡ (v.outline old).geometry
 met_geometry v old new call meant (Ok x) m = m.geometry

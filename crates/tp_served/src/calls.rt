@@ -4,13 +4,14 @@ ghost use Rattle.tp_model.specs.Sectors.{sectors_of};
 ghost use Rattle.tp_model.specs.Pool.{PlainPool, copy_id, hold_count, hold_total};
 ghost use Rattle.tp_model.specs.declared.mode.Mode.TheVariants as mode;
 ghost use Rattle.tp_model.specs.Calls.{Done, Flush, Found, Gave, HeldRead, Hold, LetGo, Line, Listed, NextId, Read, Refused, Sized, Status, ThinStatus, Trim, VolumeBlocks, Walk, Write, WriteZeroes};
-ghost use Rattle.tp_model.specs.Clauses.{EndsInVolume, Meets};
+ghost use Rattle.tp_model.specs.Clauses.{EndsInVolume, Meets, MetBy};
 ghost use Rattle.tp_holders.specs.Holders.{holds_of};
 ghost use Rattle.tp_msg.specs.Asked.{IsMessageBegun};
 ghost use Rattle.tp_model.specs.Disk.{IsSettled};
-ghost use Rattle.tp_pool.specs.Held.{shows};
+ghost use Rattle.tp_pool.specs.AtMetadata.{shows};
 ghost use Rattle.tp_model.specs.Slots.{listed};
-ghost use Rattle.tp_served.specs.Served.{IsClosed, IsUnwritten, StaysInPlace, cached, on_cache};
+ghost use Rattle.tp_served.specs.AtMetadata.{IsClosed, StaysInPlace, cached};
+ghost use Rattle.tp_served.specs.Served.{IsUnwritten, on_cache};
 
 use crate::inside::{Inside, end};
 use tp_cache::Start;
@@ -23,9 +24,7 @@ pub(crate) fn flush_on<D: Disk, M: Metadata, K: Start>(
     inside: Inside<D, M>,
 ) -> (Inside<D, M>, Result<(), Refusal>)
     requires { K.start ≡ inside.cache }
-    ensures { MatchResult result.1
-        (λ _. Meets (cached M.geometry M.stands M.marks M.room M.changed) inside result.0 Flush Done)
-        (λ reason. Meets (cached M.geometry M.stands M.marks M.room M.changed) inside result.0 Flush (Refused reason)) }
+    ensures { MetBy (cached M.Metadata) inside result.0 Flush (λ _. Done) result.1 }
 {
     inside.facts();
     let mut pool = inside.begin::<K>();
@@ -43,12 +42,10 @@ pub(crate) fn read_on<D: Disk, M: Metadata, K: Start>(
 ) -> (Inside<D, M>, Result<(), Refusal>)
     requires now { K.start ≡ inside.cache }
     requires whole { length out.old % 512 ≡ 0 }
-    requires range { EndsInVolume (cached M.geometry M.stands M.marks M.room M.changed) inside id (sector + length out.old / 512) }
+    requires range { EndsInVolume (cached M.Metadata) inside id (sector + length out.old / 512) }
     requires most { length out.old / 512 ≤ 2048 }
     ensures length { length out.new ≡ length out.old }
-    ensures met { MatchResult result.1
-        (λ _. Meets (cached M.geometry M.stands M.marks M.room M.changed) inside result.0 (Read id sector (length out.old / 512)) (Gave (sectors_of out.new)))
-        (λ reason. Meets (cached M.geometry M.stands M.marks M.room M.changed) inside result.0 (Read id sector (length out.old / 512)) (Refused reason)) }
+    ensures met { MetBy (cached M.Metadata) inside result.0 (Read id sector (length out.old / 512)) (λ _. Gave (sectors_of out.new)) result.1 }
 {
     inside.facts();
     let mut pool = inside.begin::<K>();
@@ -66,11 +63,9 @@ pub(crate) fn held_read_on<D: Disk, M: Metadata, K: Start>(
 ) -> (Inside<D, M>, Result<(), Refusal>)
     requires now { K.start ≡ inside.cache }
     requires whole { length out.old % 512 ≡ 0 }
-    requires range { EndsInVolume (cached M.geometry M.stands M.marks M.room M.changed) inside (copy_id id) (sector + length out.old / 512) }
+    requires range { EndsInVolume (cached M.Metadata) inside (copy_id id) (sector + length out.old / 512) }
     ensures length { length out.new ≡ length out.old }
-    ensures met { MatchResult result.1
-        (λ _. Meets (cached M.geometry M.stands M.marks M.room M.changed) inside result.0 (HeldRead id sector (length out.old / 512)) (Gave (sectors_of out.new)))
-        (λ reason. Meets (cached M.geometry M.stands M.marks M.room M.changed) inside result.0 (HeldRead id sector (length out.old / 512)) (Refused reason)) }
+    ensures met { MetBy (cached M.Metadata) inside result.0 (HeldRead id sector (length out.old / 512)) (λ _. Gave (sectors_of out.new)) result.1 }
 {
     inside.facts();
     let mut pool = inside.begin::<K>();
@@ -89,12 +84,10 @@ pub(crate) fn write_on<D: Disk, M: Metadata, K: Start>(
 ) -> (Inside<D, M>, Result<(), Refusal>)
     requires now { K.start ≡ inside.cache }
     requires whole { length bytes.now % 512 ≡ 0 }
-    requires range { EndsInVolume (cached M.geometry M.stands M.marks M.room M.changed) inside id (sector + length bytes.now / 512) }
+    requires range { EndsInVolume (cached M.Metadata) inside id (sector + length bytes.now / 512) }
     requires most { length bytes.now / 512 ≤ 2048 }
-    ensures met { MatchResult result.1
-        (λ _. Meets (cached M.geometry M.stands M.marks M.room M.changed) inside result.0 (Write id sector (sectors_of bytes.now) fua) Done)
-        (λ reason. Meets (cached M.geometry M.stands M.marks M.room M.changed) inside result.0 (Write id sector (sectors_of bytes.now) fua) (Refused reason)) }
-    ensures in_place { OnOk result.1 (StaysInPlace M.geometry M.stands M.marks M.room M.changed inside result.0 (Write id sector (sectors_of bytes.now) fua)) }
+    ensures met { MetBy (cached M.Metadata) inside result.0 (Write id sector (sectors_of bytes.now) fua) (λ _. Done) result.1 }
+    ensures in_place { OnOk result.1 (StaysInPlace M.Metadata inside result.0 (Write id sector (sectors_of bytes.now) fua)) }
     ensures read_only { inside.besides.mode ≢ mode.Writable → IsUnwritten inside result.0 result.1 }
 {
     inside.facts();
@@ -113,11 +106,9 @@ pub(crate) fn trim_on<D: Disk, M: Metadata, K: Start>(
     fua: bool,
 ) -> (Inside<D, M>, Result<(), Refusal>)
     requires now { K.start ≡ inside.cache }
-    requires range { EndsInVolume (cached M.geometry M.stands M.marks M.room M.changed) inside id (sector + count) }
+    requires range { EndsInVolume (cached M.Metadata) inside id (sector + count) }
     requires most { count ≤ 2048 }
-    ensures met { MatchResult result.1
-        (λ _. Meets (cached M.geometry M.stands M.marks M.room M.changed) inside result.0 (Trim id sector count fua) Done)
-        (λ reason. Meets (cached M.geometry M.stands M.marks M.room M.changed) inside result.0 (Trim id sector count fua) (Refused reason)) }
+    ensures met { MetBy (cached M.Metadata) inside result.0 (Trim id sector count fua) (λ _. Done) result.1 }
     ensures read_only { inside.besides.mode ≢ mode.Writable → IsUnwritten inside result.0 result.1 }
 {
     inside.facts();
@@ -137,11 +128,9 @@ pub(crate) fn write_zeroes_on<D: Disk, M: Metadata, K: Start>(
     fua: bool,
 ) -> (Inside<D, M>, Result<(), Refusal>)
     requires now { K.start ≡ inside.cache }
-    requires range { EndsInVolume (cached M.geometry M.stands M.marks M.room M.changed) inside id (sector + count) }
+    requires range { EndsInVolume (cached M.Metadata) inside id (sector + count) }
     requires most { count ≤ 2048 }
-    ensures { MatchResult result.1
-        (λ _. Meets (cached M.geometry M.stands M.marks M.room M.changed) inside result.0 (WriteZeroes id sector count no_hole fua) Done)
-        (λ reason. Meets (cached M.geometry M.stands M.marks M.room M.changed) inside result.0 (WriteZeroes id sector count no_hole fua) (Refused reason)) }
+    ensures { MetBy (cached M.Metadata) inside result.0 (WriteZeroes id sector count no_hole fua) (λ _. Done) result.1 }
 {
     inside.facts();
     let mut pool = inside.begin::<K>();
@@ -156,9 +145,7 @@ pub(crate) fn next_id_on<D: Disk, M: Metadata, K: Start>(
     from: DevId,
 ) -> (Inside<D, M>, Result<Option<DevId>, Refusal>)
     requires { K.start ≡ inside.cache }
-    ensures { MatchResult result.1
-        (λ found. Meets (cached M.geometry M.stands M.marks M.room M.changed) inside result.0 (NextId from) (Found found))
-        (λ reason. Meets (cached M.geometry M.stands M.marks M.room M.changed) inside result.0 (NextId from) (Refused reason)) }
+    ensures { MetBy (cached M.Metadata) inside result.0 (NextId from) (λ found. Found found) result.1 }
 {
     inside.facts();
     let mut pool = inside.begin::<K>();
@@ -173,9 +160,7 @@ pub(crate) fn volume_blocks_on<D: Disk, M: Metadata, K: Start>(
     id: DevId,
 ) -> (Inside<D, M>, Result<u32, Refusal>)
     requires { K.start ≡ inside.cache }
-    ensures told { MatchResult result.1
-        (λ blocks. Meets (cached M.geometry M.stands M.marks M.room M.changed) inside result.0 (VolumeBlocks id) (Sized blocks))
-        (λ reason. Meets (cached M.geometry M.stands M.marks M.room M.changed) inside result.0 (VolumeBlocks id) (Refused reason)) }
+    ensures told { MetBy (cached M.Metadata) inside result.0 (VolumeBlocks id) (λ blocks. Sized blocks) result.1 }
     ensures most { IfOk result.1 (λ blocks. blocks ≤ 16777216) }
 {
     inside.facts();
@@ -191,7 +176,7 @@ pub(crate) fn status_on<D: Disk, M: Metadata, K: Start>(
     out: &mut LineBuffer,
 ) -> (Inside<D, M>, usize)
     requires { K.start ≡ inside.cache }
-    ensures met { Meets (cached M.geometry M.stands M.marks M.room M.changed) inside result.0 Status (Line (take result.1 out.new)) }
+    ensures met { Meets (cached M.Metadata) inside result.0 Status (Line (take result.1 out.new)) }
     ensures fits { result.1 ≤ 192 }
 {
     inside.facts();
@@ -208,9 +193,7 @@ pub(crate) fn thin_status_on<D: Disk, M: Metadata, K: Start>(
     out: &mut LineBuffer,
 ) -> (Inside<D, M>, Result<usize, Refusal>)
     requires { K.start ≡ inside.cache }
-    ensures met { MatchResult result.1
-        (λ length. Meets (cached M.geometry M.stands M.marks M.room M.changed) inside result.0 (ThinStatus id) (Line (take length out.new)))
-        (λ reason. Meets (cached M.geometry M.stands M.marks M.room M.changed) inside result.0 (ThinStatus id) (Refused reason)) }
+    ensures met { MetBy (cached M.Metadata) inside result.0 (ThinStatus id) (λ length. Line (take length out.new)) result.1 }
     ensures fits { IfOk result.1 (λ length. length ≤ 192) }
 {
     inside.facts();
@@ -228,9 +211,7 @@ pub(crate) fn walk_on<D: Disk, M: Metadata, K: Start>(
     slots: &mut Slots,
 ) -> (Inside<D, M>, Result<(), Refusal>)
     requires { K.start ≡ inside.cache }
-    ensures { MatchResult result.1
-        (λ _. Meets (cached M.geometry M.stands M.marks M.room M.changed) inside result.0 (Walk id from) (Listed (listed slots.new.items)))
-        (λ reason. Meets (cached M.geometry M.stands M.marks M.room M.changed) inside result.0 (Walk id from) (Refused reason)) }
+    ensures { MetBy (cached M.Metadata) inside result.0 (Walk id from) (λ _. Listed (listed slots.new.items)) result.1 }
 {
     inside.facts();
     let mut pool = inside.begin::<K>();
@@ -246,9 +227,7 @@ pub(crate) fn hold_on<D: Disk, M: Metadata, K: Start>(
 ) -> (Inside<D, M>, Result<(), Refusal>)
     requires now { K.start ≡ inside.cache }
     requires few { hold_total (holds_of inside.besides.holders) < 64 }
-    ensures { MatchResult result.1
-        (λ _. Meets (cached M.geometry M.stands M.marks M.room M.changed) inside result.0 (Hold id) Done)
-        (λ reason. Meets (cached M.geometry M.stands M.marks M.room M.changed) inside result.0 (Hold id) (Refused reason)) }
+    ensures { MetBy (cached M.Metadata) inside result.0 (Hold id) (λ _. Done) result.1 }
 {
     inside.facts();
     let mut pool = inside.begin::<K>();
@@ -264,7 +243,7 @@ pub(crate) fn let_go_on<D: Disk, M: Metadata, K: Start>(
 ) -> Inside<D, M>
     requires now { K.start ≡ inside.cache }
     requires held { 0 < hold_count (holds_of inside.besides.holders) id }
-    ensures { Meets (cached M.geometry M.stands M.marks M.room M.changed) inside result (LetGo id) Done }
+    ensures { Meets (cached M.Metadata) inside result (LetGo id) Done }
 {
     inside.facts();
     let mut pool = inside.begin::<K>();
@@ -280,7 +259,7 @@ pub(crate) fn change_on<D: Disk, M: Metadata, K: Start>(
     message: &Message,
 ) -> (Inside<D, M>, Option<Result<(), Refusal>>)
     requires { K.start ≡ inside.cache }
-    ensures { IsMessageBegun (cached M.geometry M.stands M.marks M.room M.changed) inside result.0 message.now result.1 }
+    ensures { IsMessageBegun (cached M.Metadata) inside result.0 message.now result.1 }
 {
     inside.facts();
     let mut pool = inside.begin::<K>();
@@ -295,9 +274,9 @@ pub(crate) fn close_on<D: Disk, M: Metadata + Drop, K: Start>(
 ) -> (Result<(), Refusal>, D)
     requires { K.start ≡ inside.cache }
     ensures closed { MatchResult result.0
-        (λ _. IsClosed M.geometry M.stands M.marks M.room M.changed inside (D.state result.1) Done)
-        (λ reason. IsClosed M.geometry M.stands M.marks M.room M.changed inside (D.state result.1) (Refused reason)) }
-    ensures settled { OnOk result.0 ((s : PlainPool) → shows M.geometry M.stands (on_cache inside) s → IsSettled (D.state result.1).cells) }
+        (λ _. IsClosed M.Metadata inside (D.state result.1) Done)
+        (λ reason. IsClosed M.Metadata inside (D.state result.1) (Refused reason)) }
+    ensures settled { OnOk result.0 ((s : PlainPool) → shows M.Metadata (on_cache inside) s → IsSettled (D.state result.1).cells) }
     ensures only { IfErr result.0 (λ reason. (reason ≡ Refusal.Failed) ⊎ (reason ≡ Refusal.Fault)) }
 {
     inside.facts();

@@ -4,8 +4,8 @@ ghost use Rattle.tp_model.specs.Calls.{Gave, Listed, Read, Walk};
 ghost use Rattle.tp_model.specs.Clauses.{EndsInVolume, Meets};
 ghost use Rattle.tp_model.specs.Sectors.{sectors_of};
 ghost use Rattle.tp_model.specs.Slots.{listed};
-ghost use Rattle.tp_served.specs.Served.{cached};
-ghost use Rattle.tp_served.specs.Midway.{IsFlushed, IsFlushing, IsMidway, LeavesFewer, parts_left};
+ghost use Rattle.tp_served.specs.AtMetadata.{IsFlushed, IsFlushing, IsMidway, cached};
+ghost use Rattle.tp_served.specs.Midway.{LeavesFewer, parts_left};
 
 use crate::inside::{Inside, end};
 use crate::served::Served;
@@ -38,8 +38,8 @@ fn begin_flush_on<D: Disk, M: Metadata, K: Start>(
     inside: Inside<D, M>,
 ) -> (Inside<D, M>, Option<Result<(), Refusal>>)
     requires { K.start ≡ inside.cache }
-    ensures { MatchOption result.1 (IsMidway M.geometry M.stands M.tells M.midway inside false result.0)
-        (λ answer. IsFlushed M.geometry M.stands M.marks M.room M.changed inside result.0 answer) }
+    ensures { MatchOption result.1 (IsMidway M.Metadata inside false result.0)
+        (λ answer. IsFlushed M.Metadata inside result.0 answer) }
 {
     inside.facts();
     let mut pool = inside.begin::<K>();
@@ -54,9 +54,9 @@ fn go_on_flush_on<D: Disk, M: Metadata, K: Start>(
     past: &Past,
 ) -> (Inside<D, M>, Option<Result<(), Refusal>>)
     requires start { K.start ≡ past.now.held }
-    requires midway { IsMidway M.geometry M.stands M.tells M.midway (record { cache = past.now.held; besides = inside.besides }) false inside }
-    ensures { MatchOption result.1 (IsMidway M.geometry M.stands M.tells M.midway (record { cache = past.now.held; besides = inside.besides }) true result.0)
-        (λ answer. IsFlushed M.geometry M.stands M.marks M.room M.changed (record { cache = past.now.held; besides = inside.besides }) result.0 answer) }
+    requires midway { IsMidway M.Metadata (record { cache = past.now.held; besides = inside.besides }) false inside }
+    ensures { MatchOption result.1 (IsMidway M.Metadata (record { cache = past.now.held; besides = inside.besides }) true result.0)
+        (λ answer. IsFlushed M.Metadata (record { cache = past.now.held; besides = inside.besides }) result.0 answer) }
 {
     let mut pool = inside.resume::<K>();
     let answer = pool.go_on_flush();
@@ -71,8 +71,8 @@ fn end_flush_on<D: Disk, M: Metadata, K: Start>(
     past: &Past,
 ) -> (Inside<D, M>, Result<(), Refusal>)
     requires start { K.start ≡ past.now.held }
-    requires midway { IsMidway M.geometry M.stands M.tells M.midway (record { cache = past.now.held; besides = inside.besides }) is_named inside }
-    ensures { IsFlushed M.geometry M.stands M.marks M.room M.changed (record { cache = past.now.held; besides = inside.besides }) result.0 result.1 }
+    requires midway { IsMidway M.Metadata (record { cache = past.now.held; besides = inside.besides }) is_named inside }
+    ensures { IsFlushed M.Metadata (record { cache = past.now.held; besides = inside.besides }) result.0 result.1 }
 {
     let mut pool = inside.resume::<K>();
     let answer = pool.end_flush(is_named);
@@ -85,7 +85,7 @@ fn end_flush_on<D: Disk, M: Metadata, K: Start>(
 pub(crate) fn begin_parts<D: Disk + Drop, M: Metadata + Drop>(
     inside: Inside<D, M>,
 ) -> Flushing<Served<D, M>, MidServed<D, M>>
-    ensures flushing { IsFlushing M.geometry M.stands M.marks M.room M.changed inside result }
+    ensures flushing { IsFlushing M.Metadata inside result }
     ensures few { LeavesFewer 3 result }
 {
     let past = inside.past();
@@ -99,7 +99,7 @@ pub(crate) fn begin_parts<D: Disk + Drop, M: Metadata + Drop>(
 impl<D: Disk + Drop, M: Metadata + Drop> MidServed<D, M> {
     /// The next part. Behind it, where more is left, `sync_ahead` brings to the device what it wrote, while READs go on. Fewer parts are left than before it.
     pub fn go_on(self) -> Flushing<Served<D, M>, MidServed<D, M>>
-        ensures flushing { IsFlushing M.geometry M.stands M.marks M.room M.changed self.was result }
+        ensures flushing { IsFlushing M.Metadata self.was result }
         ensures fewer { LeavesFewer self.left result }
     {
         let MidServed {
@@ -120,7 +120,7 @@ impl<D: Disk + Drop, M: Metadata + Drop> MidServed<D, M> {
 
     /// All parts that are left, one behind the other.
     pub fn end_flush(self) -> (Served<D, M>, Result<(), Refusal>)
-        ensures { IsFlushed M.geometry M.stands M.marks M.room M.changed self.was result.0 result.1 }
+        ensures { IsFlushed M.Metadata self.was result.0 result.1 }
     {
         let MidServed {
             inside,
@@ -135,7 +135,7 @@ impl<D: Disk + Drop, M: Metadata + Drop> MidServed<D, M> {
 impl<D: Disk, M: Metadata> MidServed<D, M> {
     /// A pool whose flush has come so far since that moment.
     fn so_far(inside: Inside<D, M>, is_named: bool, past: Past) -> MidServed<D, M>
-        requires { IsMidway M.geometry M.stands M.tells M.midway (record { cache = past.held; besides = inside.besides }) is_named inside }
+        requires { IsMidway M.Metadata (record { cache = past.held; besides = inside.besides }) is_named inside }
         ensures was { result.was ≡ record { cache = past.held; besides = inside.besides } }
         ensures left { result.left ≡ parts_left is_named }
     {
@@ -171,10 +171,10 @@ impl<D: SharedDisk, M: Metadata> MidServed<D, M> {
     /// says nothing of the pool, and no call of it was made. `out` may hold anything behind it. The range lies in the volume.
     pub fn read_shared(&self, id: DevId, sector: u64, out: &mut [u8]) -> bool
         requires whole { length out.old % 512 ≡ 0 }
-        requires range { EndsInVolume (cached M.geometry M.stands M.marks M.room M.changed) self.now.was id (sector + length out.old / 512) }
+        requires range { EndsInVolume (cached M.Metadata) self.now.was id (sector + length out.old / 512) }
         requires most { length out.old / 512 ≤ 2048 }
         ensures length { length out.new ≡ length out.old }
-        ensures met { IsTrue result → Meets (cached M.geometry M.stands M.marks M.room M.changed) self.now.was self.now.was (Read id sector (length out.old / 512)) (Gave (sectors_of out.new)) }
+        ensures met { IsTrue result → Meets (cached M.Metadata) self.now.was self.now.was (Read id sector (length out.old / 512)) (Gave (sectors_of out.new)) }
     {
         self.inside.read_midway(id, sector, out)
     }
@@ -182,7 +182,7 @@ impl<D: SharedDisk, M: Metadata> MidServed<D, M> {
     /// Lists slots of a volume, for any of those who look at the pool at once: true where `slots` has what `walk` listed when the flush was begun. False says nothing of the pool,
     /// and no call of it was made. `slots` may hold anything behind it.
     pub fn walk_shared(&self, id: DevId, from: Vb, slots: &mut Slots) -> bool
-        ensures { IsTrue result → Meets (cached M.geometry M.stands M.marks M.room M.changed) self.now.was self.now.was (Walk id from) (Listed (listed slots.new.items)) }
+        ensures { IsTrue result → Meets (cached M.Metadata) self.now.was self.now.was (Walk id from) (Listed (listed slots.new.items)) }
     {
         self.inside.walk_midway(id, from, slots)
     }

@@ -5,11 +5,11 @@ ghost use Rattle.tp_model.specs.Clauses.{EndsInVolume, Meets};
 ghost use Rattle.tp_model.specs.Geometry.{sectors_of_image};
 ghost use Rattle.tp_model.specs.Sectors.{sectors_of};
 ghost use Rattle.tp_cache.specs.Table.{Since};
-ghost use Rattle.tp_pool.specs.Held.{Fits, view};
+ghost use Rattle.tp_pool.specs.Held.{Fits};
 ghost use Rattle.tp_model.specs.Slots.{listed};
-ghost use Rattle.tp_pool.specs.Shared.{IsSharedCall, IsSharedRead};
-ghost use Rattle.tp_served.specs.Served.{Cached, IsKnown, cached, disk_of, on_cache};
-ghost use Rattle.tp_served.specs.Midway.{IsMidway};
+ghost use Rattle.tp_pool.specs.AtMetadata.{IsSharedCall, IsSharedRead, view};
+ghost use Rattle.tp_served.specs.Served.{Cached, IsKnown, disk_of, on_cache};
+ghost use Rattle.tp_served.specs.AtMetadata.{IsMidway, cached};
 
 use std::marker::Model;
 use tp_cache::{Life, NodeCache, Past, Start};
@@ -115,9 +115,9 @@ impl<D: SharedDisk, M: Metadata> Inside<D, M> {
     /// A shared read, of the cache as it stands: nothing of it moves, so no moment is picked.
     pub(crate) fn read_shared(&self, id: DevId, sector: u64, out: &mut [u8]) -> bool
         requires whole { length out.old % 512 ≡ 0 }
-        requires range { EndsInVolume (cached M.geometry M.stands M.marks M.room M.changed) self.now id (sector + length out.old / 512) }
+        requires range { EndsInVolume (cached M.Metadata) self.now id (sector + length out.old / 512) }
         ensures length { length out.new ≡ length out.old }
-        ensures met { IsTrue result → Meets (cached M.geometry M.stands M.marks M.room M.changed) self.now self.now (Read id sector (length out.old / 512)) (Gave (sectors_of out.new)) }
+        ensures met { IsTrue result → Meets (cached M.Metadata) self.now self.now (Read id sector (length out.old / 512)) (Gave (sectors_of out.new)) }
     {
         self.facts();
         self.besides.read_shared(&self.cache, id, sector, out)
@@ -128,16 +128,16 @@ impl<D: SharedDisk, M: Metadata> Inside<D, M> {
         requires whole { length out.old % 512 ≡ 0 }
         requires within { Fits (M.geometry self.now.besides.metadata) (sector + length out.old / 512) }
         ensures length { length out.new ≡ length out.old }
-        ensures read { IsTrue result → (old : Cached M) (is_named : Bool) → IsMidway M.geometry M.stands M.tells M.midway old is_named self.now
-            → EndsInVolume (view M.geometry M.stands) (on_cache old) id (sector + length out.old / 512)
-            → IsSharedRead M.geometry M.stands M.marks M.room M.changed (on_cache old) id sector (length out.old / 512) (sectors_of out.new) }
+        ensures read { IsTrue result → (old : Cached M) (is_named : Bool) → IsMidway M.Metadata old is_named self.now
+            → EndsInVolume (view M.Metadata) (on_cache old) id (sector + length out.old / 512)
+            → IsSharedRead M.Metadata (on_cache old) id sector (length out.old / 512) (sectors_of out.new) }
     {
         self.besides.read_midway(&self.cache, id, sector, out)
     }
 
     /// A shared walk, of the cache as it stands.
     pub(crate) fn walk_shared(&self, id: DevId, from: Vb, slots: &mut Slots) -> bool
-        ensures { IsTrue result → Meets (cached M.geometry M.stands M.marks M.room M.changed) self.now self.now (Walk id from) (Listed (listed slots.new.items)) }
+        ensures { IsTrue result → Meets (cached M.Metadata) self.now self.now (Walk id from) (Listed (listed slots.new.items)) }
     {
         self.facts();
         self.besides.walk_shared(&self.cache, id, from, slots)
@@ -145,8 +145,8 @@ impl<D: SharedDisk, M: Metadata> Inside<D, M> {
 
     /// A shared walk in the midst of a flush.
     pub(crate) fn walk_midway(&self, id: DevId, from: Vb, slots: &mut Slots) -> bool
-        ensures { IsTrue result → (old : Cached M) (is_named : Bool) → IsMidway M.geometry M.stands M.tells M.midway old is_named self.now
-            → IsSharedCall M.geometry M.stands M.marks M.room M.changed (on_cache old) (Walk id from) (Listed (listed slots.new.items)) }
+        ensures { IsTrue result → (old : Cached M) (is_named : Bool) → IsMidway M.Metadata old is_named self.now
+            → IsSharedCall M.Metadata (on_cache old) (Walk id from) (Listed (listed slots.new.items)) }
     {
         self.besides.walk_midway(&self.cache, id, from, slots)
     }

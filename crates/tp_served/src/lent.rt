@@ -3,14 +3,15 @@ ghost use Rattle.std.specs.Prelude.{◌≡◌, ◌≢◌, ◌⊎◌, ◌+◌, �
 ghost use Rattle.tp_model.specs.Sectors.{sectors_of};
 ghost use Rattle.tp_model.specs.Pool.{PlainPool, copy_id, hold_count, hold_total};
 ghost use Rattle.tp_model.specs.Disk.{IsSettled};
-ghost use Rattle.tp_pool.specs.Held.{shows};
+ghost use Rattle.tp_pool.specs.AtMetadata.{shows};
 ghost use Rattle.tp_model.specs.Slots.{listed};
 ghost use Rattle.tp_holders.specs.Holders.{holds_of};
 ghost use Rattle.tp_msg.specs.Asked.{IsMessageBegun};
 ghost use Rattle.tp_model.specs.declared.mode.Mode.TheVariants as mode;
 ghost use Rattle.tp_model.specs.Calls.{Done, Flush, Found, Gave, HeldRead, Hold, LetGo, Line, Listed, NextId, Read, Refused, Sized, Status, ThinStatus, Trim, VolumeBlocks, Walk, Write, WriteZeroes};
-ghost use Rattle.tp_model.specs.Clauses.{EndsInVolume, Meets};
-ghost use Rattle.tp_served.specs.Served.{IsClosed, IsKnown, IsUnwritten, StaysInPlace, cached, disk_of, got, on_cache};
+ghost use Rattle.tp_model.specs.Clauses.{EndsInVolume, Meets, MetBy};
+ghost use Rattle.tp_served.specs.AtMetadata.{IsClosed, StaysInPlace, cached};
+ghost use Rattle.tp_served.specs.Served.{IsKnown, IsUnwritten, disk_of, got, on_cache};
 
 use crate::calls::{
     change_on, close_on, flush_on, held_read_on, hold_on, let_go_on, next_id_on, read_on,
@@ -40,9 +41,7 @@ impl<D: Disk + Drop, M: Metadata + Drop> Lent<D, M> {
     }
 
     pub(crate) fn flush(&mut self) -> Result<(), Refusal>
-        ensures { MatchResult result
-            (λ _. Meets (cached M.geometry M.stands M.marks M.room M.changed) (got self.old.inside self.old.there) (got self.new.inside self.new.there) Flush Done)
-            (λ reason. Meets (cached M.geometry M.stands M.marks M.room M.changed) (got self.old.inside self.old.there) (got self.new.inside self.new.there) Flush (Refused reason)) }
+        ensures { MetBy (cached M.Metadata) (got self.old.inside self.old.there) (got self.new.inside self.new.there) Flush (λ _. Done) result }
     {
         let inside = self.inside.take().unwrap();
         let (after, answer) = flush_on::<D, M, Brand>(inside);
@@ -52,12 +51,10 @@ impl<D: Disk + Drop, M: Metadata + Drop> Lent<D, M> {
 
     pub(crate) fn read(&mut self, id: DevId, sector: u64, out: &mut [u8]) -> Result<(), Refusal>
         requires whole { length out.old % 512 ≡ 0 }
-        requires range { EndsInVolume (cached M.geometry M.stands M.marks M.room M.changed) (got self.old.inside self.old.there) id (sector + length out.old / 512) }
+        requires range { EndsInVolume (cached M.Metadata) (got self.old.inside self.old.there) id (sector + length out.old / 512) }
         requires most { length out.old / 512 ≤ 2048 }
         ensures length { length out.new ≡ length out.old }
-        ensures met { MatchResult result
-            (λ _. Meets (cached M.geometry M.stands M.marks M.room M.changed) (got self.old.inside self.old.there) (got self.new.inside self.new.there) (Read id sector (length out.old / 512)) (Gave (sectors_of out.new)))
-            (λ reason. Meets (cached M.geometry M.stands M.marks M.room M.changed) (got self.old.inside self.old.there) (got self.new.inside self.new.there) (Read id sector (length out.old / 512)) (Refused reason)) }
+        ensures met { MetBy (cached M.Metadata) (got self.old.inside self.old.there) (got self.new.inside self.new.there) (Read id sector (length out.old / 512)) (λ _. Gave (sectors_of out.new)) result }
     {
         let inside = self.inside.take().unwrap();
         let (after, answer) = read_on::<D, M, Brand>(inside, id, sector, out);
@@ -72,11 +69,9 @@ impl<D: Disk + Drop, M: Metadata + Drop> Lent<D, M> {
         out: &mut [u8],
     ) -> Result<(), Refusal>
         requires whole { length out.old % 512 ≡ 0 }
-        requires range { EndsInVolume (cached M.geometry M.stands M.marks M.room M.changed) (got self.old.inside self.old.there) (copy_id id) (sector + length out.old / 512) }
+        requires range { EndsInVolume (cached M.Metadata) (got self.old.inside self.old.there) (copy_id id) (sector + length out.old / 512) }
         ensures length { length out.new ≡ length out.old }
-        ensures met { MatchResult result
-            (λ _. Meets (cached M.geometry M.stands M.marks M.room M.changed) (got self.old.inside self.old.there) (got self.new.inside self.new.there) (HeldRead id sector (length out.old / 512)) (Gave (sectors_of out.new)))
-            (λ reason. Meets (cached M.geometry M.stands M.marks M.room M.changed) (got self.old.inside self.old.there) (got self.new.inside self.new.there) (HeldRead id sector (length out.old / 512)) (Refused reason)) }
+        ensures met { MetBy (cached M.Metadata) (got self.old.inside self.old.there) (got self.new.inside self.new.there) (HeldRead id sector (length out.old / 512)) (λ _. Gave (sectors_of out.new)) result }
     {
         let inside = self.inside.take().unwrap();
         let (after, answer) = held_read_on::<D, M, Brand>(inside, id, sector, out);
@@ -92,12 +87,10 @@ impl<D: Disk + Drop, M: Metadata + Drop> Lent<D, M> {
         fua: bool,
     ) -> Result<(), Refusal>
         requires whole { length bytes.now % 512 ≡ 0 }
-        requires range { EndsInVolume (cached M.geometry M.stands M.marks M.room M.changed) (got self.old.inside self.old.there) id (sector + length bytes.now / 512) }
+        requires range { EndsInVolume (cached M.Metadata) (got self.old.inside self.old.there) id (sector + length bytes.now / 512) }
         requires most { length bytes.now / 512 ≤ 2048 }
-        ensures met { MatchResult result
-            (λ _. Meets (cached M.geometry M.stands M.marks M.room M.changed) (got self.old.inside self.old.there) (got self.new.inside self.new.there) (Write id sector (sectors_of bytes.now) fua) Done)
-            (λ reason. Meets (cached M.geometry M.stands M.marks M.room M.changed) (got self.old.inside self.old.there) (got self.new.inside self.new.there) (Write id sector (sectors_of bytes.now) fua) (Refused reason)) }
-        ensures in_place { OnOk result (StaysInPlace M.geometry M.stands M.marks M.room M.changed (got self.old.inside self.old.there) (got self.new.inside self.new.there) (Write id sector (sectors_of bytes.now) fua)) }
+        ensures met { MetBy (cached M.Metadata) (got self.old.inside self.old.there) (got self.new.inside self.new.there) (Write id sector (sectors_of bytes.now) fua) (λ _. Done) result }
+        ensures in_place { OnOk result (StaysInPlace M.Metadata (got self.old.inside self.old.there) (got self.new.inside self.new.there) (Write id sector (sectors_of bytes.now) fua)) }
         ensures read_only { (got self.old.inside self.old.there).besides.mode ≢ mode.Writable → IsUnwritten (got self.old.inside self.old.there) (got self.new.inside self.new.there) result }
     {
         let inside = self.inside.take().unwrap();
@@ -113,11 +106,9 @@ impl<D: Disk + Drop, M: Metadata + Drop> Lent<D, M> {
         count: u64,
         fua: bool,
     ) -> Result<(), Refusal>
-        requires range { EndsInVolume (cached M.geometry M.stands M.marks M.room M.changed) (got self.old.inside self.old.there) id (sector + count) }
+        requires range { EndsInVolume (cached M.Metadata) (got self.old.inside self.old.there) id (sector + count) }
         requires most { count ≤ 2048 }
-        ensures met { MatchResult result
-            (λ _. Meets (cached M.geometry M.stands M.marks M.room M.changed) (got self.old.inside self.old.there) (got self.new.inside self.new.there) (Trim id sector count fua) Done)
-            (λ reason. Meets (cached M.geometry M.stands M.marks M.room M.changed) (got self.old.inside self.old.there) (got self.new.inside self.new.there) (Trim id sector count fua) (Refused reason)) }
+        ensures met { MetBy (cached M.Metadata) (got self.old.inside self.old.there) (got self.new.inside self.new.there) (Trim id sector count fua) (λ _. Done) result }
         ensures read_only { (got self.old.inside self.old.there).besides.mode ≢ mode.Writable → IsUnwritten (got self.old.inside self.old.there) (got self.new.inside self.new.there) result }
     {
         let inside = self.inside.take().unwrap();
@@ -134,11 +125,9 @@ impl<D: Disk + Drop, M: Metadata + Drop> Lent<D, M> {
         no_hole: bool,
         fua: bool,
     ) -> Result<(), Refusal>
-        requires range { EndsInVolume (cached M.geometry M.stands M.marks M.room M.changed) (got self.old.inside self.old.there) id (sector + count) }
+        requires range { EndsInVolume (cached M.Metadata) (got self.old.inside self.old.there) id (sector + count) }
         requires most { count ≤ 2048 }
-        ensures { MatchResult result
-            (λ _. Meets (cached M.geometry M.stands M.marks M.room M.changed) (got self.old.inside self.old.there) (got self.new.inside self.new.there) (WriteZeroes id sector count no_hole fua) Done)
-            (λ reason. Meets (cached M.geometry M.stands M.marks M.room M.changed) (got self.old.inside self.old.there) (got self.new.inside self.new.there) (WriteZeroes id sector count no_hole fua) (Refused reason)) }
+        ensures { MetBy (cached M.Metadata) (got self.old.inside self.old.there) (got self.new.inside self.new.there) (WriteZeroes id sector count no_hole fua) (λ _. Done) result }
     {
         let inside = self.inside.take().unwrap();
         let (after, answer) = write_zeroes_on::<D, M, Brand>(
@@ -149,9 +138,7 @@ impl<D: Disk + Drop, M: Metadata + Drop> Lent<D, M> {
     }
 
     pub(crate) fn next_id(&mut self, from: DevId) -> Result<Option<DevId>, Refusal>
-        ensures { MatchResult result
-            (λ found. Meets (cached M.geometry M.stands M.marks M.room M.changed) (got self.old.inside self.old.there) (got self.new.inside self.new.there) (NextId from) (Found found))
-            (λ reason. Meets (cached M.geometry M.stands M.marks M.room M.changed) (got self.old.inside self.old.there) (got self.new.inside self.new.there) (NextId from) (Refused reason)) }
+        ensures { MetBy (cached M.Metadata) (got self.old.inside self.old.there) (got self.new.inside self.new.there) (NextId from) (λ found. Found found) result }
     {
         let inside = self.inside.take().unwrap();
         let (after, answer) = next_id_on::<D, M, Brand>(inside, from);
@@ -160,9 +147,7 @@ impl<D: Disk + Drop, M: Metadata + Drop> Lent<D, M> {
     }
 
     pub(crate) fn volume_blocks(&mut self, id: DevId) -> Result<u32, Refusal>
-        ensures told { MatchResult result
-            (λ blocks. Meets (cached M.geometry M.stands M.marks M.room M.changed) (got self.old.inside self.old.there) (got self.new.inside self.new.there) (VolumeBlocks id) (Sized blocks))
-            (λ reason. Meets (cached M.geometry M.stands M.marks M.room M.changed) (got self.old.inside self.old.there) (got self.new.inside self.new.there) (VolumeBlocks id) (Refused reason)) }
+        ensures told { MetBy (cached M.Metadata) (got self.old.inside self.old.there) (got self.new.inside self.new.there) (VolumeBlocks id) (λ blocks. Sized blocks) result }
         ensures most { IfOk result (λ blocks. blocks ≤ 16777216) }
     {
         let inside = self.inside.take().unwrap();
@@ -172,7 +157,7 @@ impl<D: Disk + Drop, M: Metadata + Drop> Lent<D, M> {
     }
 
     pub(crate) fn status(&mut self, out: &mut LineBuffer) -> usize
-        ensures met { Meets (cached M.geometry M.stands M.marks M.room M.changed) (got self.old.inside self.old.there) (got self.new.inside self.new.there) Status (Line (take result out.new)) }
+        ensures met { Meets (cached M.Metadata) (got self.old.inside self.old.there) (got self.new.inside self.new.there) Status (Line (take result out.new)) }
         ensures fits { result ≤ 192 }
     {
         let inside = self.inside.take().unwrap();
@@ -182,9 +167,7 @@ impl<D: Disk + Drop, M: Metadata + Drop> Lent<D, M> {
     }
 
     pub(crate) fn thin_status(&mut self, id: DevId, out: &mut LineBuffer) -> Result<usize, Refusal>
-        ensures met { MatchResult result
-            (λ length. Meets (cached M.geometry M.stands M.marks M.room M.changed) (got self.old.inside self.old.there) (got self.new.inside self.new.there) (ThinStatus id) (Line (take length out.new)))
-            (λ reason. Meets (cached M.geometry M.stands M.marks M.room M.changed) (got self.old.inside self.old.there) (got self.new.inside self.new.there) (ThinStatus id) (Refused reason)) }
+        ensures met { MetBy (cached M.Metadata) (got self.old.inside self.old.there) (got self.new.inside self.new.there) (ThinStatus id) (λ length. Line (take length out.new)) result }
         ensures fits { IfOk result (λ length. length ≤ 192) }
     {
         let inside = self.inside.take().unwrap();
@@ -194,9 +177,7 @@ impl<D: Disk + Drop, M: Metadata + Drop> Lent<D, M> {
     }
 
     pub(crate) fn walk(&mut self, id: DevId, from: Vb, slots: &mut Slots) -> Result<(), Refusal>
-        ensures { MatchResult result
-            (λ _. Meets (cached M.geometry M.stands M.marks M.room M.changed) (got self.old.inside self.old.there) (got self.new.inside self.new.there) (Walk id from) (Listed (listed slots.new.items)))
-            (λ reason. Meets (cached M.geometry M.stands M.marks M.room M.changed) (got self.old.inside self.old.there) (got self.new.inside self.new.there) (Walk id from) (Refused reason)) }
+        ensures { MetBy (cached M.Metadata) (got self.old.inside self.old.there) (got self.new.inside self.new.there) (Walk id from) (λ _. Listed (listed slots.new.items)) result }
     {
         let inside = self.inside.take().unwrap();
         let (after, answer) = walk_on::<D, M, Brand>(inside, id, from, slots);
@@ -206,9 +187,7 @@ impl<D: Disk + Drop, M: Metadata + Drop> Lent<D, M> {
 
     pub(crate) fn hold(&mut self, id: DevId) -> Result<(), Refusal>
         requires { hold_total (holds_of (got self.old.inside self.old.there).besides.holders) < 64 }
-        ensures { MatchResult result
-            (λ _. Meets (cached M.geometry M.stands M.marks M.room M.changed) (got self.old.inside self.old.there) (got self.new.inside self.new.there) (Hold id) Done)
-            (λ reason. Meets (cached M.geometry M.stands M.marks M.room M.changed) (got self.old.inside self.old.there) (got self.new.inside self.new.there) (Hold id) (Refused reason)) }
+        ensures { MetBy (cached M.Metadata) (got self.old.inside self.old.there) (got self.new.inside self.new.there) (Hold id) (λ _. Done) result }
     {
         let inside = self.inside.take().unwrap();
         let (after, answer) = hold_on::<D, M, Brand>(inside, id);
@@ -218,7 +197,7 @@ impl<D: Disk + Drop, M: Metadata + Drop> Lent<D, M> {
 
     pub(crate) fn let_go(&mut self, id: DevId)
         requires { 0 < hold_count (holds_of (got self.old.inside self.old.there).besides.holders) id }
-        ensures { Meets (cached M.geometry M.stands M.marks M.room M.changed) (got self.old.inside self.old.there) (got self.new.inside self.new.there) (LetGo id) Done }
+        ensures { Meets (cached M.Metadata) (got self.old.inside self.old.there) (got self.new.inside self.new.there) (LetGo id) Done }
     {
         let inside = self.inside.take().unwrap();
         let after = let_go_on::<D, M, Brand>(inside, id);
@@ -226,7 +205,7 @@ impl<D: Disk + Drop, M: Metadata + Drop> Lent<D, M> {
     }
 
     pub(crate) fn change(&mut self, message: &Message) -> Option<Result<(), Refusal>>
-        ensures { IsMessageBegun (cached M.geometry M.stands M.marks M.room M.changed) (got self.old.inside self.old.there) (got self.new.inside self.new.there) message.now result }
+        ensures { IsMessageBegun (cached M.Metadata) (got self.old.inside self.old.there) (got self.new.inside self.new.there) message.now result }
     {
         let inside = self.inside.take().unwrap();
         let (after, answer) = change_on::<D, M, Brand>(inside, message);
@@ -236,9 +215,9 @@ impl<D: Disk + Drop, M: Metadata + Drop> Lent<D, M> {
 
     pub(crate) fn close(self) -> (Result<(), Refusal>, D)
         ensures closed { MatchResult result.0
-            (λ _. IsClosed M.geometry M.stands M.marks M.room M.changed (got self.inside self.there) (D.state result.1) Done)
-            (λ reason. IsClosed M.geometry M.stands M.marks M.room M.changed (got self.inside self.there) (D.state result.1) (Refused reason)) }
-        ensures settled { OnOk result.0 ((s : PlainPool) → shows M.geometry M.stands (on_cache (got self.inside self.there)) s → IsSettled (D.state result.1).cells) }
+            (λ _. IsClosed M.Metadata (got self.inside self.there) (D.state result.1) Done)
+            (λ reason. IsClosed M.Metadata (got self.inside self.there) (D.state result.1) (Refused reason)) }
+        ensures settled { OnOk result.0 ((s : PlainPool) → shows M.Metadata (on_cache (got self.inside self.there)) s → IsSettled (D.state result.1).cells) }
         ensures only { IfErr result.0 (λ reason. (reason ≡ Refusal.Failed) ⊎ (reason ≡ Refusal.Fault)) }
     {
         let Lent { inside } = self;
@@ -287,15 +266,15 @@ impl<D: Disk + Drop, M: Metadata + Drop> Lent<D, M> {
 impl<D: SharedDisk, M: Metadata> Lent<D, M> {
     pub(crate) fn read_shared(&self, id: DevId, sector: u64, out: &mut [u8]) -> bool
         requires whole { length out.old % 512 ≡ 0 }
-        requires range { EndsInVolume (cached M.geometry M.stands M.marks M.room M.changed) (got self.now.inside self.now.there) id (sector + length out.old / 512) }
+        requires range { EndsInVolume (cached M.Metadata) (got self.now.inside self.now.there) id (sector + length out.old / 512) }
         ensures length { length out.new ≡ length out.old }
-        ensures met { IsTrue result → Meets (cached M.geometry M.stands M.marks M.room M.changed) (got self.now.inside self.now.there) (got self.now.inside self.now.there) (Read id sector (length out.old / 512)) (Gave (sectors_of out.new)) }
+        ensures met { IsTrue result → Meets (cached M.Metadata) (got self.now.inside self.now.there) (got self.now.inside self.now.there) (Read id sector (length out.old / 512)) (Gave (sectors_of out.new)) }
     {
         self.inside.as_ref().unwrap().read_shared(id, sector, out)
     }
 
     pub(crate) fn walk_shared(&self, id: DevId, from: Vb, slots: &mut Slots) -> bool
-        ensures { IsTrue result → Meets (cached M.geometry M.stands M.marks M.room M.changed) (got self.now.inside self.now.there) (got self.now.inside self.now.there) (Walk id from) (Listed (listed slots.new.items)) }
+        ensures { IsTrue result → Meets (cached M.Metadata) (got self.now.inside self.now.there) (got self.now.inside self.now.there) (Walk id from) (Listed (listed slots.new.items)) }
     {
         self.inside.as_ref().unwrap().walk_shared(id, from, slots)
     }

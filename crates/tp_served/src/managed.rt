@@ -1,4 +1,10 @@
 //! The messages of a pool, and its status lines.
+ghost use Rattle.std.specs.Prelude.{◌≤◌, IfOk, take};
+ghost use Rattle.tp_model.specs.Calls.{Line, Status, ThinStatus};
+ghost use Rattle.tp_model.specs.Clauses.{Meets, MetBy};
+ghost use Rattle.tp_msg.specs.Asked.{IsMessageBegun};
+ghost use Rattle.tp_served.specs.AtMetadata.{cached};
+
 use crate::served::Served;
 use tp_disk::Disk;
 use tp_meta::Metadata;
@@ -16,15 +22,35 @@ impl<D: Disk + Drop, M: Metadata + Drop> Cloned for Served<D, M> {
 }
 
 impl<D: Disk + Drop, M: Metadata + Drop> Managed for Served<D, M> {
-    fn change(&mut self, message: &Message) -> Option<Result<(), Refusal>> {
-        self.change(message)
+    /// Makes what a message asks for, but for the commit behind it: its answer where that is all of it, as where it is refused, and else None. Then nothing is
+    /// kept yet, and a flush behind it, in parts or at once, makes it the message, with the flush's answer.
+    fn change(&mut self, message: &Message) -> Option<Result<(), Refusal>>
+        ensures { IsMessageBegun (cached M.Metadata) self.old self.new message.now result }
+    {
+        self.lent.change(message)
     }
 
-    fn status(&mut self, out: &mut LineBuffer) -> usize {
-        self.status(out)
+    /// Writes the pool's status line into a buffer and answers its length; the bytes behind it are of no meaning. No call of the disk is made.
+    ///
+    /// It tells how many data blocks some volume maps; those that only wait for a commit are not counted. A failed pool's line is `Fail`.
+    fn status(&mut self, out: &mut LineBuffer) -> usize
+        ensures met { Meets (cached M.Metadata) self.old self.new Status (Line (take result out.new)) }
+        ensures fits { result ≤ 192 }
+    {
+        self.lent.status(out)
     }
 
-    fn thin_status(&mut self, id: DevId, out: &mut LineBuffer) -> Result<usize, Refusal> {
-        self.thin_status(id, out)
+    /// Writes a volume's status line into a buffer and answers its length, the bytes behind it being of no meaning. It changes nothing, whatever it
+    /// answers.
+    ///
+    /// The line tells how many sectors of 512 bytes are mapped, and the last sector of the highest block that is. In a failed pool it is `Fail`, for every
+    /// id.
+    ///
+    /// Refused by `NoSuchDevice` or `Fault`.
+    fn thin_status(&mut self, id: DevId, out: &mut LineBuffer) -> Result<usize, Refusal>
+        ensures met { MetBy (cached M.Metadata) self.old self.new (ThinStatus id) (λ length. Line (take length out.new)) result }
+        ensures fits { IfOk result (λ length. length ≤ 192) }
+    {
+        self.lent.thin_status(id, out)
     }
 }

@@ -19,7 +19,8 @@ ghost use Rattle.tp_meta.specs.Standing.{StandsFor, changed_of, geometry_of, mar
 ghost use Rattle.tp_pool.specs.Held.{IsPool, shows};
 ghost use Rattle.tp_pool.specs.Formatting.{IsBetween};
 ghost use Rattle.tp_pool.specs.Lives.{IsReopenedFrom};
-ghost use Rattle.tp_served.specs.Served.{IsAtStart, IsClosed, cached, disk_of, on_cache};
+ghost use Rattle.tp_served.specs.AtMetadata.{IsClosed};
+ghost use Rattle.tp_served.specs.Served.{IsAtStart, cached, disk_of, on_cache};
 
 use crate::inside::Inside;
 use crate::served::Served;
@@ -112,8 +113,8 @@ impl<D: Disk + Drop, M: Metadata + Drop> Served<ReadCache<D>, M> {
     /// Keeps all that was done, as `flush` does and with its answers, and hands the disk back with any of them.
     pub fn close(self) -> (Result<(), Refusal>, D)
         ensures closed { MatchResult result.0
-            (λ _. IsClosed M.geometry M.stands M.marks M.room M.changed self (D.state result.1) Done)
-            (λ reason. IsClosed M.geometry M.stands M.marks M.room M.changed self (D.state result.1) (Refused reason)) }
+            (λ _. IsClosed M.Metadata self (D.state result.1) Done)
+            (λ reason. IsClosed M.Metadata self (D.state result.1) (Refused reason)) }
         // Nothing was written behind the last flush, so it can be opened at once.
         ensures settled { OnOk result.0 ((s : PlainPool) → shows M.geometry M.stands (on_cache self) s → IsSettled (D.state result.1).cells) }
         ensures only { IfErr result.0 (λ reason. (reason ≡ Refusal.Failed) ⊎ (reason ≡ Refusal.Fault)) }

@@ -3,7 +3,7 @@
 
 use crate::pools::MemServed;
 use tp_disk::MemDisk;
-use tp_model::{DevId, Refusal, Slots, Vb};
+use tp_model::{DevId, Refusal, SharedVolumes, Slots, Vb, Volumes, Walked};
 use tp_msg::Message;
 
 pub(crate) fn create_thin(pool: &mut MemServed, id: DevId) -> Result<(), Refusal> {

@@ -12,8 +12,8 @@ use std::test::Fail;
 use tp_cache::ReadCache;
 use tp_disk::MemDisk;
 use tp_meta::Meta;
-use tp_model::{DevId, Flushing, Geometry, Refusal};
-use tp_msg::Message;
+use tp_model::{DevId, Flushing, Geometry, Refusal, Staged};
+use tp_msg::{Managed, Message};
 use tp_served::MidServed;
 
 type MidMem = MidServed<ReadCache<TalliedDisk<MemDisk>>, Meta>;

@@ -8,7 +8,7 @@ use tp_cache::ReadCache;
 use tp_check::check;
 use tp_disk::MemDisk;
 use tp_meta::Meta;
-use tp_model::{DevId, Geometry, Refusal};
+use tp_model::{DevId, Geometry, Refusal, SharedVolumes, Volumes};
 use tp_served::{Room, Served};
 
 pub(crate) type MemServed = Served<ReadCache<TalliedDisk<MemDisk>>, Meta>;

@@ -14,7 +14,8 @@ use crate::pools::{
 use crate::stops::stopped;
 use std::alloc::Global;
 use std::test::Fail;
-use tp_model::{DevId, Geometry, Refusal};
+use tp_model::{DevId, Geometry, Refusal, Volumes};
+use tp_msg::Managed;
 
 /// Volumes, and with the held copies of them, which stand behind; slots of them all, four of each; and sectors that are looked at, eight of each block.
 const VOLUMES: usize = 12;

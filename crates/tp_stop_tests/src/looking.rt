@@ -8,7 +8,7 @@ use crate::steps::{Area, BLOCK, STRANGE, Step, tag_of, text_of};
 use std::alloc::{AllocError, Global};
 use tp_disk::MemDisk;
 use tp_hub::{Answers, Hub};
-use tp_model::{DevId, Refusal};
+use tp_model::{DevId, Refusal, Volumes};
 use tp_msg::Managed;
 use tp_served::Room;
 

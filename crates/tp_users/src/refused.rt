@@ -2,7 +2,7 @@
 ghost use Rattle.std.specs.Prelude.{◌≡◌, ◌+◌, ◌/◌, ◌%◌, ◌≤◌, Err, IfOk, IsTrue, length};
 ghost use Rattle.tp_model.specs.Geometry.{sectors_of_volume};
 ghost use Rattle.tp_model.specs.Pool.{PlainPool};
-ghost use Rattle.tp_pool.specs.Held.{shows};
+ghost use Rattle.tp_pool.specs.AtMetadata.{shows};
 
 use tp_disk::Disk;
 use tp_meta::Metadata;
@@ -32,7 +32,7 @@ pub fn refused_write_is_nothing<D: Disk, M: Metadata>(
     requires most { length bytes.now / 512 ≤ 2048 }
     requires read { length before.old ≡ length bytes.now }
     requires again { length after.old ≡ length bytes.now }
-    ensures { IfOk result (λ refused. IsTrue refused → (s : PlainPool) → shows M.geometry M.stands pool.old s → after.new ≡ before.new) }
+    ensures { IfOk result (λ refused. IsTrue refused → (s : PlainPool) → shows M.Metadata pool.old s → after.new ≡ before.new) }
 {
     pool.read(id, sector, before)?;
     let written = pool.write(id, sector, bytes, true);

@@ -6,7 +6,7 @@ ghost use Rattle.tp_model.specs.Sectors.{sectors_of};
 ghost use Rattle.tp_model.specs.Calls.{Answer, Delete, Makes, Write};
 ghost use Rattle.tp_model.specs.Clauses.{Called, found_now, found_since};
 ghost use Rattle.tp_model.specs.PoolStops.{reopened};
-ghost use Rattle.tp_pool.specs.Held.{shows};
+ghost use Rattle.tp_pool.specs.AtMetadata.{shows};
 ghost use Rattle.tp_users.specs.Users.{IsWholeOrGone, blocks_touched, own_blocks};
 
 use tp_disk::Disk;
@@ -28,11 +28,11 @@ pub fn removed_blocks_are_used_again<D: Disk, M: Metadata>(
     requires whole { length bytes.now % 512 ≡ 0 }
     requires range { sector + length bytes.now / 512 ≤ sectors_of_volume (M.geometry pool.old.metadata) }
     requires most { length bytes.now / 512 ≤ 2048 }
-    ensures again { IfOk result (λ answer. answer ≡ Err Refusal.NoDataSpace → (s : PlainPool) → shows M.geometry M.stands pool.old s
+    ensures again { IfOk result (λ answer. answer ≡ Err Refusal.NoDataSpace → (s : PlainPool) → shows M.Metadata pool.old s
         → s.geometry.data_blocks + own_blocks s removed < used s + blocks_touched s other sector (length bytes.now / 512)) }
-    ensures done { IfOk result (λ answer. OnOk answer ((s : PlainPool) → shows M.geometry M.stands pool.old s
+    ensures done { IfOk result (λ answer. OnOk answer ((s : PlainPool) → shows M.Metadata pool.old s
         → (without : PlainPool) × (after : PlainPool) × Makes s (Delete removed) without × Makes without (Write other sector (sectors_of bytes.now) false) after
-        × shows M.geometry M.stands pool.new after)) }
+        × shows M.Metadata pool.new after)) }
 {
     pool.delete(removed)?;
     Ok(pool.write(other, sector, bytes, false))

@@ -15,7 +15,7 @@ use std::alloc::Global;
 use tp_cache::ReadCache;
 use tp_disk::Disk;
 use tp_meta::Meta;
-use tp_model::Refusal;
+use tp_model::{Refusal, Volumes};
 use tp_served::{Room, Served};
 
 /// Flushes a pool that works. Behind an Ok each image that a stop may leave of the disk is opened as what the pool shows.

@@ -1,7 +1,7 @@
 //! What a snapshot costs.
 ghost use Rattle.std.specs.Prelude.{IfOk, take};
 ghost use Rattle.tp_model.specs.Pool.{PlainPool};
-ghost use Rattle.tp_pool.specs.Held.{shows};
+ghost use Rattle.tp_pool.specs.AtMetadata.{shows};
 ghost use Rattle.tp_users.specs.Users.{CostsFew};
 
 use tp_disk::Disk;
@@ -25,7 +25,7 @@ pub fn snapshot_costs_three_blocks<D: Disk, M: Metadata>(
     between: &mut LineBuffer,
     behind: &mut LineBuffer,
 ) -> Result<(usize, usize, usize), Refusal>
-    ensures told { IfOk result (λ lengths. (s : PlainPool) → shows M.geometry M.stands pool.old s
+    ensures told { IfOk result (λ lengths. (s : PlainPool) → shows M.Metadata pool.old s
         → CostsFew s id origin (take lengths.0 before.new) (take lengths.1 between.new) (take lengths.2 behind.new)) }
 {
     let first = pool.status(before);

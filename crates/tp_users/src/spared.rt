@@ -4,7 +4,7 @@ ghost use Rattle.tp_model.specs.Geometry.{sectors_of_volume};
 ghost use Rattle.tp_model.specs.Pool.{PlainPool};
 ghost use Rattle.tp_model.specs.Calls.{covers};
 ghost use Rattle.tp_model.specs.Sectors.{sectors_of, zero_sector};
-ghost use Rattle.tp_pool.specs.Held.{shows};
+ghost use Rattle.tp_pool.specs.AtMetadata.{shows};
 
 use tp_disk::Disk;
 use tp_meta::Metadata;
@@ -29,7 +29,7 @@ pub fn trim_spares_parts_of_blocks<D: Disk, M: Metadata>(
     requires whole { length before.old % 512 ≡ 0 }
     requires inside { part + length before.old / 512 ≤ sectors_of_volume (M.geometry pool.old.metadata) }
     requires again { length after.old ≡ length before.old }
-    ensures { OnOk result ((s : PlainPool) → shows M.geometry M.stands pool.old s
+    ensures { OnOk result ((s : PlainPool) → shows M.Metadata pool.old s
         → ((k : ℕ) → part ≤ k → k < part + length before.old / 512 → covers s.geometry sector count (k / s.geometry.block_sectors) ≡ false)
         → after.new ≡ before.new) }
 {
@@ -56,7 +56,7 @@ pub fn trimmed_blocks_read_zero<D: Disk, M: Metadata>(
     requires most { count ≤ 2048 }
     requires whole { length out.old % 512 ≡ 0 }
     requires inside { part + length out.old / 512 ≤ sectors_of_volume (M.geometry pool.old.metadata) }
-    ensures { OnOk result ((s : PlainPool) → shows M.geometry M.stands pool.old s
+    ensures { OnOk result ((s : PlainPool) → shows M.Metadata pool.old s
         → ((k : ℕ) → part ≤ k → k < part + length out.old / 512 → covers s.geometry sector count (k / s.geometry.block_sectors) ≡ true)
         → sectors_of out.new ≡ replicate (length out.new / 512) zero_sector) }
 {

@@ -3,7 +3,7 @@ ghost use Rattle.std.specs.Prelude.{◌≡◌, ◌+◌, ◌/◌, ◌%◌, ◌≤
 ghost use Rattle.tp_model.specs.Geometry.{sectors_of_volume};
 ghost use Rattle.tp_model.specs.Pool.{PlainPool};
 ghost use Rattle.tp_model.specs.Sectors.{sectors_of, zero_sector};
-ghost use Rattle.tp_pool.specs.Held.{shows};
+ghost use Rattle.tp_pool.specs.AtMetadata.{shows};
 
 use tp_disk::Disk;
 use tp_meta::Metadata;
@@ -24,7 +24,7 @@ pub fn zeroes_are_read<D: Disk, M: Metadata>(
     requires whole { length out.old % 512 ≡ 0 }
     requires range { sector + length out.old / 512 ≤ sectors_of_volume (M.geometry pool.old.metadata) }
     requires most { length out.old / 512 ≤ 2048 }
-    ensures { OnOk result ((s : PlainPool) → shows M.geometry M.stands pool.old s → sectors_of out.new ≡ replicate (length out.new / 512) zero_sector) }
+    ensures { OnOk result ((s : PlainPool) → shows M.Metadata pool.old s → sectors_of out.new ≡ replicate (length out.new / 512) zero_sector) }
 {
     let count = out.len() as u64 / 512;
     pool.write_zeroes(id, sector, count, no_hole, fua)?;

@@ -4,7 +4,7 @@ use Rattle.std.specs.Prelude.{OnOk}
 use Rattle.tp_model.specs.Sectors.{sectors_of}
 use Rattle.tp_model.specs.Calls.{Write}
 use Rattle.tp_served.specs.Served.{Cached, IsUnwritten, StaysInPlace, got}
-use Rattle.tp_served.proofs.served.Served.write.Goals as goal
+use Rattle.tp_served.proofs.volumes.ServedVolumes.write.Goals as goal
 
 pub returns-clause-in_place : goal.returns-clause-in_place
 returns-clause-in_place g c =

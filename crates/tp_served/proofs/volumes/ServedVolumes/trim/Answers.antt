@@ -1,7 +1,7 @@
 use Rattle.std.proofs.Common.{◌≢◌, subst}
 use Rattle.tp_model.specs.declared.mode.Mode.TheVariants as mode
 use Rattle.tp_served.specs.Served.{Cached, IsUnwritten, got}
-use Rattle.tp_served.proofs.served.Served.trim.Goals as goal
+use Rattle.tp_served.proofs.volumes.ServedVolumes.trim.Goals as goal
 
 pub returns-clause-read_only : goal.returns-clause-read_only
 returns-clause-read_only g c =
