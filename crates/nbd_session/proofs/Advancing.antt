@@ -10,7 +10,7 @@ use Rattle.tp_model.specs.Requests.{form_error, is_flush, is_read, is_trim, is_w
 use Rattle.tp_model.specs.Geometry.{Geometry, sectors_of_volume}
 use Rattle.tp_model.specs.Sectors.{sectors_of}
 use Rattle.tp_model.specs.Pool.{PlainPool, Outline, hold_count, hold_total}
-use Rattle.tp_model.specs.Calls.{Call, Answer, CreateSnap, Delete, Done, Gave, Line, Found, Refused, Sized, Listed, Hold, LetGo, NextId, Read, VolumeBlocks, Walk, Write, is_failed, holds_after}
+use Rattle.tp_model.specs.Calls.{Call, Answer, CreateSnap, Delete, Done, Gave, Line, Found, Refused, Sized, Listed, Hold, LetGo, NextId, Read, Trim, VolumeBlocks, Walk, Write, WriteZeroes, is_failed, holds_after}
 use Rattle.nbd_wire.specs.declared.Kind.{Kind}
 use Rattle.nbd_wire.specs.declared.Request.{Request}
 use Rattle.nbd_wire.specs.declared.TheConstants.{COMMAND_DISC, OPTION_ABORT, OPTION_EXPORT_NAME, OPTION_GO, OPTION_INFO, OPTION_LIST, OPTION_LIST_META_CONTEXT, OPTION_SET_META_CONTEXT, OPTION_STRUCTURED_REPLY}
@@ -18,6 +18,8 @@ use Rattle.nbd_wire.specs.declared.writing.ReplyType.TheVariants.{Acknowledged, 
 use Rattle.nbd_wire.specs.Chunks.{data_chunk}
 use Rattle.nbd_wire.specs.Replies.{option_reply}
 use Rattle.nbd_wire.specs.Grammar.{Message, client_flags, client_option, command, malformed}
+use Rattle.nbd_session.specs.declared.phase.ContextOf.{ContextOf}
+use Rattle.nbd_session.specs.declared.phase.ContextOf.TheVariants as contexts
 use Rattle.nbd_session.specs.declared.phase.Course.{Course}
 use Rattle.nbd_session.specs.declared.phase.Course.TheVariants.{Listens, Works}
 use Rattle.nbd_session.specs.declared.phase.Profile.{Profile}
@@ -27,14 +29,14 @@ use Rattle.nbd_session.specs.declared.phase.Phase.{Phase}
 use Rattle.nbd_session.specs.declared.phase.Phase.TheVariants.{Flags, Options, Transmission, Ended}
 use Rattle.nbd_session.specs.declared.request.Verdict.{Verdict}
 use Rattle.nbd_session.specs.declared.request.Verdict.TheVariants as verdicts
-use Rattle.nbd_session.specs.Requests.{bytes_of_blocks, form_of, has_fua, has_since, is_kept_apart, known_bytes, to_keep, verdict_in, verdict_on}
+use Rattle.nbd_session.specs.Requests.{bytes_of_blocks, form_of, has_fua, has_no_hole, has_since, is_kept_apart, known_bytes, to_keep, verdict_in, verdict_on}
 use Rattle.nbd_session.specs.declared.session.Answered.{Answered}
 use Rattle.nbd_wire.specs.Contexts.{asks_for, lists, since_of}
 use Rattle.nbd_session.specs.Buffers.{IsSound, wanted_in}
 use Rattle.nbd_session.specs.Held.{Gathers}
 use Rattle.nbd_session.specs.Holes.{has_blank}
 use Rattle.nbd_session.specs.Status.{IsAllocation, first_block, unit_of}
-use Rattle.nbd_session.specs.Session.{State, state, has_ended, Outcome, outcome, option_error, VolumeOption, clone_context, clone_manner, export_name, go, has_clones, info, in_chunks, in_context, is_of_failure, is_of_none, is_there, is_at_work, is_extended, kind_of, left_in, limit_of, list_context, manner_in, manner_of, of_clone, uncloned, set_context, structures, terms_of, transmission_flags, without_context, chunk_to, reply_to, Clones, FindsNone, GivesUp, IsCloneHeld, IsCloneSized, IsCloned, Passes, Snaps, LetsGo, Begins, Ends, Tells, Serves, IsMade, MakesPart, IsDeaf, IsSized, Sizes, IsHeld, Holds, Enters, Finds, AsksFor, LooksFor, IsInvalid, IsValid, Informs, Exports, Finding, IsEnough, IsLast, IsRefused, Lists, NamesAll, NamesNone, Answers, Waits, TakesFrame, Steps, Compares, Extends, IsDescribed, IsNoQuery, IsQueried, Queries, Seeks, SeeksFor, Walks, Chooses, IsGiven, Performs, ReadsLong, SeeksHoles}
+use Rattle.nbd_session.specs.Session.{State, state, has_ended, Outcome, outcome, option_error, VolumeOption, clone_manner, export_name, go, has_clones, info, in_chunks, in_context, is_of_failure, is_of_none, is_there, is_at_work, is_extended, kind_of, left_in, limit_of, list_context, manner_in, manner_of, of_clone, uncloned, set_context, structures, terms_of, transmission_flags, without_context, chunk_to, reply_to, Clones, FindsNone, GivesUp, IsCloneHeld, IsCloneSized, IsCloned, Passes, Snaps, LetsGo, Begins, Ends, Tells, Serves, IsMade, MakesPart, IsDeaf, IsSized, Sizes, IsHeld, Holds, Enters, Finds, AsksFor, LooksFor, IsInvalid, IsValid, Informs, Exports, Finding, IsEnough, IsLast, IsRefused, Lists, NamesAll, NamesNone, Answers, Waits, TakesFrame, Steps, Compares, Extends, IsDescribed, IsNoQuery, IsQueried, Queries, Seeks, SeeksFor, Walks, Chooses, IsGiven, Performs, ReadsLong, SeeksHoles}
 use Rattle.tp_model.specs.Clauses.{Continues, HasTrace, PoolCall, Traced, TracedCall, View, ViewLaws, outline_of_traced}
 use Rattle.tp_model.proofs.Running.{call_traced, goes_on, stays}
 use Rattle.nbd_session.specs.Clauses.{IsReady, Follows, GoesBeyond, HoldsFollow, KeepsSizes, PlainCall, Advances, Leaves, IsCalm, holds_between}
@@ -174,7 +176,7 @@ module _ {D : Type 0} (view : View D) (laws : ViewLaws view) where
   asks_for_chunks : (z : Terms) → is_extended z.profile ≡ true → GoesBeyond z (in_chunks z)
   asks_for_chunks z ext = record { no_zeroes = refl; profile = refl; strict = λ e. absurd (true≢false (sym ext ∙ e)); structured = λ e. refl }
 
-  asks_of : (z : Terms) (context : ℕ) (tells : Bool) (since : ℕ) → is_extended z.profile ≡ true → GoesBeyond z (in_context z context tells since)
+  asks_of : (z : Terms) (context : ContextOf) (tells : Bool) (since : ℕ) → is_extended z.profile ≡ true → GoesBeyond z (in_context z context tells since)
   asks_of z context tells since ext = record { no_zeroes = refl; profile = refl; strict = λ e. absurd (true≢false (sym ext ∙ e)); structured = λ e. e }
 
   -- a session that goes on to its options, or ends, where nothing is called
@@ -372,8 +374,12 @@ module _ {D : Type 0} (view : View D) (laws : ViewLaws view) where
   serves_move old new verdicts.Write v n x r payload sent next h =
       written_moves old new (is_kept_apart x r) (Write v (r.offset / 512) (sectors_of payload) false) (Write v (r.offset / 512) (sectors_of payload) (has_fua r)) v n x r sent next h
       (λ answer holds. refl) (λ answer holds. refl)
-  serves_move old new verdicts.Trim v n x r payload sent next h = stays_in old new v n (Listens x) (Listens x) _ h.0.answer next h.1 refl h.0.calls refl
-  serves_move old new verdicts.WriteZeroes v n x r payload sent next h = stays_in old new v n (Listens x) (Listens x) _ h.0.answer next h.1 refl h.0.calls refl
+  serves_move old new verdicts.Trim v n x r payload sent next h =
+      written_moves old new (is_kept_apart x r) (Trim v (r.offset / 512) (r.len / 512) false) (Trim v (r.offset / 512) (r.len / 512) (has_fua r)) v n x r sent next h
+      (λ answer holds. refl) (λ answer holds. refl)
+  serves_move old new verdicts.WriteZeroes v n x r payload sent next h =
+      written_moves old new (is_kept_apart x r) (WriteZeroes v (r.offset / 512) (r.len / 512) (has_no_hole r) false) (WriteZeroes v (r.offset / 512) (r.len / 512) (has_no_hole r) (has_fua r)) v n x r sent next h
+      (λ answer holds. refl) (λ answer holds. refl)
   serves_move old new verdicts.Flush v n x r payload sent next h = stays_in old new v n (Listens x) (Listens x) _ h.0.answer next h.1 refl h.0.calls refl
   serves_move old new verdicts.Status v n x r payload sent next h = described_moves old new (nat_lt (first_block (unit_of (view.outline old).geometry) r) 16777216) v n x r sent _ next h.1 h.0
   serves_move old new verdicts.Long v n x r payload sent next h =
@@ -442,10 +448,10 @@ module _ {D : Type 0} (view : View D) (laws : ViewLaws view) where
   set_lands : (z : Terms) → is_extended z.profile ≡ true → (b : Bool) (since : ℕ) → Lands z (set_context z b since)
   set_lands z ext b since = record {
     clones = refl;
-    found = λ id size flags. (in_context z id b since, refl, asks_of z id b since ext);
-    cloned = λ origin id size flags. (in_context z (clone_context origin) b since, refl, asks_of z (clone_context origin) b since ext);
-    missing = λ old new e. to_terms old new z (without_context z) (asks_of z 16777216 false 16777216 ext) e;
-    refused = λ old new e. to_terms old new z (without_context z) (asks_of z 16777216 false 16777216 ext) e;
+    found = λ id size flags. (in_context z (contexts.Volume id) b since, refl, asks_of z (contexts.Volume id) b since ext);
+    cloned = λ origin id size flags. (in_context z (contexts.Clones origin) b since, refl, asks_of z (contexts.Clones origin) b since ext);
+    missing = λ old new e. to_terms old new z (without_context z) (asks_of z contexts.Nothing false 16777216 ext) e;
+    refused = λ old new e. to_terms old new z (without_context z) (asks_of z contexts.Nothing false 16777216 ext) e;
   }
 
   export_lands : (z : Terms) → Lands z (export_name z)
@@ -773,7 +779,7 @@ module _ {D : Type 0} (view : View D) (laws : ViewLaws view) where
       queries_move old new (is_failed (view.outline old).mode) z.is_structured OPTION_LIST_META_CONTEXT lists (list_context z) z z payload sent next (list_lands z) (stays_so z) h
   extended_moves old new false false true z option payload sent next ext h =
       queries_move old new (is_failed (view.outline old).mode) z.is_structured OPTION_SET_META_CONTEXT asks_for (set_context z) z (without_context z) payload sent next (set_lands z ext)
-      (asks_of z 16777216 false 16777216 ext) h
+      (asks_of z contexts.Nothing false 16777216 ext) h
   extended_moves old new false false false z option payload sent next ext h = tells_move old new (Options z) (option_error option Unsupported z) sent next h (to_options old new z h.2)
 
   chosen_moves : (old new : D) (is_go is_info is_export is_list is_abort is_long : Bool) (z : Terms) (option : ℕ) (payload sent : List ℕ) (next : Phase) → is_extended z.profile ≡ is_long
@@ -922,8 +928,8 @@ module _ {D : Type 0} (view : View D) (laws : ViewLaws view) where
   serves_quiet old new verdicts.Nothing v n x r payload sent next h w = absurd (elsewhere next (Transmission v n (Listens x)) h.1 refl w)
   serves_quiet old new verdicts.Read v n x r payload sent next h w = absurd (elsewhere next (Transmission v n (Listens x)) h.1 refl w)
   serves_quiet old new verdicts.Write v n x r payload sent next h w = written_quiet old new (is_kept_apart x r) _ _ v n x r sent next h w
-  serves_quiet old new verdicts.Trim v n x r payload sent next h w = absurd (elsewhere next (Transmission v n (Listens x)) h.1 refl w)
-  serves_quiet old new verdicts.WriteZeroes v n x r payload sent next h w = absurd (elsewhere next (Transmission v n (Listens x)) h.1 refl w)
+  serves_quiet old new verdicts.Trim v n x r payload sent next h w = written_quiet old new (is_kept_apart x r) _ _ v n x r sent next h w
+  serves_quiet old new verdicts.WriteZeroes v n x r payload sent next h w = written_quiet old new (is_kept_apart x r) _ _ v n x r sent next h w
   serves_quiet old new verdicts.Flush v n x r payload sent next h w = absurd (elsewhere next (Transmission v n (Listens x)) h.1 refl w)
   serves_quiet old new verdicts.Status v n x r payload sent next h w = absurd (elsewhere next (Transmission v n (Listens x)) h.1 refl w)
   serves_quiet old new verdicts.Long v n x r payload sent next h w = h.0

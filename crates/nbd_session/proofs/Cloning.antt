@@ -7,11 +7,13 @@ use Rattle.tp_model.specs.declared.refusal.Refusal.{Refusal}
 use Rattle.tp_model.specs.Geometry.{Geometry}
 use Rattle.tp_model.specs.Pool.{Outline}
 use Rattle.tp_model.specs.Calls.{Answer, Call, CreateSnap, Delete, Done, Hold, LetGo, Refused, Sized, is_read_only}
+use Rattle.nbd_session.specs.declared.clones.Made.{Made}
+use Rattle.nbd_session.specs.declared.clones.Made.TheVariants.{Held, NotMade, GivenUp}
 use Rattle.nbd_session.specs.declared.phase.Phase.{Phase}
 use Rattle.nbd_session.specs.declared.phase.Phase.TheVariants.{Ended}
 use Rattle.nbd_session.specs.declared.phase.Terms.{Terms}
 use Rattle.nbd_session.specs.Requests.{bytes_of_blocks}
-use Rattle.nbd_session.specs.Looking.{AnswersSize, IsTold, Learns, TakesClone, TakesHoldOfClone, Tries}
+use Rattle.nbd_session.specs.Looking.{AnswersSize, IsEntered, IsTold, Learns, MakesClone, TakesClone, TakesHoldOfClone, Tries}
 use Rattle.nbd_session.specs.Session.{AsksFor, Clones, Deletes, GivesUp, HoldsClone, IsOutcome, Outcome, Passes, Snaps, VolumeOption, clone_flags, export_name, is_of_failure, is_of_none, is_of_other, is_taken, outcome, transmission_flags, uncloned}
 
 -- the flags of a clone, in a pool of this mode
@@ -104,7 +106,7 @@ module _ {S : Type 0} (outline : S → Outline) (Calls : S → Call → Answer �
       record { answer = Refused reason; held = q; calls = calls; is_held = deletes_so id q p' r sent next deleted told.0 told.1 }
 
   -- a clone was made, and holding it told this, in a pool of this geometry and these flags before
-  pub cloned : (o : VolumeOption) (origin id : ℕ) (g : Geometry) (p q p' : S) (result : Result ℕ Refusal) (sent : List ℕ) (next : Phase) → g ≡ (outline p).geometry
+  cloned : (o : VolumeOption) (origin id : ℕ) (g : Geometry) (p q p' : S) (result : Result ℕ Refusal) (sent : List ℕ) (next : Phase) → g ≡ (outline p).geometry
       → Snaps outline Calls origin id Done p q → TakesHoldOfClone outline Calls g id result q p' → AnswersSize (λ size. o.cloned origin id size (transmission_flags (outline p))) result sent next
       → Clones outline Calls o origin p sent next p'
   cloned o origin id g p q p' result sent next same made takes told =
@@ -119,10 +121,27 @@ module _ {S : Type 0} (outline : S → Outline) (Calls : S → Call → Answer �
       }
 
   -- none was made
-  pub not_cloned : (o : VolumeOption) (origin id : ℕ) (p p' : S) (reason : Refusal) (sent : List ℕ) (next : Phase) → Snaps outline Calls origin id (Refused reason) p p'
+  not_cloned : (o : VolumeOption) (origin id : ℕ) (p p' : S) (reason : Refusal) (sent : List ℕ) (next : Phase) → Snaps outline Calls origin id (Refused reason) p p'
       → IsOutcome (uncloned o reason) sent next → Clones outline Calls o origin p sent next p'
   not_cloned o origin id p p' reason sent next refused told =
       record { id = id; answer = Refused reason; made = p'; snaps = refused; is_cloned = (told.0, told.1, refl) }
+
+  -- what became of it, whatever the option
+  pub clone_held : (origin id size : ℕ) (g : Geometry) (p q p' : S) → g ≡ (outline p).geometry → Snaps outline Calls origin id Done p q → TakesHoldOfClone outline Calls g id (Ok size) q p'
+      → MakesClone outline Calls origin (Held id size) p p'
+  clone_held origin id size g p q p' same made takes o sent next told = cloned o origin id g p q p' (Ok size) sent next same made takes told
+
+  pub clone_given_up : (origin id : ℕ) (reason : Refusal) (g : Geometry) (p q p' : S) → g ≡ (outline p).geometry → Snaps outline Calls origin id Done p q
+      → TakesHoldOfClone outline Calls g id (Err reason) q p' → MakesClone outline Calls origin GivenUp p p'
+  clone_given_up origin id reason g p q p' same made takes o sent next told = cloned o origin id g p q p' (Err reason) sent next same made takes told
+
+  pub clone_not_made : (origin id : ℕ) (reason : Refusal) (p p' : S) → Snaps outline Calls origin id (Refused reason) p p' → MakesClone outline Calls origin (NotMade reason) p p'
+  clone_not_made origin id reason p p' refused o sent next told = not_cloned o origin id p p' reason sent next refused told
+
+  -- an option that makes one, by what became of it
+  pub entered : (o : VolumeOption) (origin : ℕ) (shown made : Made) (p p' : S) (sent : List ℕ) (next : Phase) → shown ≡ made → MakesClone outline Calls origin shown p p'
+      → IsEntered o origin (transmission_flags (outline p)) made sent next → Clones outline Calls o origin p sent next p'
+  entered o origin shown made p p' sent next is makes told = let P : Made → Type 0 = λ m. MakesClone outline Calls origin m p p' in subst P is makes o sent next told
 
   -- an option that holds nothing, by what was told of the volume that it looked for
   pub learnt : (o : VolumeOption) (id size : ℕ) (found : Option ℕ) (p p' : S) (sent : List ℕ) (next : Phase) → o.holds ≡ false → Learns outline Calls false id (Ok found) p p' → found ≡ Some size

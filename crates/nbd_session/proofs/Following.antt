@@ -414,8 +414,8 @@ module _ {D B : Type 0} (outline : D → Outline) (Calls : D → Call → Answer
     serves_likewise verdicts.Nothing v n x r payload sent next h = tells_likewise _ sent next h
     serves_likewise verdicts.Read v n x r payload sent next h = let m = reads_by x.is_structured (nat_le 65536 r.len) v r sent h.0 in (m.0, (m.1, h.1), m.2)
     serves_likewise verdicts.Write v n x r payload sent next h = written_likewise (is_kept_apart x r) _ _ v n x r sent next h
-    serves_likewise verdicts.Trim v n x r payload sent next h = performed _ _ v n x sent next h
-    serves_likewise verdicts.WriteZeroes v n x r payload sent next h = performed _ _ v n x sent next h
+    serves_likewise verdicts.Trim v n x r payload sent next h = written_likewise (is_kept_apart x r) _ _ v n x r sent next h
+    serves_likewise verdicts.WriteZeroes v n x r payload sent next h = written_likewise (is_kept_apart x r) _ _ v n x r sent next h
     serves_likewise verdicts.Flush v n x r payload sent next h = performed _ _ v n x sent next h
     serves_likewise verdicts.Status v n x r payload sent next h = let m = describes_likewise x v r sent h.0 in (m.0, (m.1, h.1), m.2)
     serves_likewise verdicts.Long v n x r payload sent next h = tells_likewise _ sent next h

@@ -12,9 +12,10 @@ use Rattle.tp_model.specs.Calls.{Answer, Call, Done, Refused, Trim, WriteZeroes}
 use Rattle.nbd_wire.specs.declared.Request.{Request}
 use Rattle.nbd_session.specs.declared.phase.Course.TheVariants.{Listens, Works}
 use Rattle.nbd_session.specs.declared.phase.Manner.{Manner}
+use Rattle.nbd_session.specs.declared.phase.Phase.{Phase}
 use Rattle.nbd_session.specs.declared.phase.Phase.TheVariants.{Transmission}
 use Rattle.nbd_session.specs.Requests.{IsLeft, IsWhole, behind, form_of, has_fua, has_no_hole, is_last, len_of_part, long_call, part_call, rest_of, to_keep, up_to_cut}
-use Rattle.nbd_session.specs.Session.{IsMade, MakesPart, reply_to}
+use Rattle.nbd_session.specs.Session.{Begins, IsMade, MakesPart, reply_to}
 
 -- as many whole blocks as 2048 sectors have are one at least
 pub blocks_fit : (block : ℕ) → 0 < block → block ≤ 2048 → (1 ≤ 2048 / block * block) × (2048 / block * block ≤ 2048)
@@ -63,7 +64,7 @@ zeroes_are id g r count no_hole fua is c n f =
     ap (λ (x : Bool). WriteZeroes id (r.offset / 512) count x fua) n
     ∙ (by_other (is_trim (form_of r)) (Trim id (r.offset / 512) count fua) _ is ∙ both_calls id g r count fua (is_trim (form_of r)) c f)
 
--- ---- what is left of a WRITE
+-- ---- what is left of a change that is kept apart
 
 -- a FLUSH that counts as a sector of it
 pub left_to_keep : (size : ℕ) (r : Request) → IsWhole size r → 0 < r.len → IsLeft size (to_keep r)
@@ -81,6 +82,14 @@ left_to_keep size r whole some =
 -- ---- what is told of it
 
 module _ {D : Type 0} (outline : D → Outline) (Calls : D → Call → Answer → D → Type 0) (id size : ℕ) (m : Manner) (r : Request) (p p' : D) where
+  -- a change that is kept apart, of which a FLUSH is left where it is done
+  pub begun_done : (call : Call) (next : Phase) → Calls p call Done p' → next ≡ Transmission id size (Works m (to_keep r)) → Begins outline Calls call id size m r p [] next p'
+  begun_done call next calls is = record { answer = Done; calls = calls; is_begun = (refl, is) }
+
+  pub begun_refused : (call : Call) (reason : Refusal) (sent : List ℕ) (next : Phase) → Calls p call (Refused reason) p' → sent ≡ reply_to r.cookie (Refused reason) → next ≡ Transmission id size (Listens m)
+      → Begins outline Calls call id size m r p sent next p'
+  begun_refused call reason sent next calls sent_is is = record { answer = Refused reason; calls = calls; is_begun = (sent_is, is) }
+
   pub part_refused : (reason : Refusal) (sent : List ℕ) → Calls p (part_call id (outline p).geometry r) (Refused reason) p' → sent ≡ reply_to r.cookie (Refused reason) → MakesPart outline Calls id size m r p sent (Transmission id size (Listens m)) p'
   part_refused reason sent call sent_is = record { answer = Refused reason; calls = call; is_made = (sent_is, refl) }
 

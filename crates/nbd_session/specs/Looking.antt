@@ -5,14 +5,22 @@ use Rattle.tp_model.specs.declared.refusal.Refusal.{Refusal}
 use Rattle.tp_model.specs.Geometry.{Geometry}
 use Rattle.tp_model.specs.Pool.{Outline}
 use Rattle.tp_model.specs.Calls.{Answer, Call, CreateSnap, Done, Found, NextId, Refused, Sized, VolumeBlocks}
+use Rattle.nbd_session.specs.declared.clones.Made.{Made}
+use Rattle.nbd_session.specs.declared.clones.Made.TheVariants.{Held, NotMade, GivenUp}
 use Rattle.nbd_session.specs.declared.phase.Phase.{Phase}
 use Rattle.nbd_session.specs.declared.phase.Phase.TheVariants.{Ended}
 use Rattle.nbd_session.specs.Requests.{bytes_of_blocks}
-use Rattle.nbd_session.specs.Session.{AsksFor, Holds, HoldsClone, IsOutcome, LooksFor, Outcome, SeeksFor, Sizes, SizesClone, Tells, VolumeOption, is_there, outcome, transmission_flags}
+use Rattle.nbd_session.specs.Session.{AsksFor, Clones, Holds, HoldsClone, IsOutcome, LooksFor, Outcome, SeeksFor, Sizes, SizesClone, Tells, VolumeOption, is_there, outcome, transmission_flags, uncloned}
 
 -- what is done where a size was told, and where it was refused
 abbrev pub AnswersSize : (ℕ → Outcome) → Result ℕ Refusal → List ℕ → Phase → Type 0
 AnswersSize found result sent next = MatchResult result (λ size. IsOutcome (found size) sent next) (λ reason. IsOutcome (outcome [] Ended) sent next)
+
+-- what is done where a clone was made and is held, where none was made, and where it was given up
+abbrev pub IsEntered : VolumeOption → ℕ → ℕ → Made → List ℕ → Phase → Type 0
+IsEntered o origin flags (Held id size) sent next = IsOutcome (o.cloned origin id size flags) sent next
+IsEntered o origin flags (NotMade reason) sent next = IsOutcome (uncloned o reason) sent next
+IsEntered o origin flags GivenUp sent next = IsOutcome (outcome [] Ended) sent next
 
 module _ {S : Type 0} (outline : S → Outline) (Calls : S → Call → Answer → S → Type 0) where
   -- whether the volume is there
@@ -59,6 +67,12 @@ module _ {S : Type 0} (outline : S → Outline) (Calls : S → Call → Answer �
       MatchResult result
       (λ id. (id ≡ 8388608 + passed) × Calls p (CreateSnap (8388608 + passed) origin) Done p')
       (λ reason. Calls p (CreateSnap (8388608 + passed) origin) (Refused reason) p')
+
+  -- A clone of a volume was asked for, and this became of it, as what an option does that makes one.
+  abbrev pub MakesClone : ℕ → Made → S → S → Type 0
+  MakesClone origin made p p' =
+      (o : VolumeOption) (sent : List ℕ) (next : Phase) → IsEntered o origin (transmission_flags (outline p)) made sent next
+      → Clones outline Calls o origin p sent next p'
 
   -- Whether the volume is there, and its size, as what an option does that holds it, or that does not.
   abbrev pub Learns : Bool → ℕ → Result (Option ℕ) Refusal → S → S → Type 0

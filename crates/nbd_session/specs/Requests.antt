@@ -125,9 +125,9 @@ behind r n = record { flags = r.flags; kind = r.kind; cookie = r.cookie; offset 
 abbrev pub rest_of : Geometry → Request → Request
 rest_of g r = behind r (up_to_cut g r)
 
--- ---- WRITEs that are kept apart
+-- ---- requests that are kept apart
 
--- A WRITE with FUA of an extended session is made without it, and a FLUSH is left of it then.
+-- A WRITE, TRIM or WRITE_ZEROES with FUA of an extended session, but for a long one, is made without it, and a FLUSH is left of it then.
 abbrev pub is_kept_apart : Manner → Request → Bool
 is_kept_apart manner r = manner.is_extended && has_fua r
 
@@ -170,8 +170,8 @@ IsTested (verdicts.Refuse e) size r = Unit {0}
 IsTested verdicts.Nothing size r = Unit {0}
 IsTested verdicts.Read size r = IsWhole size r × (r.kind ≡ COMMAND_READ)
 IsTested verdicts.Write size r = IsWhole size r × (r.kind ≡ COMMAND_WRITE) × (0 < r.len)
-IsTested verdicts.Trim size r = IsWhole size r
-IsTested verdicts.WriteZeroes size r = IsWhole size r
+IsTested verdicts.Trim size r = IsWhole size r × (0 < r.len)
+IsTested verdicts.WriteZeroes size r = IsWhole size r × (0 < r.len)
 IsTested verdicts.Flush size r = Unit {0}
 IsTested verdicts.Disconnect size r = Unit {0}
 IsTested verdicts.Long size r = IsLeft size r

@@ -22,6 +22,8 @@ use Rattle.nbd_wire.specs.Chunks.{data_chunk, done_chunk, error_chunk}
 use Rattle.nbd_wire.specs.Contexts.{IsQuery, allocation, asks_for, context_data, lists, since_name, since_of}
 use Rattle.nbd_wire.specs.Grammar.{Message, client_flags, client_option, command, malformed, IsFrame, IsPartial}
 use Rattle.nbd_wire.specs.Replies.{simple_reply, option_reply, export_info, export_reply, block_size_info, server_data, IsInfo}
+use Rattle.nbd_session.specs.declared.phase.ContextOf.{ContextOf}
+use Rattle.nbd_session.specs.declared.phase.ContextOf.TheVariants as contexts
 use Rattle.nbd_session.specs.declared.phase.Course.{Course}
 use Rattle.nbd_session.specs.declared.phase.Course.TheVariants.{Listens, Works}
 use Rattle.nbd_session.specs.declared.phase.Manner.{Manner}
@@ -74,7 +76,7 @@ is_to_flush (Transmission volume size (Listens manner)) = false
 is_to_flush (Transmission volume size (Works manner rest)) = is_flush (form_of rest)
 is_to_flush Ended = false
 
--- a session whose WRITEs with FUA are kept apart
+-- a session whose requests with FUA are kept apart
 abbrev pub keeps_apart : Phase → Bool
 keeps_apart (Flags profile) = false
 keeps_apart (Options terms) = false
@@ -106,20 +108,20 @@ manner_in (Works manner rest) = manner
 -- ---- what is offered
 
 abbrev pub terms_of : Profile → Bool → Terms
-terms_of profile no_zeroes = record { no_zeroes = no_zeroes; profile = profile; is_structured = false; context = 16777216; tells_blocks = false; since = 16777216 }
+terms_of profile no_zeroes = record { no_zeroes = no_zeroes; profile = profile; is_structured = false; context = contexts.Nothing; tells_blocks = false; since = 16777216 }
 
 -- the same where READs are to be answered in chunks
 abbrev pub in_chunks : Terms → Terms
 in_chunks terms = record { no_zeroes = terms.no_zeroes; profile = terms.profile; is_structured = true; context = terms.context; tells_blocks = terms.tells_blocks; since = terms.since }
 
--- The same where of this volume is to be told: where it has data, if that is asked for, and where it may differ from an older one, if that number is an id.
-abbrev pub in_context : Terms → ℕ → Bool → ℕ → Terms
+-- The same where of this volume, or of these clones, is to be told: where it has data, if that is asked for, and where it may differ from an older one, if that number is an id.
+abbrev pub in_context : Terms → ContextOf → Bool → ℕ → Terms
 in_context terms context tells_blocks since =
     record { no_zeroes = terms.no_zeroes; profile = terms.profile; is_structured = terms.is_structured; context = context; tells_blocks = tells_blocks; since = since }
 
 -- the same where of no volume is to be told
 abbrev pub without_context : Terms → Terms
-without_context terms = in_context terms 16777216 false 16777216
+without_context terms = in_context terms contexts.Nothing false 16777216
 
 abbrev pub is_extended : Profile → Bool
 is_extended Strict = false
@@ -161,30 +163,40 @@ flags_in terms flags = (if is_extended terms.profile then 0x100 else 0) + ((if t
 abbrev pub clone_flags : Terms → ℕ → ℕ
 clone_flags terms flags = (if terms.is_structured then 0x80 else 0) + flags
 
--- the contexts that were asked for are those of this number
-abbrev pub is_told_of : Terms → ℕ → Bool
-is_told_of terms id = terms.is_structured && terms.context == id
+-- the contexts that were asked for are those of this volume, and those of the clones of this one
+abbrev pub is_of_volume : ContextOf → ℕ → Bool
+is_of_volume contexts.Nothing id = false
+is_of_volume (contexts.Volume selected) id = selected == id
+is_of_volume (contexts.Clones origin) id = false
 
--- how requests are taken and answered of a volume, or a clone, of which contexts are asked for by this number
-abbrev pub manner_by : Terms → ℕ → Bool → Manner
-manner_by terms number is_clone = record {
+abbrev pub is_of_clones : ContextOf → ℕ → Bool
+is_of_clones contexts.Nothing id = false
+is_of_clones (contexts.Volume selected) id = false
+is_of_clones (contexts.Clones origin) id = origin == id
+
+-- a client of this volume, or of a clone of this one, is told of it
+abbrev pub is_told_of : Terms → ℕ → Bool
+is_told_of terms id = terms.is_structured && is_of_volume terms.context id
+
+abbrev pub is_told_of_clone : Terms → ℕ → Bool
+is_told_of_clone terms origin = terms.is_structured && is_of_clones terms.context origin
+
+-- how requests are taken and answered of a volume, or a clone, of which is told or not
+abbrev pub manner_by : Terms → Bool → Bool → Manner
+manner_by terms is_told is_clone = record {
   is_extended = is_extended terms.profile;
   is_structured = terms.is_structured;
-  tells_blocks = is_told_of terms number && terms.tells_blocks;
-  since = if is_told_of terms number then terms.since else 16777216;
+  tells_blocks = is_told && terms.tells_blocks;
+  since = if is_told then terms.since else 16777216;
   is_clone = is_clone;
 }
 
 abbrev pub manner_of : Terms → ℕ → Manner
-manner_of terms id = manner_by terms id false
-
--- the number by which contexts are asked for of the clones of a volume: that of none
-abbrev pub clone_context : ℕ → ℕ
-clone_context origin = 16777217 + origin
+manner_of terms id = manner_by terms (is_told_of terms id) false
 
 -- that of a clone of a volume
 abbrev pub clone_manner : Terms → ℕ → Manner
-clone_manner terms origin = manner_by terms (clone_context origin) true
+clone_manner terms origin = manner_by terms (is_told_of_clone terms origin) true
 
 -- transmission begins so, and so that of a clone
 abbrev pub begun : Terms → ℕ → ℕ → Phase
@@ -364,9 +376,9 @@ set_context terms is_asked since = record {
   limit = limit_of terms.profile;
   clones = has_clones terms.profile;
   holds = false;
-  found = λ id size flags. outcome (context_reply OPTION_SET_META_CONTEXT ALLOCATION_CONTEXT SINCE_CONTEXT is_asked since) (Options (in_context terms id is_asked since));
+  found = λ id size flags. outcome (context_reply OPTION_SET_META_CONTEXT ALLOCATION_CONTEXT SINCE_CONTEXT is_asked since) (Options (in_context terms (contexts.Volume id) is_asked since));
   cloned = λ origin id size flags.
-      outcome (context_reply OPTION_SET_META_CONTEXT ALLOCATION_CONTEXT SINCE_CONTEXT is_asked since) (Options (in_context terms (clone_context origin) is_asked since));
+      outcome (context_reply OPTION_SET_META_CONTEXT ALLOCATION_CONTEXT SINCE_CONTEXT is_asked since) (Options (in_context terms (contexts.Clones origin) is_asked since));
   missing = option_error OPTION_SET_META_CONTEXT Unknown (without_context terms);
   refused = option_error OPTION_SET_META_CONTEXT Policy (without_context terms);
 }
@@ -514,7 +526,13 @@ module _ {S : Type 0} (outline : S → Outline) (Calls : S → Call → Answer �
   abbrev pub AnswersRead : ℕ → Manner → Request → S → List ℕ → S → Type 0
   AnswersRead id manner r p sent p' = MatchBool manner.is_structured (ReadsInChunks id r p sent p') (Performs (Read id (r.offset / 512) (r.len / 512)) (reply_to r.cookie) p sent p')
 
-  -- A request of a volume of this size, whose tests had this outcome. Of a long one nothing is made yet, and all of it is left. A WRITE that is kept apart is made without FUA.
+  -- A request that changes sectors, by the call without FUA where it is kept apart, and else by the one that has what the request has.
+  abbrev pub Changes : Call → Call → ℕ → ℕ → Manner → Request → S → List ℕ → Phase → S → Type 0
+  Changes apart call id size manner r p sent next p' =
+      MatchBool (is_kept_apart manner r) (Begins apart id size manner r p sent next p')
+      (Performs call (reply_to r.cookie) p sent p' × (next ≡ Transmission id size (Listens manner)))
+
+  -- A request of a volume of this size, whose tests had this outcome. Of a long one nothing is made yet, and all of it is left.
   abbrev pub Serves : Verdict → ℕ → ℕ → Manner → Request → List ℕ → S → List ℕ → Phase → S → Type 0
   Serves verdicts.Disconnect id size manner r payload p sent next p' = Ends [] (Transmission id size (Listens manner)) p sent next p'
   Serves (verdicts.Refuse e) id size manner r payload p sent next p' =
@@ -522,13 +540,12 @@ module _ {S : Type 0} (outline : S → Outline) (Calls : S → Call → Answer �
   Serves verdicts.Nothing id size manner r payload p sent next p' = Tells (outcome (empty_reply manner r) (Transmission id size (Listens manner))) p sent next p'
   Serves verdicts.Read id size manner r payload p sent next p' = AnswersRead id manner r p sent p' × (next ≡ Transmission id size (Listens manner))
   Serves verdicts.Write id size manner r payload p sent next p' =
-      MatchBool (is_kept_apart manner r)
-      (Begins (Write id (r.offset / 512) (sectors_of payload) false) id size manner r p sent next p')
-      (Performs (Write id (r.offset / 512) (sectors_of payload) (has_fua r)) (reply_to r.cookie) p sent p' × (next ≡ Transmission id size (Listens manner)))
+      Changes (Write id (r.offset / 512) (sectors_of payload) false) (Write id (r.offset / 512) (sectors_of payload) (has_fua r)) id size manner r p sent next p'
   Serves verdicts.Trim id size manner r payload p sent next p' =
-      Performs (Trim id (r.offset / 512) (r.len / 512) (has_fua r)) (reply_to r.cookie) p sent p' × (next ≡ Transmission id size (Listens manner))
+      Changes (Trim id (r.offset / 512) (r.len / 512) false) (Trim id (r.offset / 512) (r.len / 512) (has_fua r)) id size manner r p sent next p'
   Serves verdicts.WriteZeroes id size manner r payload p sent next p' =
-      Performs (WriteZeroes id (r.offset / 512) (r.len / 512) (has_no_hole r) (has_fua r)) (reply_to r.cookie) p sent p' × (next ≡ Transmission id size (Listens manner))
+      Changes (WriteZeroes id (r.offset / 512) (r.len / 512) (has_no_hole r) false) (WriteZeroes id (r.offset / 512) (r.len / 512) (has_no_hole r) (has_fua r))
+      id size manner r p sent next p'
   Serves verdicts.Flush id size manner r payload p sent next p' = Performs Flush (reply_to r.cookie) p sent p' × (next ≡ Transmission id size (Listens manner))
   Serves verdicts.Status id size manner r payload p sent next p' = Describes manner id r p sent p' × (next ≡ Transmission id size (Listens manner))
   Serves verdicts.Long id size manner r payload p sent next p' = Tells (outcome [] (Transmission id size (Works manner r))) p sent next p'

@@ -10,7 +10,7 @@ ghost use Rattle.nbd_wire.specs.Grammar.{payload_len};
 ghost use Rattle.nbd_wire.specs.Reading.{message_of};
 ghost use Rattle.nbd_wire.specs.Replies.{simple_reply};
 ghost use Rattle.nbd_session.specs.Requests.{IsWhole, has_fua, has_no_hole, is_kept_apart, known_bytes, to_keep, verdict_in};
-ghost use Rattle.nbd_session.specs.Session.{Answers, AnswersRead, Begins, GivesUp, LetsGo, Performs, ReadsInChunks, Serves, chunk_to, empty_reply, error_reply, manner_in, reply_to, terms_of};
+ghost use Rattle.nbd_session.specs.Session.{Answers, AnswersRead, Begins, Changes, GivesUp, LetsGo, Performs, ReadsInChunks, Serves, chunk_to, empty_reply, error_reply, manner_in, reply_to, terms_of};
 ghost use Rattle.nbd_session.specs.Buffers.{IsSound};
 ghost use Rattle.tp_model.specs.Clauses.{PoolCall};
 ghost use Rattle.nbd_session.specs.Clauses.{IsOf, IsReady};
@@ -18,7 +18,7 @@ ghost use Rattle.nbd_session.specs.Clauses.{IsOf, IsReady};
 use crate::clones::give_up;
 use crate::holes::{may_have_holes, read_long};
 use crate::options::choose;
-use crate::phase::{Course, Manner, NO_VOLUME, Phase, Profile, Terms, is_of_clone};
+use crate::phase::{ContextOf, Course, Manner, NO_VOLUME, Phase, Profile, Terms, is_of_clone};
 use crate::request::{Verdict, is_chunked, judge_in};
 use crate::status::describe;
 use nbd_wire::{
@@ -310,38 +310,134 @@ fn write<V: Volumes>(
     }
 }
 
-/// A TRIM of some sectors.
-fn trim<V: Volumes>(pool: &mut V, volume: DevId, request: &Request, out: &mut [u8]) -> usize
-    requires form { IsWhole (known_bytes (V.view.outline pool.old).geometry (V.view.more pool.old) volume) request.now }
+/// A TRIM of some sectors that is kept apart, as a WRITE is.
+fn trim_apart<V: Volumes>(
+    pool: &mut V,
+    volume: DevId,
+    size: u64,
+    manner: Manner,
+    request: Request,
+    out: &mut [u8],
+) -> (Phase, usize)
+    requires form { IsWhole (known_bytes (V.view.outline pool.old).geometry (V.view.more pool.old) volume) request }
+    requires whole { IsWhole size request }
+    requires some { 0 < request.len }
     requires room { 16 ≤ length out.old }
-    ensures answer { Performs V.view.outline (PoolCall V.view) (Trim volume (request.now.offset / 512) (request.now.len / 512) (has_fua request.now)) (reply_to request.now.cookie)
-        pool.old (take result out.new) pool.new }
-    ensures fits { result ≤ length out.new }
+    ensures answer { Begins V.view.outline (PoolCall V.view) (Trim volume (request.offset / 512) (request.len / 512) false) volume size manner request
+        pool.old (take result.1 out.new) result.0 pool.new }
+    ensures sound { IsSound result.0 }
+    ensures fits { result.1 ≤ length out.new }
     ensures len { length out.new ≡ length out.old }
 {
     let count = (request.len / 512) as u64;
-    let fua = wants_fua(request);
-    match pool.trim(volume, request.offset / 512, count, fua) {
-        Ok(()) => put_reply(out, 0, request.cookie),
-        Err(refusal) => put_refusal(out, refusal, request.cookie),
+    match pool.trim(volume, request.offset / 512, count, false) {
+        Ok(()) => (at_work(volume, size, manner, to_keep(request)), 0),
+        Err(refusal) => (
+            listening(volume, size, manner),
+            put_refusal(out, refusal, request.cookie),
+        ),
     }
 }
 
-/// A WRITE_ZEROES of some sectors.
-fn write_zeroes<V: Volumes>(pool: &mut V, volume: DevId, request: &Request, out: &mut [u8]) -> usize
-    requires form { IsWhole (known_bytes (V.view.outline pool.old).geometry (V.view.more pool.old) volume) request.now }
+/// A TRIM of some sectors, whose volume has so many bytes.
+fn trim<V: Volumes>(
+    pool: &mut V,
+    volume: DevId,
+    size: u64,
+    manner: Manner,
+    request: Request,
+    out: &mut [u8],
+) -> (Phase, usize)
+    requires form { IsWhole (known_bytes (V.view.outline pool.old).geometry (V.view.more pool.old) volume) request }
+    requires whole { IsWhole size request }
+    requires some { 0 < request.len }
     requires room { 16 ≤ length out.old }
-    ensures answer { Performs V.view.outline (PoolCall V.view) (WriteZeroes volume (request.now.offset / 512) (request.now.len / 512) (has_no_hole request.now) (has_fua request.now))
-        (reply_to request.now.cookie) pool.old (take result out.new) pool.new }
-    ensures fits { result ≤ length out.new }
+    ensures answer { Changes V.view.outline (PoolCall V.view) (Trim volume (request.offset / 512) (request.len / 512) false)
+        (Trim volume (request.offset / 512) (request.len / 512) (has_fua request)) volume size manner request pool.old (take result.1 out.new) result.0 pool.new }
+    ensures sound { IsSound result.0 }
+    ensures fits { result.1 ≤ length out.new }
+    ensures len { length out.new ≡ length out.old }
+{
+    let same = Phase::Transmission {
+        volume,
+        size,
+        course: Course::Listens { manner },
+    };
+    if is_kept_apart(manner, &request) {
+        return trim_apart(pool, volume, size, manner, request, out);
+    }
+    let count = (request.len / 512) as u64;
+    let fua = wants_fua(&request);
+    match pool.trim(volume, request.offset / 512, count, fua) {
+        Ok(()) => (same, put_reply(out, 0, request.cookie)),
+        Err(refusal) => (same, put_refusal(out, refusal, request.cookie)),
+    }
+}
+
+/// A WRITE_ZEROES of some sectors that is kept apart, as a WRITE is.
+fn write_zeroes_apart<V: Volumes>(
+    pool: &mut V,
+    volume: DevId,
+    size: u64,
+    manner: Manner,
+    request: Request,
+    out: &mut [u8],
+) -> (Phase, usize)
+    requires form { IsWhole (known_bytes (V.view.outline pool.old).geometry (V.view.more pool.old) volume) request }
+    requires whole { IsWhole size request }
+    requires some { 0 < request.len }
+    requires room { 16 ≤ length out.old }
+    ensures answer { Begins V.view.outline (PoolCall V.view) (WriteZeroes volume (request.offset / 512) (request.len / 512) (has_no_hole request) false) volume size manner request
+        pool.old (take result.1 out.new) result.0 pool.new }
+    ensures sound { IsSound result.0 }
+    ensures fits { result.1 ≤ length out.new }
     ensures len { length out.new ≡ length out.old }
 {
     let count = (request.len / 512) as u64;
-    let no_hole = wants_no_hole(request);
-    let fua = wants_fua(request);
+    let no_hole = wants_no_hole(&request);
+    match pool.write_zeroes(volume, request.offset / 512, count, no_hole, false) {
+        Ok(()) => (at_work(volume, size, manner, to_keep(request)), 0),
+        Err(refusal) => (
+            listening(volume, size, manner),
+            put_refusal(out, refusal, request.cookie),
+        ),
+    }
+}
+
+/// A WRITE_ZEROES of some sectors, whose volume has so many bytes.
+fn write_zeroes<V: Volumes>(
+    pool: &mut V,
+    volume: DevId,
+    size: u64,
+    manner: Manner,
+    request: Request,
+    out: &mut [u8],
+) -> (Phase, usize)
+    requires form { IsWhole (known_bytes (V.view.outline pool.old).geometry (V.view.more pool.old) volume) request }
+    requires whole { IsWhole size request }
+    requires some { 0 < request.len }
+    requires room { 16 ≤ length out.old }
+    ensures answer { Changes V.view.outline (PoolCall V.view) (WriteZeroes volume (request.offset / 512) (request.len / 512) (has_no_hole request) false)
+        (WriteZeroes volume (request.offset / 512) (request.len / 512) (has_no_hole request) (has_fua request)) volume size manner request
+        pool.old (take result.1 out.new) result.0 pool.new }
+    ensures sound { IsSound result.0 }
+    ensures fits { result.1 ≤ length out.new }
+    ensures len { length out.new ≡ length out.old }
+{
+    let same = Phase::Transmission {
+        volume,
+        size,
+        course: Course::Listens { manner },
+    };
+    if is_kept_apart(manner, &request) {
+        return write_zeroes_apart(pool, volume, size, manner, request, out);
+    }
+    let count = (request.len / 512) as u64;
+    let no_hole = wants_no_hole(&request);
+    let fua = wants_fua(&request);
     match pool.write_zeroes(volume, request.offset / 512, count, no_hole, fua) {
-        Ok(()) => put_reply(out, 0, request.cookie),
-        Err(refusal) => put_refusal(out, refusal, request.cookie),
+        Ok(()) => (same, put_reply(out, 0, request.cookie)),
+        Err(refusal) => (same, put_refusal(out, refusal, request.cookie)),
     }
 }
 
@@ -425,8 +521,8 @@ fn serve<V: Cloned>(
         Verdict::Nothing => (same, put_nothing(out, manner, &request)),
         Verdict::Read => (same, read(pool, volume, manner, &request, out)),
         Verdict::Write => write(pool, volume, size, manner, request, payload, out),
-        Verdict::Trim => (same, trim(pool, volume, &request, out)),
-        Verdict::WriteZeroes => (same, write_zeroes(pool, volume, &request, out)),
+        Verdict::Trim => trim(pool, volume, size, manner, request, out),
+        Verdict::WriteZeroes => write_zeroes(pool, volume, size, manner, request, out),
         Verdict::Flush => (same, flush(pool, request.cookie, out)),
         Verdict::Long => (at_work(volume, size, manner, request), 0),
         Verdict::Status => (same, describe(pool, volume, manner, &request, out)),
@@ -442,7 +538,7 @@ fn agree(profile: Profile, no_zeroes: bool) -> Phase
             no_zeroes,
             profile,
             is_structured: false,
-            context: NO_VOLUME,
+            context: ContextOf::Nothing,
             tells_blocks: false,
             since: NO_VOLUME,
         },

@@ -4,14 +4,14 @@ ghost use Rattle.std.specs.Prelude.{◌≡◌, ◌≤◌, ◌<◌, ℕ, length, 
 ghost use Rattle.tp_model.specs.Pool.{hold_count, hold_total};
 ghost use Rattle.tp_model.specs.Calls.{Done, Refused};
 ghost use Rattle.tp_model.specs.Clauses.{PoolCall};
-ghost use Rattle.nbd_session.specs.Looking.{TakesClone, TakesHoldOfClone, Tries};
-ghost use Rattle.nbd_session.specs.Session.{AsksFor, Clones, GivesUp, IsOutcome, Snaps, begun_clone, clone_context, clone_flags, clone_manner, export_name, go, info, is_of_failure, is_of_none, is_taken, of_clone, set_context, uncloned};
+ghost use Rattle.nbd_session.specs.Looking.{MakesClone, TakesClone, TakesHoldOfClone, Tries};
+ghost use Rattle.nbd_session.specs.Session.{AsksFor, Clones, GivesUp, IsOutcome, Snaps, begun_clone, clone_flags, clone_manner, export_name, go, info, is_of_failure, is_of_none, is_taken, of_clone, set_context, uncloned};
 
 use crate::options::{
-    answer_error, find, flags_of, in_context, manner_by, put_contexts, put_info_reply, size_of,
-    without_context,
+    answer_error, find, flags_of, in_context, is_told_of_clone, manner_by, put_contexts,
+    put_info_reply, size_of, without_context,
 };
-use crate::phase::{Course, FIRST_CLONE, Manner, NO_VOLUME, Phase, Terms};
+use crate::phase::{ContextOf, Course, FIRST_CLONE, MOST_CLONES, Manner, Phase, Terms};
 use nbd_wire::{
     ALLOCATION_CONTEXT, OPTION_GO, OPTION_INFO, OPTION_SET_META_CONTEXT, ReplyType, SINCE_CONTEXT,
     put_export_reply,
@@ -19,7 +19,7 @@ use nbd_wire::{
 use tp_model::{Cloned, DevId, Geometry, Refusal, Volumes};
 
 /// How many ids are tried before the last one.
-const BEFORE_LAST: u32 = 63;
+const BEFORE_LAST: u32 = MOST_CLONES - 1;
 
 /// The transmission flag SEND_DF.
 const SEND_DF: u16 = 0x80;
@@ -33,18 +33,11 @@ fn clone_flags(terms: Terms, flags: u16) -> u16
     send_df + flags
 }
 
-/// The number by which contexts are asked for of the clones of a volume.
-fn clone_context(origin: DevId) -> u32
-    ensures { result ≡ clone_context origin }
-{
-    NO_VOLUME + 1 + origin.number()
-}
-
 /// How requests of a clone are taken and answered once transmission begins.
 fn clone_manner(terms: Terms, origin: DevId) -> Manner
     ensures { result ≡ clone_manner terms origin }
 {
-    manner_by(terms, clone_context(origin), true)
+    manner_by(terms, is_told_of_clone(terms, origin.number()), true)
 }
 
 /// Where a session stands that begins with transmission of a clone.
@@ -139,6 +132,32 @@ fn hold_clone<V: Cloned>(pool: &mut V, geometry: &Geometry, id: DevId) -> Result
     }
 }
 
+/// What became of a clone that was asked for.
+#[derive(Clone, Copy, Debug)]
+pub enum Made {
+    /// It was made, and is held: its id, and its size in bytes.
+    Held { id: DevId, size: u64 },
+    /// None was made.
+    NotMade(Refusal),
+    /// It was made, but it could not be held, or its size was refused: it was given up.
+    GivenUp,
+}
+
+/// Makes a clone of a volume, which is held from now on.
+fn make_clone<V: Cloned>(pool: &mut V, origin: DevId) -> Made
+    requires ready { hold_total (V.view.outline pool.old).holds < 64 }
+    ensures { MakesClone V.view.outline (PoolCall V.view) origin result pool.old pool.new }
+{
+    let geometry = pool.geometry();
+    match snapshot(pool, origin) {
+        Ok(id) => match hold_clone(pool, &geometry, id) {
+            Ok(size) => Made::Held { id, size },
+            Err(_) => Made::GivenUp,
+        },
+        Err(refusal) => Made::NotMade(refusal),
+    }
+}
+
 /// Whether no clone was made since there is no such volume.
 fn is_of_none(refusal: Refusal) -> bool
     ensures { result ≡ is_of_none refusal }
@@ -183,16 +202,13 @@ pub(crate) fn enter_clone<V: Cloned>(
     ensures len { length out.new ≡ length out.old }
 {
     let flags = clone_flags(terms, flags_of(pool.mode()));
-    let geometry = pool.geometry();
-    match snapshot(pool, origin) {
-        Ok(id) => match hold_clone(pool, &geometry, id) {
-            Ok(size) => (
-                begin_clone(terms, origin, id, size),
-                put_info_reply(out, OPTION_GO, size, flags),
-            ),
-            Err(_) => (Phase::Ended, 0),
-        },
-        Err(refusal) => refuse_clone(terms, refusal, out),
+    match make_clone(pool, origin) {
+        Made::Held { id, size } => (
+            begin_clone(terms, origin, id, size),
+            put_info_reply(out, OPTION_GO, size, flags),
+        ),
+        Made::NotMade(refusal) => refuse_clone(terms, refusal, out),
+        Made::GivenUp => (Phase::Ended, 0),
     }
 }
 
@@ -210,16 +226,13 @@ pub(crate) fn export_clone<V: Cloned>(
     ensures len { length out.new ≡ length out.old }
 {
     let flags = clone_flags(terms, flags_of(pool.mode()));
-    let geometry = pool.geometry();
-    match snapshot(pool, origin) {
-        Ok(id) => match hold_clone(pool, &geometry, id) {
-            Ok(size) => {
-                let sent = put_export_reply(out, 0, size, flags, terms.no_zeroes);
-                (begin_clone(terms, origin, id, size), sent)
-            }
-            Err(_) => (Phase::Ended, 0),
-        },
-        Err(_) => (Phase::Ended, 0),
+    match make_clone(pool, origin) {
+        Made::Held { id, size } => {
+            let sent = put_export_reply(out, 0, size, flags, terms.no_zeroes);
+            (begin_clone(terms, origin, id, size), sent)
+        }
+        Made::NotMade(_) => (Phase::Ended, 0),
+        Made::GivenUp => (Phase::Ended, 0),
     }
 }
 
@@ -262,7 +275,7 @@ pub(crate) fn set_clone<V: Volumes>(
 {
     match find(pool, origin) {
         Ok(Some(_)) => {
-            let terms = in_context(terms, clone_context(origin), is_asked, since);
+            let terms = in_context(terms, ContextOf::Clones(origin.number()), is_asked, since);
             let sent = put_contexts(
                 out,
                 OPTION_SET_META_CONTEXT,

@@ -30,6 +30,8 @@ pub use laws::{
     statuses_are_exact, turns_are_traced,
 };
 pub use name::id_of;
-pub use phase::{Course, Manner, Phase, Profile, Terms, has_clones};
+pub use phase::{
+    ContextOf, Course, FIRST_CLONE, MOST_CLONES, Manner, Phase, Profile, Terms, has_clones,
+};
 pub use session::{Answered, Session, Step};
 pub use shared::begins_with_look;

@@ -5,7 +5,7 @@ ghost use Rattle.std.specs.Str.{all_ascii_digits};
 ghost use Rattle.tp_model.specs.Digits.{number_after};
 ghost use Rattle.nbd_session.specs.Session.{IsNameOf, Means, MeansClone, clone_prefix, default_of, has_clones, limit_of};
 
-use crate::phase::{FIRST_CLONE, Profile, has_clones, limit_of};
+use crate::phase::{FIRST_CLONE, NO_VOLUME, Profile, has_clones, limit_of};
 use tp_model::DevId;
 
 /// The number that decimal digits write, where all of a text is such digits.
@@ -133,14 +133,14 @@ fn default_of(profile: Profile) -> Option<DevId>
     match profile {
         Profile::Strict | Profile::Extended => None,
         Profile::WithDefault { volume } => {
-            if volume < 16_777_216 {
+            if volume < NO_VOLUME {
                 Some(DevId::new(volume))
             } else {
                 None
             }
         }
         Profile::Cloning { volume } => {
-            if volume < 8_388_608 {
+            if volume < FIRST_CLONE {
                 Some(DevId::new(volume))
             } else {
                 None

@@ -9,12 +9,12 @@ ghost use Rattle.nbd_wire.specs.Contexts.{asks_for, context_data, lists, since_n
 ghost use Rattle.nbd_wire.specs.Replies.{option_reply};
 ghost use Rattle.nbd_session.specs.Requests.{bytes_of_blocks};
 ghost use Rattle.nbd_session.specs.Looking.{IsTold, Learns, LooksUp, Sought, TakesHold, TakesOn};
-ghost use Rattle.nbd_session.specs.Session.{AsksFor, Chooses, Exports, Extends, Informs, IsOutcome, LooksFor, Queries, SeeksFor, allocation_reply, begun, context_reply, export_name, flags_in, go, in_context, info, info_reply, is_told_of, limit_of, list_context, manner_by, manner_of, option_error, set_context, since_reply, structures, without_context};
+ghost use Rattle.nbd_session.specs.Session.{AsksFor, Chooses, Exports, Extends, Informs, IsOutcome, LooksFor, Queries, SeeksFor, allocation_reply, begun, context_reply, export_name, flags_in, go, in_context, info, info_reply, is_of_clones, is_of_volume, is_told_of, is_told_of_clone, limit_of, list_context, manner_by, manner_of, option_error, set_context, since_reply, structures, without_context};
 
 use crate::clones::{enter_clone, export_clone, set_clone, tell_clone};
 use crate::listing::list;
 use crate::name::{meant, named_in, origin_in};
-use crate::phase::{Course, Manner, NO_VOLUME, Phase, Profile, Terms, is_extended};
+use crate::phase::{ContextOf, Course, Manner, NO_VOLUME, Phase, Profile, Terms, is_extended};
 use itoa::Buffer;
 use nbd_wire::{
     ALLOCATION_CONTEXT, OPTION_ABORT, OPTION_EXPORT_NAME, OPTION_GO, OPTION_INFO, OPTION_LIST,
@@ -102,11 +102,38 @@ fn flags_in(terms: Terms, flags: u16) -> u16
     multi_conn + (send_df + flags)
 }
 
-/// Whether the contexts that were asked for are those of this number.
+/// Whether the contexts that were asked for are those of the volume of this number.
+fn is_of_volume(context: ContextOf, number: u32) -> bool
+    ensures { result ≡ is_of_volume context number }
+{
+    match context {
+        ContextOf::Volume(selected) => selected == number,
+        ContextOf::Nothing | ContextOf::Clones(_) => false,
+    }
+}
+
+/// Whether they are those of its clones.
+fn is_of_clones(context: ContextOf, number: u32) -> bool
+    ensures { result ≡ is_of_clones context number }
+{
+    match context {
+        ContextOf::Clones(origin) => origin == number,
+        ContextOf::Nothing | ContextOf::Volume(_) => false,
+    }
+}
+
+/// Whether a client of the volume of this number is told of it.
 fn is_told_of(terms: Terms, number: u32) -> bool
     ensures { result ≡ is_told_of terms number }
 {
-    terms.is_structured && terms.context == number
+    terms.is_structured && is_of_volume(terms.context, number)
+}
+
+/// Whether a client of a clone of it is told of that.
+pub(crate) fn is_told_of_clone(terms: Terms, number: u32) -> bool
+    ensures { result ≡ is_told_of_clone terms number }
+{
+    terms.is_structured && is_of_clones(terms.context, number)
 }
 
 /// Since which older volume is to be told, where anything is.
@@ -116,11 +143,10 @@ fn since_where(is_told: bool, since: u32) -> u32
     if is_told { since } else { NO_VOLUME }
 }
 
-/// How requests are taken and answered once transmission begins, of a volume or a clone of which contexts are asked for by this number.
-pub(crate) fn manner_by(terms: Terms, number: u32, is_clone: bool) -> Manner
-    ensures { result ≡ manner_by terms number is_clone }
+/// How requests are taken and answered once transmission begins, of a volume or a clone, of which the client is told or not.
+pub(crate) fn manner_by(terms: Terms, is_told: bool, is_clone: bool) -> Manner
+    ensures { result ≡ manner_by terms is_told is_clone }
 {
-    let is_told = is_told_of(terms, number);
     Manner {
         is_extended: is_extended(terms.profile),
         is_structured: terms.is_structured,
@@ -134,11 +160,11 @@ pub(crate) fn manner_by(terms: Terms, number: u32, is_clone: bool) -> Manner
 fn manner_of(terms: Terms, volume: DevId) -> Manner
     ensures { result ≡ manner_of terms volume }
 {
-    manner_by(terms, volume.number(), false)
+    manner_by(terms, is_told_of(terms, volume.number()), false)
 }
 
 /// The same terms with other contexts.
-pub(crate) fn in_context(terms: Terms, context: u32, tells_blocks: bool, since: u32) -> Terms
+pub(crate) fn in_context(terms: Terms, context: ContextOf, tells_blocks: bool, since: u32) -> Terms
     ensures { result ≡ in_context terms context tells_blocks since }
 {
     Terms {
@@ -153,7 +179,7 @@ pub(crate) fn in_context(terms: Terms, context: u32, tells_blocks: bool, since: 
 pub(crate) fn without_context(terms: Terms) -> Terms
     ensures { result ≡ without_context terms }
 {
-    in_context(terms, NO_VOLUME, false, NO_VOLUME)
+    in_context(terms, ContextOf::Nothing, false, NO_VOLUME)
 }
 
 /// The reply that tells `base:allocation` under a number, at the front, where it is asked for.
@@ -292,7 +318,7 @@ fn tell_set<V: Volumes>(
 {
     match find(pool, volume) {
         Ok(Some(_)) => {
-            let terms = in_context(terms, volume.number(), is_asked, since);
+            let terms = in_context(terms, ContextOf::Volume(volume.number()), is_asked, since);
             let sent = put_contexts(
                 out,
                 OPTION_SET_META_CONTEXT,

@@ -1,4 +1,4 @@
-//! Parts of a long request, and the FLUSH that is left of a WRITE.
+//! Parts of a long request, and the FLUSH that is left of one that is kept apart.
 
 ghost use Rattle.std.specs.Prelude.{◌≡◌, ◌≤◌, ◌<◌, ◌+◌, ◌%◌, false, length, take, MatchResult};
 ghost use Rattle.tp_model.specs.Calls.{Done, Refused};
@@ -107,7 +107,7 @@ fn ask_long<V: Volumes>(
     }
 }
 
-/// Asks the pool for what is made next of a request: the next part of a long one, or the FLUSH that is left of a WRITE.
+/// Asks the pool for what is made next of a request: the next part of a long one, or the FLUSH that is left of one that is kept apart.
 fn ask_part<V: Volumes>(
     pool: &mut V,
     volume: DevId,

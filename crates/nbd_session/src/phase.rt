@@ -11,8 +11,8 @@ use tp_model::DevId;
 pub enum Profile {
     /// One connection for each client, requests of at most 1 MiB, and no volume for the empty name.
     Strict,
-    /// Several connections of one client, TRIM and WRITE_ZEROES of any length, structured replies to READ, and BLOCK_STATUS. Its WRITEs with FUA are kept apart:
-    /// each is made, and then flushed.
+    /// Several connections of one client, TRIM and WRITE_ZEROES of any length, structured replies to READ, and BLOCK_STATUS. Its WRITEs, TRIMs and
+    /// WRITE_ZEROES with FUA are kept apart: each is made, and then flushed, but for long ones.
     Extended,
     /// The same, and this volume for the empty name; none where the number is over 16777215.
     WithDefault { volume: u32 },
@@ -58,7 +58,21 @@ impl Profile {
 pub(crate) const NO_VOLUME: u32 = 16_777_216;
 
 /// The least id that a clone may have, where there are clones.
-pub(crate) const FIRST_CLONE: u32 = 8_388_608;
+pub const FIRST_CLONE: u32 = 8_388_608;
+
+/// How many ids from that one on may be those of clones: no more sessions have one.
+pub const MOST_CLONES: u32 = 64;
+
+/// What a client asked to be told of by SET_META_CONTEXT.
+#[derive(Clone, Copy, Debug, PartialEq, Eq)]
+pub enum ContextOf {
+    /// No volume.
+    Nothing,
+    /// The volume of this number.
+    Volume(u32),
+    /// The clones of the volume of this number.
+    Clones(u32),
+}
 
 /// What a session and its client have agreed on so far.
 #[derive(Clone, Copy, Debug, PartialEq, Eq)]
@@ -69,12 +83,11 @@ pub struct Terms {
     pub profile: Profile,
     /// Whether READs are to be answered in chunks, as the client has asked for.
     pub is_structured: bool,
-    /// The volume of which the client wants to be told; where the number is over 16777216 a clone of the volume whose id is by 16777217 less, and none where it is
-    /// 16777216.
-    pub context: u32,
-    /// Whether it wants to be told where that volume has data.
+    /// The volume, or the clones, whose block status the client asked for.
+    pub context: ContextOf,
+    /// Whether it wants to be told where they have data.
     pub tells_blocks: bool,
-    /// The older volume from which it wants to be told where that one may differ; none where the number is over 16777215.
+    /// The number of the older volume of the context `thinpool:since:ID`, if that was chosen. A number over 16777215 stands for no volume.
     pub since: u32,
 }
 
@@ -98,7 +111,7 @@ pub struct Manner {
 pub enum Course {
     /// It takes a request.
     Listens { manner: Manner },
-    /// It makes the next part of a request of which so much is left, or the FLUSH that is left of a WRITE.
+    /// It works on a request, of which `rest` is left: the next part of a long one, or the FLUSH of one that is kept apart.
     Works { manner: Manner, rest: Request },
 }
 
@@ -184,7 +197,7 @@ pub fn is_to_flush(phase: Phase) -> bool
     }
 }
 
-/// Whether its WRITEs with FUA are kept apart.
+/// Whether its WRITEs, TRIMs and WRITE_ZEROES with FUA are kept apart.
 pub fn keeps_apart(phase: Phase) -> bool
     ensures { result ≡ keeps_apart phase }
 {

@@ -107,7 +107,7 @@ impl Session {
         is_to_flush(self.phase)
     }
 
-    /// Whether its WRITEs with FUA are kept apart.
+    /// Whether its WRITEs, TRIMs and WRITE_ZEROES with FUA are kept apart.
     pub fn keeps_apart(&self) -> bool
         ensures { result ≡ keeps_apart self.now.phase }
     {

@@ -180,41 +180,6 @@ fn serve<V: Volumes, S: SharedReads<V>>(
     }
 }
 
-/// Takes the READ or BLOCK_STATUS with which a piece begins, of a session that holds nothing of a frame, and whose volume has so many bytes.
-fn take_from<V: Volumes, S: SharedReads<V>>(
-    pool: &S,
-    volume: DevId,
-    size: u64,
-    manner: Manner,
-    piece: &[u8],
-    out: &mut [u8],
-) -> Option<Answered>
-    requires size { size ≡ known_bytes (V.view.outline (S.of pool.now)).geometry (V.view.more (S.of pool.now)) volume }
-    requires room { MAX_ANSWER ≤ length out.old }
-    ensures steps { IfSome result (λ a. Steps V.view.outline (PoolCall V.view) (state (Phase.Transmission volume size (Course.Listens manner)) []) (S.of pool.now) piece.now
-        a.taken (take a.sent out.new) a.ended (state (Phase.Transmission volume size (Course.Listens manner)) []) (S.of pool.now)) }
-    ensures begins { IfSome result (λ a. BeginsWithLook piece.now) }
-    ensures goes_on { IfSome result (λ a. (a.ended ≡ false) × (0 < a.taken) × (a.taken ≤ length piece.now)) }
-    ensures fits { IfSome result (λ a. a.sent ≤ length out.new) }
-    ensures len { length out.new ≡ length out.old }
-{
-    let length = wanted(Kind::Requests, piece);
-    if length > piece.len() {
-        return None;
-    }
-    match read_frame(Kind::Requests, &piece[..length]) {
-        Frame::Command { request, .. } => match serve(pool, volume, size, manner, request, out) {
-            Some(sent) => Some(Answered {
-                taken: length,
-                sent,
-                ended: false,
-            }),
-            None => None,
-        },
-        _ => None,
-    }
-}
-
 /// Takes the READ or BLOCK_STATUS with which a piece begins, of a session that holds nothing of a frame.
 pub fn take_read<V: Volumes, S: SharedReads<V>>(
     phase: Phase,
@@ -237,7 +202,25 @@ pub fn take_read<V: Volumes, S: SharedReads<V>>(
             size,
             course,
         } => match course {
-            Course::Listens { manner } => take_from(pool, volume, size, manner, piece, out),
+            Course::Listens { manner } => {
+                let length = wanted(Kind::Requests, piece);
+                if length > piece.len() {
+                    return None;
+                }
+                match read_frame(Kind::Requests, &piece[..length]) {
+                    Frame::Command { request, .. } => {
+                        match serve(pool, volume, size, manner, request, out) {
+                            Some(sent) => Some(Answered {
+                                taken: length,
+                                sent,
+                                ended: false,
+                            }),
+                            None => None,
+                        }
+                    }
+                    _ => None,
+                }
+            }
             Course::Works { .. } => None,
         },
         _ => None,

@@ -324,7 +324,7 @@ module _ (HasUse : PlainPool → Type 0) where
             (subst (λ (v : Verdict). Serves outline_of_traced (TracedCall HasUse) v f.volume f.size f.manner r [] p (simple_reply 0 r.cookie []) (h.sessions n).phase h.pool) (verdict_is f.manner f.size r f.is_flush) answered)
       ]
 
-  -- the same of the FLUSH that was left of a WRITE
+  -- the same of the FLUSH that was left of a request
   part_keeps : (p t : Traced) (volume size : ℕ) (m : Manner) (r : Request) (next : Phase) → r.kind ≡ COMMAND_FLUSH → r.cookie < 2 ^ 64
       → MakesPart outline_of_traced (TracedCall HasUse) volume size m r p (simple_reply 0 r.cookie []) next t → Flushed p t
   part_keeps p t volume size m r next is fits part =

@@ -27,7 +27,7 @@ pub record IsFlushed {S : Type 0} (at : Sessions) (h : Happened S) : Type 0 wher
   pub frame : IsRequest ((at session).held ++ piece) request []
   pub turn : h.turn ≡ Hears session piece (length piece) (simple_reply 0 request.cookie []) false
 
--- In this turn the FLUSH that was left of a WRITE of some session was made, and answered without an error.
+-- In this turn the FLUSH that was left of a request of some session was made, and answered without an error.
 pub record IsKept {S : Type 0} (at : Sessions) (h : Happened S) : Type 0 where
   pub session : ℕ
   pub volume : ℕ

@@ -243,7 +243,7 @@ fn step_at<V: Cloned>(
     session.step_into(pool, piece, &mut bytes[at..])
 }
 
-/// The same over a buffer.
+/// Takes a step as `step_at` does, over a vector.
 fn step_in<V: Cloned>(
     session: &mut Session,
     pool: &mut V,
@@ -280,7 +280,7 @@ fn read_at<V: Volumes, S: SharedReads<V>>(
     session.read_shared(pool, piece, &mut bytes[at..])
 }
 
-/// The same over a buffer.
+/// Answers as `read_at` does, over a vector.
 fn read_in<V: Volumes, S: SharedReads<V>>(
     session: &Session,
     pool: &S,

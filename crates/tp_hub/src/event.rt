@@ -9,7 +9,7 @@ pub enum Event<'a> {
     Open(u8, Profile),
     /// A session's client sends a piece, cut anywhere.
     Bytes(u8, &'a [u8]),
-    /// The same, up to where a long request begins, or where a FLUSH is left of a WRITE; where parts of one are left, one of them, and no text may come. Who asks so
+    /// The same, up to where a long request begins, or where a FLUSH is left of a request with FUA; where parts of one are left, one of them, and no text may come. Who asks so
     /// may have others asked between two parts.
     Parted(u8, &'a [u8]),
     /// A session's client goes.

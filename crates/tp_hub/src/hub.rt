@@ -96,7 +96,7 @@ impl<V: Volumes> Hub<V> {
         to_flush(&self.sessions, number)
     }
 
-    /// Whether a session's WRITEs with FUA are kept apart.
+    /// Whether a session's WRITEs, TRIMs and WRITE_ZEROES with FUA are kept apart.
     pub fn keeps_apart(&self, number: u8) -> bool
         requires { number < 64 }
         ensures { result ≡ keeps_apart (sessions_of self.now.slots number).phase }
@@ -209,7 +209,7 @@ impl<V: Managed> Hub<V> {
     /// `Open` of a session that is open is refused `SessionInUse`, `Bytes` and `Hangup` of one that is not `NoSession`. What stands
     /// in a piece behind its session's end is dropped. The parts of a long request are made one behind the other, each in a turn of its own, and no session has any
     /// left behind `Bytes`: `Parted` stops where the first one is to be made, and makes one of them where it brings no text. Text for a session that has parts left
-    /// is refused `SessionInUse`. A WRITE that is kept apart has one such part, the FLUSH that answers it.
+    /// is refused `SessionInUse`. A request that is kept apart has one such part, the FLUSH that answers it.
     ///
     /// A line that is no message is refused for its text (`UnknownMessage`, `BadSyntax` or `BadDeviceId`), and the pool is not asked; for any other line the
     /// pool is asked once, and `Done` or its refusal answers it. A status line is the pool's at its turn; that of a volume whose number is over 16777215 is
@@ -289,7 +289,7 @@ fn to_flush(sessions: &[Option<Session>; SESSIONS], number: u8) -> bool
     }
 }
 
-/// Whether WRITEs with FUA of the session of a number are kept apart.
+/// Whether WRITEs, TRIMs and WRITE_ZEROES with FUA of the session of a number are kept apart.
 pub(crate) fn apart(sessions: &[Option<Session>; SESSIONS], number: u8) -> bool
     requires count { length sessions.now ≡ 64 }
     requires number { number < 64 }

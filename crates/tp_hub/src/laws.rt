@@ -76,7 +76,7 @@ pub fn hub_lives_are_plain<V: Volumes>()
 /// CAN_MULTI_CONN in the protocol's words: a FLUSH that one client was answered covers what every client was answered before.
 ///
 /// In the turns of a life of plain volumes, which are those of the hub (`hub_lives_are_plain`), some session's FLUSH is answered without an error, its own or the one that
-/// was left of its WRITE with FUA, whose answer it is. What is found behind a
+/// was left of its request with FUA, whose answer it is. What is found behind a
 /// stop at any moment since is the state behind that answer and some of the later events, but for sectors that were given a value in those behind these; where nothing
 /// came since, it is the state behind the answer. So a sector that an earlier request of any session wrote is found as that one left it, or as a later event
 /// left it or gave it.

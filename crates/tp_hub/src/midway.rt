@@ -82,7 +82,7 @@ impl<V: Staged> MidHub<V> {
         seat_at(&self.sessions, number)
     }
 
-    /// Whether a session's WRITEs with FUA are kept apart.
+    /// Whether a session's WRITEs, TRIMs and WRITE_ZEROES with FUA are kept apart.
     pub fn keeps_apart(&self, number: u8) -> bool
         requires { number < 64 }
         ensures { result ≡ keeps_apart (sessions_of self.now.slots number).phase }
@@ -213,7 +213,7 @@ impl<V: Staged> MidMessage<V> {
         self.mid.seat(number)
     }
 
-    /// Whether a session's WRITEs with FUA are kept apart.
+    /// Whether a session's WRITEs, TRIMs and WRITE_ZEROES with FUA are kept apart.
     pub fn keeps_apart(&self, number: u8) -> bool
         requires { number < 64 }
     {

@@ -3,9 +3,8 @@
 ghost use Rattle.std.specs.Prelude.{◌≡◌, ◌<◌, ◌≤◌, None, false, length, take, IfSome};
 ghost use Rattle.nbd_session.specs.Session.{has_ended, is_at_work};
 ghost use Rattle.nbd_session.specs.Clauses.{IsReady};
-ghost use Rattle.nbd_session.specs.Turns.{Sessions};
-ghost use Rattle.tp_hub.specs.Places.{HearsAnywhere, IsAskedStill, IsRan, IsReadySlot, IsWider};
-ghost use Rattle.tp_hub.specs.Serving.{Serves, sessions_of, shown};
+ghost use Rattle.tp_hub.specs.Places.{HearsAnywhere, IsAskedStill, IsRan, IsWider};
+ghost use Rattle.tp_hub.specs.Serving.{Serves, sessions_of};
 
 use crate::answers::Answers;
 use crate::hub::{Ran, SESSIONS};
@@ -40,7 +39,7 @@ fn hear<V: Volumes, S: SharedReads<V>>(
     at
 }
 
-/// What was taken of a piece of `len` bytes, if anything was.
+/// What the hub tells where `bytes` of a piece of `len` bytes were taken; none where nothing was.
 fn ran(bytes: usize, len: usize) -> Option<Ran>
     requires { bytes ≤ len }
     ensures some { IfSome result (λ r. (0 < bytes) × IsRan bytes len r.events r.bytes) }
@@ -58,32 +57,7 @@ fn ran(bytes: usize, len: usize) -> Option<Ran>
     })
 }
 
-/// The session at a place takes the READs and BLOCK_STATUSes with which a piece begins.
-fn ask_slot<V: Volumes, S: SharedReads<V>>(
-    slot: &Option<Session>,
-    pool: &S,
-    number: u8,
-    piece: &[u8],
-    out: &mut Answers,
-) -> Option<Ran>
-    requires { IsReadySlot slot.now (V.view.outline (S.of pool.now)) (V.view.more (S.of pool.now)) }
-    ensures asked { (at : Sessions) → at number ≡ shown slot.now
-        → IfSome result (λ r. IsAskedStill V.view number piece.now at (S.of pool.now) r.events r.bytes out.old out.new) }
-    ensures none { result ≡ None → IsWider out.old out.new }
-{
-    match slot {
-        None => None,
-        Some(session) => {
-            if session.is_at_work() {
-                return None;
-            }
-            let bytes = hear(session, pool, number, piece, out);
-            ran(bytes, piece.len())
-        }
-    }
-}
-
-/// The session of a number does.
+/// The session of this number takes the READs and BLOCK_STATUSes with which a piece begins. None where it takes none, as where nobody is there or parts of a request are left.
 pub fn ask_place<V: Volumes, S: SharedReads<V>>(
     sessions: &[Option<Session>; SESSIONS],
     pool: &S,
@@ -96,5 +70,14 @@ pub fn ask_place<V: Volumes, S: SharedReads<V>>(
     ensures asked { IfSome result (λ r. IsAskedStill V.view number piece.now (sessions_of sessions.now) (S.of pool.now) r.events r.bytes out.old out.new) }
     ensures none { result ≡ None → IsWider out.old out.new }
 {
-    ask_slot(&sessions[usize::from(number)], pool, number, piece, out)
+    match &sessions[usize::from(number)] {
+        None => None,
+        Some(session) => {
+            if session.is_at_work() {
+                return None;
+            }
+            let bytes = hear(session, pool, number, piece, out);
+            ran(bytes, piece.len())
+        }
+    }
 }

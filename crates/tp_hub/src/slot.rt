@@ -23,13 +23,13 @@ pub struct Took {
     pub bytes: usize,
 }
 
-/// All of it was taken.
+/// The whole event was taken.
 pub const WHOLE: Took = Took {
     whole: true,
     bytes: 0,
 };
 
-/// Nothing of it was.
+/// Nothing of the event was taken.
 pub const NOTHING: Took = Took {
     whole: false,
     bytes: 0,
@@ -42,9 +42,9 @@ pub enum Heard {
     Whole,
     /// The session ended in it.
     Over,
-    /// There was no memory behind so many bytes.
+    /// So many bytes were heard, and then memory for the next answer was refused.
     Stopped(usize),
-    /// A request of which parts are left ended so many bytes: a long one, or a WRITE that is kept apart.
+    /// A request of which parts are left ended so many bytes: a long one, or one that is kept apart.
     Parted(usize),
 }
 
@@ -191,7 +191,7 @@ fn go_on<V: Cloned>(
     WHOLE
 }
 
-/// So many bytes of a piece, or all of it.
+/// How much was taken of a piece of `len` bytes, where the first `bytes` of them were.
 fn up_to(bytes: usize, len: usize) -> Took
     ensures { IsRest result.whole result.bytes bytes len }
 {

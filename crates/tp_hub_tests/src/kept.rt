@@ -1,4 +1,4 @@
-//! WRITEs with FUA, which an extended session keeps apart.
+//! Requests with FUA, which an extended session keeps apart.
 
 use crate::hubs::blank_hub;
 use crate::talk::{DONE, GIVEN, GO_0, GONE, GREETED, HALF, READ, sent};
@@ -10,6 +10,11 @@ use tp_shelf::Shelf;
 
 /// The head of a write of sector 0 with FUA.
 const WRITE: &[u8] = b"\x25\x60\x95\x13\0\x01\0\x01\0\0\0\0\0\0\0\x01\0\0\0\0\0\0\0\0\0\0\x02\0";
+
+/// A TRIM of that sector with FUA, and a WRITE_ZEROES of it with FUA.
+const TRIM: &[u8] = b"\x25\x60\x95\x13\0\x01\0\x04\0\0\0\0\0\0\0\x01\0\0\0\0\0\0\0\0\0\0\x02\0";
+
+const ZERO: &[u8] = b"\x25\x60\x95\x13\0\x01\0\x06\0\0\0\0\0\0\0\x01\0\0\0\0\0\0\0\0\0\0\x02\0";
 
 /// Session 0 goes to volume 0 and writes, and is to stop where a FLUSH alone is left.
 fn write(alloc: Global, hub: &mut Hub<Shelf>, profile: Profile, out: &mut Answers) -> bool {
@@ -87,5 +92,48 @@ fn a_strict_session_does_not(rt: HostRuntime) -> Result<(), Fail> {
     let hub = blank_hub(rt.alloc())?;
     let told = told_of(rt.alloc(), hub, Profile::Strict, &marks);
     assert!(rt; told == ([false, true, false], Some(0x61)));
+    Ok(())
+}
+
+/// Of a request of session 0 that has no data: whether nothing is answered at first, a FLUSH alone is left of it, these answers come behind that, and anything is left
+/// then.
+fn told_of_request(
+    alloc: Global,
+    mut hub: Hub<Shelf>,
+    request: &[u8],
+    marks: &[Mark],
+) -> [bool; 4] {
+    let mut out = Answers::new(alloc);
+    hub.run(
+        alloc,
+        &[Event::Open(0, Profile::Extended), Event::Bytes(0, GO_0)],
+        &mut out,
+    );
+    out.clear();
+    hub.run(alloc, &[Event::Parted(0, request)], &mut out);
+    let is_quiet = out.marks().is_empty();
+    let is_left = hub.is_to_flush(0);
+    hub.run(alloc, &[Event::Parted(0, &[])], &mut out);
+    let is_marked = out.marks() == marks;
+    [is_quiet, is_left, is_marked, hub.is_at_work(0)]
+}
+
+/// A TRIM is kept apart as a WRITE is.
+#[test]
+fn a_trim_is_kept_apart(rt: HostRuntime) -> Result<(), Fail> {
+    let marks = [sent(0, DONE)];
+    let hub = blank_hub(rt.alloc())?;
+    let told = told_of_request(rt.alloc(), hub, TRIM, &marks);
+    assert!(rt; told == [true, true, true, false]);
+    Ok(())
+}
+
+/// So is a WRITE_ZEROES.
+#[test]
+fn a_write_zeroes_is_kept_apart(rt: HostRuntime) -> Result<(), Fail> {
+    let marks = [sent(0, DONE)];
+    let hub = blank_hub(rt.alloc())?;
+    let told = told_of_request(rt.alloc(), hub, ZERO, &marks);
+    assert!(rt; told == [true, true, true, false]);
     Ok(())
 }

@@ -9,14 +9,9 @@ ghost use Rattle.tp_lines.specs.Clearing.{AreDeletes, accepted_in, count_of, del
 
 use crate::text::copy;
 use itoa::Buffer;
+use nbd_session::{FIRST_CLONE, MOST_CLONES};
 use std::alloc::{AllocError, Global};
 use tp_hub::{Answers, Desk, Event, Mark};
-
-/// The least id of a clone.
-const FIRST_CLONE: u32 = 8_388_608;
-
-/// So many ids from that one on may be those of clones.
-const MOST_CLONES: u32 = 64;
 
 /// The message that deletes a volume, at the front.
 fn put_delete(out: &mut [u8], id: u32) -> usize
