@@ -16,11 +16,6 @@ ROWS = [
     ("tp_hub", "NUMBERS", "MOST_VOLUME"),
     ("tp_counts", "Room", "CountsMemory"),
     ("tp_meta", "Room", "MarksMemory"),
-    ("tp_lines", "Place", "ScriptPlace"),
-    ("tp_lines", "Stage", "ScriptBuffers"),
-    ("tp_crowd", "Place", "ClientPlace"),
-    ("tp_crowd", "Refused", "RefusedFlags"),
-    ("tp_lock", "Purpose", "HubUse"),
     ("tp_pool", "Purpose", "BlockUse"),
     ("tp_btree", "Step", "NodeStep"),
 ]

@@ -1,5 +1,6 @@
--- Internal: what a client of a hub is carried as, and the calls of a stream but for its ends (own).
+-- Internal: a client whose stream may be told to be at its end before it is, and what is made of its socket (own).
 use Rattle.std.specs.Prelude.{◌≡◌, ℕ, Bool, true, false, List, [], ◌∷◌, ◌++◌, ◌⊎◌}
+use Rattle.tp_model.specs.Clauses.{View}
 use Rattle.nbd_session.specs.declared.phase.Profile.{Profile}
 use Rattle.tp_hub.specs.Told.{Told}
 use Rattle.tp_hub.specs.Desks.{Exchange}
@@ -7,6 +8,8 @@ use Rattle.tp_hub.specs.Streams.{Flushes, Gave, GaveAgain, GaveEnd, GaveNone, St
 use Rattle.tp_hub.specs.Carrying.{IsCarried}
 use Rattle.tp_hub.specs.declared.client.Carried.{Carried}
 use Rattle.tp_hub.specs.declared.client.Carried.TheVariants.{EndOfInput, InUse, InputFailed, LastLost, NoMemory, OutputFailed, SessionOver}
+use Rattle.tp_lines.specs.ReadLines.{Leads}
+use Rattle.tp_lock.specs.Locked.{SomeRuns}
 
 -- a call, but that a read came to the end
 abbrev pub but_end : StreamCall → List StreamCall
@@ -37,3 +40,11 @@ has_memory OutputFailed = true
 -- A client was carried to its end; or there was no memory for the bytes that are read of it, and nothing was asked, read or written. carried: whether there was memory for it.
 abbrev pub IsVisit : ℕ → Profile → List Exchange → List StreamCall → Bool → Type 0
 IsVisit n profile asks calls carried = ((asks ≡ []) × (calls ≡ []) × (carried ≡ false)) ⊎ ((out : Told) × (ending : Carried) × IsCarried n profile out asks calls ending × (carried ≡ has_memory ending))
+
+-- The same of a stream that may be told to be at its end: these calls were made of it, but for its ends.
+abbrev pub IsGuest : ℕ → Profile → List Exchange → List StreamCall → Type 0
+IsGuest n profile asks did = (calls : List StreamCall) × (carried : Bool) × (did ≡ but_ends calls) × IsVisit n profile asks calls carried
+
+-- A client of a hub behind a lock was carried so; what becomes of the hub between two asks is not said. made: the calls of its socket.
+abbrev pub CarriesGuest : {D : Type 0} → View D → ℕ → Profile → List StreamCall → List StreamCall → Type 0
+CarriesGuest view n profile made made' = Leads {D = Unit {0}} (λ at took answers at'. SomeRuns view took answers) (λ asks did. IsGuest n profile asks did) tt tt (but_ends made) (but_ends made')

@@ -80,7 +80,7 @@ fn take_buffer(alloc: Global, spare: &mut Vec<u8>, len: usize) -> Result<Vec<u8>
 }
 
 impl<'c, R: Threads> Ahead<'c, R> {
-    /// Of a client that comes.
+    /// For a client that has just connected: no read is under way.
     pub(crate) fn new(rt: &'c R, alloc: Global, crew: &'c Crew) -> Ahead<'c, R>
         ensures { result.under_way ≡ None }
     {

@@ -6,7 +6,7 @@ ghost use Rattle.tp_hub.specs.Streams.{GivesSome, TakesSome};
 ghost use Rattle.tp_lock.specs.Locked.{CameOf, IsFrom};
 ghost use Rattle.tp_crowd.specs.Ruling.{AnswersControl};
 
-use crate::crowd::{Refused, Served, behind_all, not_refused, refused_by_now};
+use crate::crowd::{RefusedFlags, Served, behind_all, not_refused, refused_by_now};
 use crate::listening::{Accepted, attend_streams};
 use crate::pause::{PAUSE, pause};
 use std::alloc::Global;
@@ -91,7 +91,7 @@ fn attend_both<R, V, A, K, I>(
     rt: &R,
     alloc: Global,
     hub: &HubLock<'_, V, A, K>,
-    refused: &Refused,
+    refused: &RefusedFlags,
     clients: I,
     control: &TcpListener,
 ) -> u8

@@ -20,11 +20,11 @@ use tp_lock::{Alarm, HubLock, LockedDesk, Start};
 use tp_model::{Staged, Volumes};
 use tp_msg::Managed;
 
-/// At most so many clients are taken.
+/// The most clients that are taken.
 const CLIENTS: u8 = 64;
 
 /// Who was refused memory or a thread, by the number of its session.
-pub(crate) type Refused = [AtomicBool; 64];
+pub(crate) type RefusedFlags = [AtomicBool; 64];
 
 /// A hub after all its clients are gone.
 pub struct Served<V: Volumes> {
@@ -71,7 +71,7 @@ where
     serve_since::<R, V, S, I, A, Brand>(rt, alloc, hub, clients, alarm)
 }
 
-/// The same of a hub that is such a start.
+/// `serve_all` for a hub that is the start `K`, so that contracts know which hub came back.
 fn serve_since<R, V, S, I, A, K>(
     rt: &R,
     alloc: Global,
@@ -142,7 +142,12 @@ where
 }
 
 /// Starts a thread for each client, lets go of who gave the clients, and tells how many came when all are done.
-pub(crate) fn attend_all<R, C, I, A>(rt: &R, refused: &Refused, clients: I, attendant: &A) -> u8
+pub(crate) fn attend_all<R, C, I, A>(
+    rt: &R,
+    refused: &RefusedFlags,
+    clients: I,
+    attendant: &A,
+) -> u8
 where
     R: Threads + Wait,
     C: Send + Drop,
@@ -256,13 +261,13 @@ pub(crate) fn behind_all<V: Staged, A: Alarm<V>, K: Start<V>>(
     }
 }
 
-/// At first nobody is.
+/// At first no client was refused.
 pub(crate) fn not_refused(_number: usize) -> AtomicBool {
     AtomicBool::new(false)
 }
 
-/// Who is refused by now.
-pub(crate) fn refused_by_now(refused: &Refused) -> [bool; 64] {
+/// Which clients have been refused up to now, by the numbers of their sessions.
+pub(crate) fn refused_by_now(refused: &RefusedFlags) -> [bool; 64] {
     let mut flags = [false; 64];
     for number in 0..64 {
         flags[number] = refused[number].load(Ordering::SeqCst);

@@ -81,7 +81,7 @@ impl Frames {
     ghost use Rattle.tp_lock.specs.Framing.{ends_in, framed, head_come, is_between, kind_at, missing_of, passed};
     ghost use Rattle.nbd_wire.specs.declared.Kind.TheVariants.{Flags};
 
-    /// Of a client of whom nothing was read.
+    /// For a client that has sent nothing yet: the next frame is its client flags.
     pub(crate) fn new() -> Frames
         ensures { result ≡ framed Flags [] 0 }
     {
@@ -94,7 +94,7 @@ impl Frames {
         }
     }
 
-    /// The same once more.
+    /// A copy.
     pub(crate) fn copy(&self) -> Frames
         ensures { result ≡ self.now }
     {

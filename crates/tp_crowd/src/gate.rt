@@ -1,4 +1,4 @@
-//! Who is let in, what is offered to them, and who is within.
+//! Which clients are accepted, which are served now, and how both come to an end.
 
 use crate::door::Door;
 use nbd_session::Profile;
@@ -7,10 +7,10 @@ use std::sync::atomic::{AtomicBool, Ordering};
 use std::sync::{Condvar, Mutex, Wait};
 use std::time::{Clock, Duration};
 
-/// So many milliseconds those wait at most who wait for the end.
+/// The longest single wait for the end, in milliseconds.
 const LOOK: u64 = 1000;
 
-/// One who has come to a door.
+/// A client that has connected and is not served yet.
 #[derive(Drop)]
 pub(crate) struct Caller {
     pub(crate) stream: TcpStream,
@@ -20,39 +20,39 @@ pub(crate) struct Caller {
     pub(crate) peer: Option<SocketAddr>,
 }
 
-/// The stream of who is served in this place.
-type Place = Mutex<Option<TcpStream>>;
+/// A place for one client: another handle of its stream, by which the stream can be ended from outside.
+type ClientPlace = Mutex<Option<TcpStream>>;
 
-/// At first nobody is.
-fn nobody(_number: usize) -> Place {
+/// An empty place.
+fn nobody(_number: usize) -> ClientPlace {
     Mutex::new(None)
 }
 
-/// Notes who is served in a place.
-fn put<R: Wait>(rt: &R, place: &Place, client: Option<TcpStream>) {
+/// Puts a client into a place, or empties it.
+fn put<R: Wait>(rt: &R, place: &ClientPlace, client: Option<TcpStream>) {
     let mut place = place.lock(rt);
     *place = client;
 }
 
-/// One who has come and waits for a place, and whether nobody is let in any more.
+/// The client that has connected and waits for a free place, and whether new clients are refused.
 #[derive(Drop)]
 struct Porch {
     caller: Option<Caller>,
     is_shut: bool,
 }
 
-/// Who is let in, one after another, and who is within, in 64 places.
+/// Hands connected clients to the threads that serve them, one at a time, and knows the streams of the up to 64 that are served.
 #[derive(Drop)]
 pub(crate) struct Gate {
     porch: Mutex<Porch>,
     has_come: Condvar,
     is_taken: Condvar,
-    places: [Place; 64],
+    places: [ClientPlace; 64],
     /// What is offered to each.
     profile: Profile,
-    /// The streams of those who are within are at their ends.
+    /// Whether the streams of the clients that are served were ended.
     is_over: AtomicBool,
-    /// Nobody is within any more, nor will be.
+    /// Whether the last client has gone, and no new one will come.
     is_empty: Mutex<bool>,
     empties: Condvar,
 }
@@ -157,14 +157,14 @@ impl Gate {
         }
     }
 
-    /// The same, and ends the streams of those who are within, behind what was read of them.
+    /// Refuses new clients as `shut` does, and ends the streams of those that are served for reading: what was read of them is still answered.
     pub(crate) fn clear<R: Wait>(&self, rt: &R, doors: &[Door]) {
         self.shut(rt, doors);
         self.is_over.store(true, Ordering::SeqCst);
         self.end_streams(rt, Shutdown::Read);
     }
 
-    /// Ends so the streams of those who are within.
+    /// Ends the streams of all clients that are served, for reading or for both.
     fn end_streams<R: Wait>(&self, rt: &R, how: Shutdown) {
         for place in &self.places {
             if let Some(client) = &*place.lock(rt) {
@@ -173,8 +173,8 @@ impl Gate {
         }
     }
 
-    /// One turn less for those who are within to take what they are answered, where their streams are at their ends: when none is left their writes are ended, too.
-    /// Tells how many are left.
+    /// Called about once a second. Where the streams were ended, clients have `left` seconds more to take their answers: with none left, writes to them are ended
+    /// too. It gives how many seconds are left behind this one.
     pub(crate) fn hasten<R: Wait>(&self, rt: &R, left: u32) -> u32 {
         if !self.is_over.load(Ordering::SeqCst) {
             return left;
@@ -192,7 +192,7 @@ impl Gate {
         self.empties.notify_all();
     }
 
-    /// Waits for that, a second at most, and tells whether it is so.
+    /// Waits a second at most for the last client to go, and tells whether it has gone.
     pub(crate) fn wait_for_end<R: Wait + Clock>(&self, rt: &R) -> bool {
         let is_empty = self.is_empty.lock(rt);
         let (is_empty, _) = self.empties.wait_timeout_while(

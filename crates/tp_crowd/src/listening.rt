@@ -6,7 +6,7 @@ ghost use Rattle.tp_lock.specs.Locked.{CameOf, IsFrom};
 
 use crate::ahead::Crew;
 use crate::crowd::{
-    Attend, Refused, Served, attend_all, behind_all, carry_stream, not_refused, refused_by_now,
+    Attend, RefusedFlags, Served, attend_all, behind_all, carry_stream, not_refused, refused_by_now,
 };
 use crate::sockets::Socket;
 use nbd_session::Profile;
@@ -114,7 +114,7 @@ pub(crate) fn attend_streams<'m, R, V, A, K, I>(
     rt: &'m R,
     alloc: Global,
     hub: &'m HubLock<'m, V, A, K>,
-    refused: &'m Refused,
+    refused: &'m RefusedFlags,
     clients: I,
 ) -> u8
 where

@@ -2,6 +2,7 @@
 
 ghost use Rattle.std.specs.Prelude.{◌≡◌, ◌<◌};
 ghost use Rattle.tp_lock.specs.Locked.{CameOf, IsFrom};
+ghost use Rattle.tp_crowd.specs.Guests.{CarriesGuest};
 
 use crate::ahead::Crew;
 use crate::chronicle::{Chronicle, Visit, Visitor};
@@ -23,10 +24,10 @@ use std::thread::Threads;
 use std::time::Clock;
 use tp_hub::{Answers, Desk, Event, Hub};
 use tp_lock::{HubLock, LockedDesk, Start};
-use tp_model::{Staged, Volumes};
+use tp_model::{DevId, Staged, Volumes};
 use tp_msg::Managed;
 
-/// So many clients are served at a time.
+/// How many clients are served at a time.
 const PLACES: u8 = 64;
 
 /// When clients are told that it is over, so many seconds or so are left to them to take what they are answered.
@@ -35,7 +36,7 @@ const LAST_SECONDS: u32 = 5;
 /// So many control clients are answered at a time.
 const RULERS: u8 = 4;
 
-/// A hub after the last one is gone who was served without end.
+/// What serving without end gives back, when the last client has gone.
 pub struct Stayed<V: Volumes> {
     pub hub: Hub<V>,
     /// Whether each thread could be made. Where one could not, nobody was let in any more.
@@ -74,12 +75,12 @@ where
     A: Chronicle<V>,
     K: Start<V>,
 {
-    /// Carries a client as the session of this number, up to its end.
-    fn carry(&self, number: u8, stream: TcpStream) -> Visit
+    /// Carries a client over the hub as the session of this number, up to its end, and tells which volume it had. What is made of its socket is what
+    /// [`tp_hub::carry`] makes of a stream, each ask some runs, but that the end may be told before the socket told it.
+    fn carry_guest(&self, number: u8, profile: Profile, guest: &mut Guest<'_, R>) -> Option<DevId>
         requires { number < 64 }
+        ensures { CarriesGuest V.view number profile guest.old.socket.log.calls guest.new.socket.log.calls }
     {
-        let socket = Socket::new(self.rt, self.alloc, &self.crew, stream);
-        let mut guest = Guest::new(socket, self.gate.is_over());
         let mut desk = GuestDesk {
             desk: LockedDesk {
                 rt: self.rt,
@@ -89,9 +90,18 @@ where
             number,
             volume: None,
         };
-        let profile = self.gate.profile();
-        carry_over(self.alloc, &mut desk, number, profile, &mut guest);
-        let visit = guest.visit(desk.volume);
+        carry_over(self.alloc, &mut desk, number, profile, guest);
+        desk.volume
+    }
+
+    /// Carries a client as the session of this number, up to its end.
+    fn carry(&self, number: u8, stream: TcpStream) -> Visit
+        requires { number < 64 }
+    {
+        let socket = Socket::new(self.rt, self.alloc, &self.crew, stream);
+        let mut guest = Guest::new(socket, self.gate.is_over());
+        let volume = self.carry_guest(number, self.gate.profile(), &mut guest);
+        let visit = guest.visit(volume);
         guest.close();
         visit
     }
@@ -231,7 +241,7 @@ where
     }
 }
 
-/// The same, and beside them tells the pool's status until all are gone.
+/// Serves clients as `attend_house` does, and beside that tells the pool's status, until all are gone.
 fn attend_watched<R, V, A, K>(
     rt: &R,
     alloc: Global,
@@ -263,7 +273,7 @@ trait Rule {
     /// Answers control clients, one after another, until the others are gone.
     fn rule(&self);
 
-    /// They are gone.
+    /// Called when the other clients are gone: no control client is answered any more.
     fn end(&self);
 }
 
@@ -405,7 +415,7 @@ where
     stay_since::<R, V, A, Brand>(rt, alloc, hub, doors, control, profile, chronicle)
 }
 
-/// The same of a hub that is such a start.
+/// `serve_until_stopped` for a hub that is the start `K`, so that contracts know which hub came back.
 fn stay_since<R, V, A, K>(
     rt: &R,
     alloc: Global,

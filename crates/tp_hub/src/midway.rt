@@ -183,7 +183,7 @@ impl<V: Managed + Staged> Hub<V> {
 impl<V: Staged> MidMessage<V> {
     ghost use Rattle.std.specs.Prelude.{◌≡◌, ◌<◌, ◌≤◌, None, IfSome, true};
     ghost use Rattle.tp_msg.specs.declared.message.Message as messages;
-    ghost use Rattle.nbd_session.specs.Session.{has_older};
+    ghost use Rattle.nbd_session.specs.Session.{has_older, keeps_apart};
     ghost use Rattle.tp_hub.specs.Desks.{IsAsked, RunsSo};
     ghost use Rattle.tp_hub.specs.Runs.{Brings};
     ghost use Rattle.tp_hub.specs.Seats.{seat_at};
@@ -216,6 +216,7 @@ impl<V: Staged> MidMessage<V> {
     /// Whether a session's WRITEs, TRIMs and WRITE_ZEROES with FUA are kept apart.
     pub fn keeps_apart(&self, number: u8) -> bool
         requires { number < 64 }
+        ensures { result ≡ keeps_apart (sessions_of self.now.slots number).phase }
     {
         self.mid.keeps_apart(number)
     }

@@ -172,7 +172,7 @@ fn do_line<D: Desk, S: Stream>(
 
 /// Where a script is: the line that is being read, and how many were played.
 #[derive(Drop)]
-pub struct Place {
+pub struct ScriptPlace {
     line: HeldLine,
     played: u64,
 }
@@ -181,7 +181,7 @@ pub struct Place {
 fn end_line<D: Desk, S: Stream>(
     desk: &mut D,
     profile: &Profile,
-    place: &mut Place,
+    place: &mut ScriptPlace,
     bytes: &mut [u8],
     out: &mut Answers,
     stream: &mut S,
@@ -208,7 +208,7 @@ fn play_byte<D: Desk, S: Stream>(
     desk: &mut D,
     profile: &Profile,
     byte: u8,
-    place: &mut Place,
+    place: &mut ScriptPlace,
     bytes: &mut [u8],
     out: &mut Answers,
     stream: &mut S,
@@ -234,7 +234,7 @@ fn play_bytes<D: Desk, S: Stream>(
     desk: &mut D,
     profile: &Profile,
     piece: &[u8],
-    place: &mut Place,
+    place: &mut ScriptPlace,
     bytes: &mut [u8],
     out: &mut Answers,
     stream: &mut S,
@@ -262,7 +262,7 @@ fn play_read<D: Desk, S: Stream>(
     desk: &mut D,
     profile: &Profile,
     piece: &mut Vec<u8>,
-    place: &mut Place,
+    place: &mut ScriptPlace,
     bytes: &mut [u8],
     out: &mut Answers,
     stream: &mut S,
@@ -301,7 +301,7 @@ fn play_all<D: Desk, S: Stream>(
     desk: &mut D,
     profile: &Profile,
     piece: &mut Vec<u8>,
-    place: &mut Place,
+    place: &mut ScriptPlace,
     bytes: &mut [u8],
     out: &mut Answers,
     stream: &mut S,
@@ -322,15 +322,15 @@ fn play_all<D: Desk, S: Stream>(
 }
 
 /// What a script is played with.
-struct Stage {
+struct ScriptBuffers {
     piece: Vec<u8>,
     bytes: Vec<u8>,
-    place: Place,
+    place: ScriptPlace,
     out: Answers,
 }
 
 /// Takes the memory that a script wants.
-fn make_stage(alloc: Global) -> Result<Stage, AllocError>
+fn make_buffers(alloc: Global) -> Result<ScriptBuffers, AllocError>
     ensures { IfOk result (λ s. (0 < length s.piece.items) × (length s.bytes.items ≡ 8192) × (s.place.line ≡ []) × (s.place.played ≡ 0) × (s.out.list ≡ []) × HasRoom s.out) }
 {
     let piece = zeroes(alloc, PIECE)?;
@@ -338,10 +338,10 @@ fn make_stage(alloc: Global) -> Result<Stage, AllocError>
     let line = HeldLine::new(alloc)?;
     let mut out = Answers::new(alloc);
     out.make_room()?;
-    Ok(Stage {
+    Ok(ScriptBuffers {
         piece,
         bytes,
-        place: Place { line, played: 0 },
+        place: ScriptPlace { line, played: 0 },
         out,
     })
 }
@@ -366,13 +366,13 @@ pub fn play_script<D: Desk, S: Stream>(
 ) -> Ended
     ensures { Leads D.asks (λ asks did. PlaysScript profile.now asks did result.played result.result) desk.old desk.new (S.calls stream.old) (S.calls stream.new) }
 {
-    let Ok(made) = make_stage(alloc) else {
+    let Ok(made) = make_buffers(alloc) else {
         return Ended {
             result: Err(Stopped::Memory),
             played: 0,
         };
     };
-    let Stage {
+    let ScriptBuffers {
         mut piece,
         mut bytes,
         mut place,

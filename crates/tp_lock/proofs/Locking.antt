@@ -1,17 +1,30 @@
 -- An ask of a hub, where others may have asked it before.
-use Rattle.std.proofs.Common.{◌≡◌, ◌+◌, ◌<◌, ◌≤◌, ◌⊎◌, ◌++◌, ◌∙◌, ap, append_assoc, append-nil, inl, inr, ℕ, zero, suc, List, [], ◌∷◌, length, take, take-take, length-take-le, refl, sym, subst, arith}
+use Rattle.std.proofs.Common.{◌≡◌, ◌+◌, ◌<◌, ◌≤◌, ◌⊎◌, ◌++◌, ◌∙◌, ap, append_assoc, append-nil, inl, inr, ℕ, zero, suc, Bool, true, false, Option, Some, List, [], ◌∷◌, length, take, take-take, length-take-le, refl, sym, subst, arith}
+use Rattle.std.specs.Prelude.{not}
 use Rattle.tp_model.specs.Clauses.{View}
 use Rattle.nbd_session.specs.Turns.{Sessions}
 use Rattle.tp_hub.specs.Told.{Answer, Grows, Told}
 use Rattle.tp_hub.specs.Runs.{Brings, Incoming, taken_of}
 use Rattle.tp_hub.specs.Desks.{IsAsked, IsCut, RunsSo}
-use Rattle.tp_lock.specs.Locked.{ArePartRuns, all_of, MakesParts, SomeRun, SomeRuns}
+use Rattle.tp_lock.specs.Locked.{AreAllMade, ArePartRuns, AsksInParts, MakesParts, SomeRun, SomeRunTo, SomeRuns, all_of, has_left}
 
 pub some_run : {D : Type 0} (view : View D) (at at' : Sessions) (p p' : D) (event : Incoming) (events bytes : ℕ) (before after : Told) → IsAsked (λ took answers. RunsSo view at p took answers at' p') event events bytes before after
     → IsAsked (λ took answers. SomeRun view took answers) event events bytes before after
 some_run view at at' p p' event events bytes before after asked = record {
   answers = asked.answers;
   did = (at, p, at', p', asked.did);
+  adds = asked.adds;
+  cut = asked.cut;
+  silent = asked.silent;
+  begun = asked.begun;
+}
+
+-- and whether parts are left behind it
+pub some_run_to : {D : Type 0} (view : View D) (session : Option ℕ) (left : Bool) (at at' : Sessions) (p p' : D) (event : Incoming) (events bytes : ℕ) (before after : Told) → IsAsked (λ took answers. RunsSo view at p took answers at' p') event events bytes before after
+    → left ≡ has_left at' session → IsAsked (λ took answers. SomeRunTo view session left took answers) event events bytes before after
+some_run_to view session left at at' p p' event events bytes before after asked is = record {
+  answers = asked.answers;
+  did = (at, p, at', p', asked.did, sym is);
   adds = asked.adds;
   cut = asked.cut;
   silent = asked.silent;
@@ -43,6 +56,18 @@ its_own session piece zero (suc n) cut = inr (take (suc n) piece, refl)
 its_own session piece (suc zero) bytes cut = inr (piece, refl)
 its_own session piece (suc (suc k)) bytes cut = absurd (omega (arith, cut.0))
 
+pub not_so : (b : Bool) → not b ≡ true → b ≡ false
+not_so true e = absurd cc
+not_so false e = refl
+
+pub so : (b : Bool) → not b ≡ false → b ≡ true
+so true e = refl
+so false e = absurd cc
+
+no_bytes_cut : (bytes : ℕ) → (bytes ≡ 0) ⊎ (bytes < 0) → bytes ≡ 0
+no_bytes_cut bytes (inl is) = is
+no_bytes_cut bytes (inr lt) = absurd (omega (arith, lt))
+
 grows_both : (a b c : Told) (first rest : List Answer) → Grows a b first → Grows b c rest → Grows a c (first ++ rest)
 grows_both a b c first rest g h = record {
   list = h.list ∙ (ap (λ (l : List Answer). l ++ rest) g.list ∙ append_assoc a.list first rest);
@@ -50,36 +75,109 @@ grows_both a b c first rest g h = record {
   marks = omega (arith, g.marks, h.marks);
 }
 
-module _ {D : Type 0} (view : View D) (session : ℕ) where
-  pub parts_none : (t : Told) → MakesParts view session t t
-  parts_none t = ([], tt, record { list = sym (append-nil t.list); room = omega arith; marks = omega arith })
+-- a piece of which nothing was taken wanted room
+wants_room : (Did : List Incoming → List Answer → Type 0) (session : ℕ) (piece : List ℕ) (last : Bool) (events bytes : ℕ) (before after : Told) → events ≡ 0 → bytes ≡ 0 → IsAsked Did (Brings session piece) events bytes before after
+    → AreAllMade last after
+wants_room Did session piece last events bytes before after none nothing asked = inr (
+  before,
+  subst (λ (l : List Answer). Grows before after l) (asked.silent none nothing) asked.adds,
+  λ room. let some : 0 < events + bytes = asked.begun room in absurd (omega (arith, some, none, nothing)),
+)
 
-  are_behind : (xs : List (List Answer)) (a : List Answer) → ArePartRuns view session xs → SomeRun view (Brings session [] ∷ []) a → ArePartRuns view session (xs ++ a ∷ [])
-  are_behind [] a are run = (run, tt)
-  are_behind (x ∷ xs) a are run = (are.0, are_behind xs a are.1 run)
+module _ {D : Type 0} (view : View D) (session : ℕ) (left : Bool) where
+  -- one ask, and whether parts are left behind it
+  abbrev pub AskedTo : Bool → List ℕ → ℕ → ℕ → Told → Told → Type 0
+  AskedTo more piece events bytes before after = IsAsked (λ took answers. SomeRunTo view (Some session) more took answers) (Brings session piece) events bytes before after
 
-  pub parts_more : (events bytes : ℕ) (before mid after : Told) → MakesParts view session before mid → IsAsked (λ took answers. SomeRun view took answers) (Brings session []) events bytes mid after → MakesParts view session before after
-  parts_more zero bytes before mid after made asked =
-      let none : bytes ≡ 0 = elim asked.cut [ inl is ↦ is | inr lt ↦ absurd (omega (arith, lt)) ] in
-      let adds = subst (λ (l : List Answer). Grows mid after l) (asked.silent refl none) asked.adds in
-      (made.0, made.1, subst (λ (l : List Answer). Grows before after l) (append-nil (all_of made.0)) (grows_both before mid after (all_of made.0) [] made.2 adds))
-  parts_more (suc zero) bytes before mid after made asked = (
+  -- the parts that were made so far, and whether there are more
+  abbrev pub MadeSoFar : Bool → Told → Told → Type 0
+  MadeSoFar more before after = (parts : List (List Answer)) × ArePartRuns view session left parts more × Grows before after (all_of parts)
+
+  pub parts_none : (t : Told) → MadeSoFar left t t
+  parts_none t = ([], refl, record { list = sym (append-nil t.list); room = omega arith; marks = omega arith })
+
+  are_behind : (first : Bool) (xs : List (List Answer)) (more : Bool) (a : List Answer) (last : Bool) → ArePartRuns view session first xs more → more ≡ true → SomeRunTo view (Some session) last (Brings session [] ∷ []) a
+      → ArePartRuns view session first (xs ++ a ∷ []) last
+  are_behind first [] more a last are work run = (sym are ∙ work, last, run, refl)
+  are_behind first (x ∷ xs) more a last are work run = (are.0, are.1, are.2, are_behind are.1 xs more a last are.3 work run)
+
+  pub parts_more : (more last : Bool) (events bytes : ℕ) (before mid after : Told) → more ≡ true → 0 < events → MadeSoFar more before mid → AskedTo last [] events bytes mid after → MadeSoFar last before after
+  parts_more more last zero bytes before mid after work some made asked = absurd (omega (arith, some))
+  parts_more more last (suc zero) bytes before mid after work some made asked = (
     made.0 ++ asked.answers ∷ [],
-    are_behind made.0 asked.answers made.1 asked.did,
+    are_behind left made.0 more asked.answers last made.1 work asked.did,
     subst (λ (l : List Answer). Grows before after l) (sym (all_behind made.0 asked.answers)) (grows_both before mid after (all_of made.0) asked.answers made.2 asked.adds),
   )
-  parts_more (suc (suc k)) bytes before mid after made asked = absurd (omega (arith, asked.cut.0))
+  parts_more more last (suc (suc k)) bytes before mid after work some made asked = absurd (omega (arith, asked.cut.0))
 
-  pub in_parts : (piece : List ℕ) (events bytes : ℕ) (before mid after : Told) → 0 < events + bytes → IsAsked (λ took answers. SomeRun view took answers) (Brings session piece) events bytes before mid → MakesParts view session mid after
-      → IsAsked (λ took answers. SomeRuns view took answers) (Brings session piece) events bytes before after
-  in_parts piece events bytes before mid after some asked made = record {
-    answers = asked.answers ++ all_of made.0;
-    did = inr (record { session = session; first = asked.answers; run = asked.did; is_its = its_own session piece events bytes asked.cut; parts = made.0; are = made.1; answers_are = refl });
-    adds = grows_both before mid after asked.answers (all_of made.0) asked.adds made.2;
-    cut = asked.cut;
-    silent = λ none nothing. absurd (omega (arith, some, none, nothing));
-    begun = asked.begun;
-  }
+  -- an ask that took nothing
+  parts_still : (more last : Bool) (bytes : ℕ) (before mid after : Told) → bytes ≡ 0 → MadeSoFar more before mid → AskedTo last [] 0 bytes mid after → MadeSoFar more before after
+  parts_still more last bytes before mid after none made asked =
+      let adds = subst (λ (l : List Answer). Grows mid after l) (asked.silent refl none) asked.adds in
+      (made.0, made.1, subst (λ (l : List Answer). Grows before after l) (append-nil (all_of made.0)) (grows_both before mid after (all_of made.0) [] made.2 adds))
+
+  -- no part is left, or there is no room
+  parts_end : (more : Bool) (before after : Told) → MadeSoFar more before after → AreAllMade more after → MakesParts view session left before after
+  parts_end more before after made ends = (made.0, more, made.1, made.2, ends)
+
+  -- no part is left
+  pub parts_done : (more : Bool) (before after : Told) → more ≡ false → MadeSoFar more before after → MakesParts view session left before after
+  parts_done more before after none made = parts_end more before after made (inl none)
+
+  -- the last ask took nothing
+  pub parts_stop : (more last : Bool) (events bytes : ℕ) (before mid after : Told) → events ≡ 0 → MadeSoFar more before mid → AskedTo last [] events bytes mid after → MakesParts view session left before after
+  parts_stop more last (suc n) bytes before mid after nothing made asked = absurd (omega (arith, nothing))
+  parts_stop more last zero bytes before mid after nothing made asked =
+      let none : bytes ≡ 0 = no_bytes_cut bytes asked.cut in
+      parts_end more before after (parts_still more last bytes before mid after none made asked)
+      (wants_room (λ (took : List Incoming) (answers : List Answer). SomeRunTo view (Some session) last took answers) session [] more 0 bytes mid after refl none asked)
+
+  -- the last ask was one of all that is left
+  pub parts_all : (more last : Bool) (events bytes : ℕ) (before mid after : Told) → more ≡ true → (0 < events → last ≡ false) → MadeSoFar more before mid → AskedTo last [] events bytes mid after → MakesParts view session left before after
+  parts_all more last zero bytes before mid after work none made asked = parts_stop more last zero bytes before mid after refl made asked
+  parts_all more last (suc n) bytes before mid after work none made asked =
+      parts_end last before after (parts_more more last (suc n) bytes before mid after work (omega arith) made asked) (inl (none (omega arith)))
+
+  pub in_parts : (piece : List ℕ) (events bytes : ℕ) (before mid after : Told) → 0 < events + bytes → AskedTo left piece events bytes before mid → MakesParts view session left mid after → AsksInParts view session piece events bytes before after
+  in_parts piece events bytes before mid after some asked made = (
+    made.1,
+    record {
+      answers = asked.answers ++ all_of made.0;
+      did = record { session = session; first = asked.answers; left = left; run = asked.did; is_its = its_own session piece events bytes asked.cut; parts = made.0; are = made.2; answers_are = refl };
+      adds = grows_both before mid after asked.answers (all_of made.0) asked.adds made.3;
+      cut = asked.cut;
+      silent = λ none nothing. absurd (omega (arith, some, none, nothing));
+      begun = asked.begun;
+    },
+    made.4,
+  )
+
+  -- nothing was taken
+  pub in_no_parts : (piece : List ℕ) (events bytes : ℕ) (before after : Told) → events ≡ 0 → bytes ≡ 0 → AskedTo left piece events bytes before after → AsksInParts view session piece events bytes before after
+  in_no_parts piece events bytes before after none nothing asked = (
+    left,
+    record {
+      answers = asked.answers;
+      did = record { session = session; first = asked.answers; left = left; run = asked.did; is_its = its_own session piece events bytes asked.cut; parts = []; are = refl; answers_are = sym (append-nil asked.answers) };
+      adds = asked.adds;
+      cut = asked.cut;
+      silent = asked.silent;
+      begun = asked.begun;
+    },
+    wants_room (λ (took : List Incoming) (answers : List Answer). SomeRunTo view (Some session) left took answers) session piece left events bytes before after none nothing asked,
+  )
+
+-- what is known of an ask of a piece up to the last part
+pub of_parts : {D : Type 0} (view : View D) (session : ℕ) (piece : List ℕ) (events bytes : ℕ) (before after : Told) → AsksInParts view session piece events bytes before after
+    → IsAsked (λ took answers. SomeRuns view took answers) (Brings session piece) events bytes before after
+of_parts view session piece events bytes before after asks = record {
+  answers = asks.1.answers;
+  did = inr (asks.0, asks.1.did);
+  adds = asks.1.adds;
+  cut = asks.1.cut;
+  silent = asks.1.silent;
+  begun = asks.1.begun;
+}
 
 module _ {D : Type 0} (view : View D) (session : ℕ) (piece : List ℕ) (before after : Told) where
   abbrev pub Asked : List ℕ → ℕ → ℕ → Type 0

@@ -1,4 +1,5 @@
 pub mod Framing
+pub mod Pieces
 pub mod Locked
 pub mod Ordered
 pub mod Stages

@@ -1,26 +1,28 @@
 //! A hub that many clients ask.
 
-ghost use Rattle.std.specs.Prelude.{◌≡◌, ◌<◌, ◌∷◌, [], IfSome, List, None, Ok, length, ℕ};
+ghost use Rattle.std.specs.Prelude.{◌≡◌, ◌<◌, ◌∷◌, [], IfSome, List, None, Ok, false, length, ℕ};
 ghost use Rattle.tp_model.specs.Calls.{is_failed};
 ghost use Rattle.tp_msg.specs.Messages.{reading};
+ghost use Rattle.nbd_session.specs.Session.{keeps_apart};
 ghost use Rattle.tp_hub.specs.Flushes.{flush_told};
 ghost use Rattle.tp_hub.specs.Told.{Grows};
 ghost use Rattle.tp_hub.specs.Runs.{Brings, Orders, incoming, session_of};
+ghost use Rattle.tp_hub.specs.Parts.{is_parted_to};
 ghost use Rattle.tp_hub.specs.Desks.{IsAsked};
 ghost use Rattle.tp_hub.specs.Places.{IsWider};
 ghost use Rattle.tp_hub.specs.Serve.{HubRuns};
-ghost use Rattle.tp_hub.specs.Serving.{HubState, Slots};
+ghost use Rattle.tp_hub.specs.Serving.{HubState, Slots, sessions_of};
 ghost use Rattle.tp_lock.specs.Census.{AreSeats};
-ghost use Rattle.tp_lock.specs.Locked.{IsFrom, MakesParts, SomeRun, SomeRuns};
+ghost use Rattle.tp_lock.specs.Locked.{AsksInParts, IsFrom, MakesParts, SomeRun, SomeRunTo, SomeRuns, has_left};
 ghost use Rattle.tp_lock.specs.declared.midway.Stage.TheVariants.{Whole};
 ghost use Rattle.tp_lock.specs.Ordered.{IsMessageTold};
+ghost use Rattle.tp_lock.specs.Pieces.{has_flush, hearer_in, purpose_if, purpose_of_kind};
 ghost use Rattle.tp_lock.specs.Stages.{IsEnded, slots_of};
 
 use crate::midway::{Guarded, Stage};
-use crate::order::{Order, Purpose};
+use crate::order::{HubUse, Order};
 use crate::since::{Since, Start};
-use crate::turns::{is_to_keep, is_write, turn_len};
-use nbd_session::begins_with_look;
+use crate::turns::{PieceKind, kind_of_piece, turn_len};
 use std::alloc::Global;
 use std::sync::atomic::{AtomicBool, AtomicU64, Ordering};
 use std::sync::{MutexGuard, RwLock, RwLockReadGuard, RwLockWriteGuard, Wait};
@@ -72,8 +74,9 @@ pub struct HubLock<'a, V: Staged, A: Alarm<V>, K: Start<V>> {
 
 impl<'a, V: Staged, A: Alarm<V>, K: Start<V>> HubLock<'a, V, A, K> {
     ghost use Rattle.std.specs.Prelude.{◌≡◌, ◌<◌, IfSome, true};
+    ghost use Rattle.nbd_session.specs.Session.{keeps_apart};
     ghost use Rattle.tp_hub.specs.Seats.{seat_at};
-    ghost use Rattle.tp_hub.specs.Serving.{Slots};
+    ghost use Rattle.tp_hub.specs.Serving.{Slots, sessions_of};
     ghost use Rattle.tp_lock.specs.Census.{AreSeats};
     ghost use Rattle.tp_lock.specs.Locked.{IsFrom};
 
@@ -154,9 +157,10 @@ impl<'a, V: Staged, A: Alarm<V>, K: Start<V>> HubLock<'a, V, A, K> {
         seats_of(&hub)
     }
 
-    /// Whether a session's WRITEs with FUA are kept apart.
+    /// Whether a session's WRITEs, TRIMs and WRITE_ZEROES with FUA are kept apart.
     fn keeps_apart<R: Wait>(&self, rt: &R, number: u8) -> bool
         requires { number < 64 }
+        ensures { (slots : Slots) × (result ≡ keeps_apart (sessions_of slots number).phase) }
     {
         self.shared(rt).keeps_apart(number)
     }
@@ -355,6 +359,7 @@ struct Seen {
 /// Whether a session has parts of a request left behind an event that brings bytes.
 fn has_work<V: Volumes, K: Start<V>>(hub: &Since<V, K>, hearer: Option<u8>) -> bool
     requires { IfSome hearer (λ number. number < 64) }
+    ensures { result ≡ has_left (sessions_of hub.now.slots) hearer }
 {
     match hearer {
         None => false,
@@ -365,6 +370,7 @@ fn has_work<V: Volumes, K: Start<V>>(hub: &Since<V, K>, hearer: Option<u8>) -> b
 /// Whether nothing but a FLUSH is left of a request of that session.
 fn has_flush<V: Volumes, K: Start<V>>(hub: &Since<V, K>, hearer: Option<u8>) -> bool
     requires { IfSome hearer (λ number. number < 64) }
+    ensures { result ≡ has_flush (sessions_of hub.now.slots) hearer }
 {
     match hearer {
         None => false,
@@ -375,11 +381,21 @@ fn has_flush<V: Volumes, K: Start<V>>(hub: &Since<V, K>, hearer: Option<u8>) -> 
 /// The session of an event that brings bytes.
 fn hearer_of(event: &Event<'_>) -> Option<u8>
     requires { session_of event.now < 64 }
-    ensures { IfSome result (λ number. number < 64) }
+    ensures few { IfSome result (λ number. number < 64) }
+    ensures its { result ≡ hearer_in (incoming event.now) }
 {
     match *event {
-        Event::Bytes(number, _) | Event::Parted(number, _) => Some(number),
-        _ => None,
+        Event::Bytes(number, _) => Some(number),
+        Event::Parted(number, _) => Some(number),
+        Event::Open(_, _) => None,
+        Event::Hangup(_) => None,
+        Event::Message(_) => None,
+        Event::Status => None,
+        Event::ThinStatus(_) => None,
+        Event::Size(_) => None,
+        Event::Map(_, _) => None,
+        Event::Delta(_, _, _) => None,
+        Event::Flush => None,
     }
 }
 
@@ -393,6 +409,9 @@ fn ask_and_look<V: Managed, K: Start<V>>(
     requires { session_of event < 64 }
     ensures asked { IsAsked (λ took answers. HubRuns V.view hub.old took answers hub.new) (incoming event.entry) result.ran.events result.ran.bytes out.old out.new }
     ensures failed { result.is_failed ≡ is_failed (V.view.outline hub.new.pool).mode }
+    ensures work { result.is_at_work ≡ has_left (sessions_of hub.new.slots) (hearer_in (incoming event.entry)) }
+    ensures flush { result.is_to_flush ≡ has_flush (sessions_of hub.new.slots) (hearer_in (incoming event.entry)) }
+    ensures made { (n : ℕ) → is_parted_to n event.entry ≡ false → incoming event.entry ≡ Brings n [] → 0 < result.ran.events → result.is_at_work ≡ false }
 {
     let hearer = hearer_of(&event);
     let ran = hub.ask(alloc, event, out);
@@ -404,7 +423,8 @@ fn ask_and_look<V: Managed, K: Start<V>>(
     }
 }
 
-/// The same of what stands behind the lock, behind what is left of a flush, and why its pool has failed, where the alarm is to sound.
+/// Ends the flush or the message that is under way, if any, and then asks the hub once. It also gives the cause for the alarm, where the pool has failed and the
+/// alarm has not sounded yet.
 fn ask_behind<V: Managed + Staged, A: Alarm<V>, K: Start<V>>(
     alloc: Global,
     lock: &HubLock<'_, V, A, K>,
@@ -416,6 +436,9 @@ fn ask_behind<V: Managed + Staged, A: Alarm<V>, K: Start<V>>(
     ensures asked { IsAsked (λ took answers. SomeRun V.view took answers) (incoming event.entry) result.0.ran.events result.0.ran.bytes out.old out.new }
     ensures did { (old : HubState V) × (new : HubState V) × IsEnded V.view hub.old.stage (Whole old) × (hub.new.stage ≡ Whole new)
         × IsAsked (λ took answers. HubRuns V.view old took answers new) (incoming event.entry) result.0.ran.events result.0.ran.bytes out.old out.new }
+    ensures told { IsAsked (λ took answers. SomeRunTo V.view (hearer_in (incoming event.entry)) result.0.is_at_work took answers) (incoming event.entry) result.0.ran.events result.0.ran.bytes
+        out.old out.new }
+    ensures made { (n : ℕ) → is_parted_to n event.entry ≡ false → incoming event.entry ≡ Brings n [] → 0 < result.0.ran.events → result.0.is_at_work ≡ false }
 {
     hub.end_flush();
     match &mut hub.stage {
@@ -427,39 +450,40 @@ fn ask_behind<V: Managed + Staged, A: Alarm<V>, K: Start<V>>(
     }
 }
 
-/// What an event wants the hub alone for, by its text alone: a message and a flush keep what was written, and so does a piece that begins with such a request.
-fn purpose_of(event: &Event<'_>) -> Purpose {
+/// What an event without a request wants the hub alone for: a message and a flush keep what was written.
+fn purpose_of(event: &Event<'_>) -> HubUse {
     match *event {
-        Event::Bytes(_, piece) | Event::Parted(_, piece) if is_to_keep(piece) => Purpose::Keep,
-        Event::Message(_) | Event::Flush => Purpose::Keep,
-        _ => Purpose::Change,
+        Event::Message(_) | Event::Flush => HubUse::Keep,
+        _ => HubUse::Change,
     }
 }
 
-/// The same of a piece of a session. A WRITE with FUA that is kept apart is made first, as any other, and the FLUSH that is left of it keeps it then.
+/// `Keep` for what is to keep what was written, as a FLUSH that is left of a WRITE is, and else `Change`.
+fn purpose_if(is_to_keep: bool) -> HubUse
+    ensures { result ≡ purpose_if is_to_keep }
+{
+    if is_to_keep {
+        HubUse::Keep
+    } else {
+        HubUse::Change
+    }
+}
+
+/// What a piece of a session wants it for. A request with FUA that is kept apart is made first, as any other, and the FLUSH that is left of it keeps it then.
 fn purpose_of_piece<R: Wait, V: Staged, A: Alarm<V>, K: Start<V>>(
     rt: &R,
     hub: &HubLock<'_, V, A, K>,
     number: u8,
-    piece: &[u8],
-) -> Purpose
+    kind: PieceKind,
+) -> HubUse
     requires { number < 64 }
+    ensures { (slots : Slots) × (result ≡ purpose_of_kind (keeps_apart (sessions_of slots number).phase) kind) }
 {
-    if !is_to_keep(piece) {
-        return Purpose::Change;
-    }
-    if is_write(piece) && hub.keeps_apart(rt, number) {
-        return Purpose::Change;
-    }
-    Purpose::Keep
-}
-
-/// And of what is made next of a request of which parts are left.
-fn purpose_behind(seen: &Seen) -> Purpose {
-    if seen.is_to_flush {
-        Purpose::Keep
-    } else {
-        Purpose::Change
+    match kind {
+        PieceKind::Look => HubUse::Change,
+        PieceKind::ChangeWithFua => purpose_if(!hub.keeps_apart(rt, number)),
+        PieceKind::Keep => HubUse::Keep,
+        PieceKind::Other => HubUse::Change,
     }
 }
 
@@ -468,12 +492,14 @@ fn ask_for<R: Wait, V: Managed + Staged, A: Alarm<V>, K: Start<V>>(
     rt: &R,
     alloc: Global,
     hub: &HubLock<'_, V, A, K>,
-    purpose: Purpose,
+    purpose: HubUse,
     event: Event<'_>,
     out: &mut Answers,
 ) -> Seen
     requires { session_of event < 64 }
-    ensures { IsAsked (λ took answers. SomeRun V.view took answers) (incoming event.entry) result.ran.events result.ran.bytes out.old out.new }
+    ensures asked { IsAsked (λ took answers. SomeRun V.view took answers) (incoming event.entry) result.ran.events result.ran.bytes out.old out.new }
+    ensures told { IsAsked (λ took answers. SomeRunTo V.view (hearer_in (incoming event.entry)) result.is_at_work took answers) (incoming event.entry) result.ran.events result.ran.bytes out.old out.new }
+    ensures made { (n : ℕ) → is_parted_to n event.entry ≡ false → incoming event.entry ≡ Brings n [] → 0 < result.ran.events → result.is_at_work ≡ false }
 {
     let turn = hub.order.turn(rt, purpose);
     let device = hub.order.begin(rt, purpose, &turn);
@@ -487,7 +513,7 @@ fn ask_for<R: Wait, V: Managed + Staged, A: Alarm<V>, K: Start<V>>(
     seen
 }
 
-/// Asks a hub behind a lock alone, for what the event tells by its text.
+/// Asks a hub behind a lock alone, for an event without a request.
 fn ask_alone<R: Wait, V: Managed + Staged, A: Alarm<V>, K: Start<V>>(
     rt: &R,
     alloc: Global,
@@ -522,11 +548,11 @@ fn order<R: Wait, V: Managed + Staged, A: Alarm<V>, K: Start<V>>(
     requires { (line : List ℕ) × (reading line ≡ Ok message.now) }
     ensures { IfSome result (λ answer. IsMessageTold V.view message.now answer) }
 {
-    let turn = hub.order.turn(rt, Purpose::Keep);
-    let device = hub.order.begin(rt, Purpose::Keep, &turn);
+    let turn = hub.order.turn(rt, HubUse::Keep);
+    let device = hub.order.begin(rt, HubUse::Keep, &turn);
     let answer = hub.make_order(rt, device.is_some(), message, &turn);
     let cause = hub.failure(rt, &turn);
-    hub.order.end(Purpose::Keep, &turn);
+    hub.order.end(HubUse::Keep, &turn);
     drop(turn);
     drop(device);
     hub.sound(cause);
@@ -577,12 +603,13 @@ fn ask_line<R: Wait, V: Managed + Staged, A: Alarm<V>, K: Start<V>>(
     }
 }
 
-/// Asks a hub for the READs and BLOCK_STATUSes with which a piece begins, while others may do the same: the lock is shared for the time of the ask, and is not taken
-/// where the piece begins with none of both. None where it has to be asked alone.
+/// Asks a hub for the READs and BLOCK_STATUSes with which a piece of this kind begins, while others may do the same: the lock is shared for the time of the ask, and is
+/// not taken where the piece begins with none of both. None where it has to be asked alone.
 fn ask_shared<R: Wait, V: Staged, A: Alarm<V>, K: Start<V>>(
     rt: &R,
     hub: &HubLock<'_, V, A, K>,
     number: u8,
+    kind: PieceKind,
     piece: &[u8],
     out: &mut Answers,
 ) -> Option<Ran>
@@ -590,15 +617,15 @@ fn ask_shared<R: Wait, V: Staged, A: Alarm<V>, K: Start<V>>(
     ensures asked { IfSome result (λ ran. IsAsked (λ took answers. SomeRuns V.view took answers) (Brings number piece.now) ran.events ran.bytes out.old out.new) }
     ensures none { result ≡ None → IsWider out.old out.new }
 {
-    if !begins_with_look(piece) {
+    if kind != PieceKind::Look {
         return None;
     }
     let guard = hub.shared(rt);
     guard.ask_shared(number, piece, out)
 }
 
-/// Makes the parts that are left of a request of a session, where any are, each in an ask of its own, so that others have the hub between two. Before a FLUSH
-/// that is left of one the hub makes its own, while READs go on.
+/// Makes the parts that are left of a request of a session, where any are, each in an ask of its own, so that others have the hub between two: up to the last one,
+/// or to where one longest answer more does not fit. Before a FLUSH that is left of one the hub makes its own, while READs go on.
 fn make_parts<R: Wait, V: Managed + Staged, A: Alarm<V>, K: Start<V>>(
     rt: &R,
     alloc: Global,
@@ -608,32 +635,48 @@ fn make_parts<R: Wait, V: Managed + Staged, A: Alarm<V>, K: Start<V>>(
     out: &mut Answers,
 )
     requires { number < 64 }
-    ensures { MakesParts V.view number out.old out.new }
+    ensures { MakesParts V.view number seen.is_at_work out.old out.new }
 {
     let mut left = seen;
     for part in 0..MOST_PARTS {
         if !left.is_at_work {
             return;
         }
-        let purpose = purpose_behind(&left);
-        left = ask_for(rt, alloc, hub, purpose, Event::Parted(number, &[]), out);
+        let purpose = purpose_if(left.is_to_flush);
+        let made = ask_for(rt, alloc, hub, purpose, Event::Parted(number, &[]), out);
+        if made.ran.events == 0 {
+            return;
+        }
+        left = made;
     }
-    ask_alone(rt, alloc, hub, Event::Bytes(number, &[]), out);
+    if !left.is_at_work {
+        return;
+    }
+    ask_for(
+        rt,
+        alloc,
+        hub,
+        HubUse::Change,
+        Event::Bytes(number, &[]),
+        out,
+    );
 }
 
-/// Asks the requests of a piece up to one of which parts are left, and then for these.
+/// Asks the requests of a piece of this kind up to one of which parts are left, and then for these.
 fn ask_parts<R: Wait, V: Managed + Staged, A: Alarm<V>, K: Start<V>>(
     rt: &R,
     alloc: Global,
     hub: &HubLock<'_, V, A, K>,
     number: u8,
+    kind: PieceKind,
     piece: &[u8],
     out: &mut Answers,
 ) -> Ran
     requires { number < 64 }
-    ensures { IsAsked (λ took answers. SomeRuns V.view took answers) (Brings number piece.now) result.events result.bytes out.old out.new }
+    ensures asked { IsAsked (λ took answers. SomeRuns V.view took answers) (Brings number piece.now) result.events result.bytes out.old out.new }
+    ensures parts { AsksInParts V.view number piece.now result.events result.bytes out.old out.new }
 {
-    let purpose = purpose_of_piece(rt, hub, number, piece);
+    let purpose = purpose_of_piece(rt, hub, number, kind);
     let seen = ask_for(rt, alloc, hub, purpose, Event::Parted(number, piece), out);
     let ran = seen.ran;
     if ran.events == 0 && ran.bytes == 0 {
@@ -655,10 +698,11 @@ fn ask_once<R: Wait, V: Managed + Staged, A: Alarm<V>, K: Start<V>>(
     requires { number < 64 }
     ensures { IsAsked (λ took answers. SomeRuns V.view took answers) (Brings number piece.now) result.events result.bytes out.old out.new }
 {
-    if let Some(ran) = ask_shared(rt, hub, number, piece, out) {
+    let kind = kind_of_piece(piece);
+    if let Some(ran) = ask_shared(rt, hub, number, kind, piece, out) {
         return ran;
     }
-    ask_parts(rt, alloc, hub, number, piece, out)
+    ask_parts(rt, alloc, hub, number, kind, piece, out)
 }
 
 /// Asks the first requests of a piece, and tells how many bytes these were where it has more.

@@ -14,7 +14,7 @@ use tp_hub::{Answers, Hub, MidHub, Ran, Seat};
 use tp_model::{Flushing, Refusal, Staged};
 use tp_msg::{Managed, Message};
 
-/// A hub in the middle of a flush that nobody asked for. The one that it is for READs and BLOCK_STATUSes came of such a start.
+/// A hub in the middle of a flush that no client asked for. The hub that READs and BLOCK_STATUSes see meanwhile came of the hub of `K`, as in `Since`.
 #[derive(Drop)]
 pub(crate) struct MidSince<V: Staged, K: Start<V>> {
     mid: MidHub<V>,
@@ -32,7 +32,7 @@ impl<V: Staged, K: Start<V>> Model for MidSince<V, K> {
     ghost invariant = { λ s. IsFrom V.view K.is_start s.mid };
 }
 
-/// How far a hub is with a flush that nobody asked for, or with a message: it makes none, or is in the middle of one, or it is away while a part of one is made.
+/// What the lock holds: a hub that makes no flush of its own and no message, or one in the middle of either, or nothing while a part of one is made.
 #[derive(Drop)]
 pub(crate) enum Stage<W, M, O> {
     Whole(W),
@@ -51,7 +51,7 @@ fn is_midway<W, M, O>(stage: &Stage<W, M, O>) -> bool
     }
 }
 
-/// Puts one where none is.
+/// Puts a hub back into its place, which is empty.
 fn put<W, M, O>(place: &mut Stage<W, M, O>, stage: Stage<W, M, O>)
     requires { is_there place.old ≡ false }
     ensures { place.new ≡ stage }
@@ -95,7 +95,7 @@ fn begun<V: Staged, K: Start<V>>(
     }
 }
 
-/// Makes the next part of one.
+/// Makes the next part of the flush, where one is under way.
 fn gone_on<V: Staged, K: Start<V>>(
     stage: Stage<Since<V, K>, MidSince<V, K>, MidOrdered<V, K>>,
 ) -> Stage<Since<V, K>, MidSince<V, K>, MidOrdered<V, K>>
@@ -111,7 +111,7 @@ fn gone_on<V: Staged, K: Start<V>>(
     }
 }
 
-/// Makes what is left of one.
+/// Makes all parts that are left of the flush, or of the message, where one is under way.
 fn ended<V: Staged, K: Start<V>>(
     stage: Stage<Since<V, K>, MidSince<V, K>, MidOrdered<V, K>>,
 ) -> Since<V, K>
@@ -128,11 +128,13 @@ fn ended<V: Staged, K: Start<V>>(
 
 impl<V: Staged, K: Start<V>> MidSince<V, K> {
     ghost use Rattle.std.specs.Prelude.{◌≡◌, ◌<◌, IfSome, None};
+    ghost use Rattle.nbd_session.specs.Session.{keeps_apart};
     ghost use Rattle.tp_hub.specs.Runs.{Brings};
     ghost use Rattle.tp_hub.specs.Desks.{IsAsked};
     ghost use Rattle.tp_hub.specs.Places.{IsWider};
     ghost use Rattle.tp_hub.specs.Seats.{seat_at};
     ghost use Rattle.tp_hub.specs.Serve.{HubRuns};
+    ghost use Rattle.tp_hub.specs.Serving.{sessions_of};
     ghost use Rattle.tp_lock.specs.Locked.{IsFrom};
     ghost use Rattle.tp_lock.specs.Stages.{IsBehindFlush};
 
@@ -170,9 +172,10 @@ impl<V: Staged, K: Start<V>> MidSince<V, K> {
         self.mid.seat(number)
     }
 
-    /// Whether a session's WRITEs with FUA are kept apart.
+    /// Whether a session's WRITEs, TRIMs and WRITE_ZEROES with FUA are kept apart.
     fn keeps_apart(&self, number: u8) -> bool
         requires { number < 64 }
+        ensures { result ≡ keeps_apart (sessions_of self.now.slots number).phase }
     {
         self.mid.keeps_apart(number)
     }
@@ -192,10 +195,12 @@ pub(crate) struct Guarded<V: Staged, K: Start<V>> {
 
 impl<V: Staged, K: Start<V>> Guarded<V, K> {
     ghost use Rattle.std.specs.Prelude.{◌≡◌, ◌<◌, IfSome, None, true};
+    ghost use Rattle.nbd_session.specs.Session.{keeps_apart};
     ghost use Rattle.tp_hub.specs.Runs.{Brings};
     ghost use Rattle.tp_hub.specs.Desks.{IsAsked};
     ghost use Rattle.tp_hub.specs.Places.{IsWider};
     ghost use Rattle.tp_hub.specs.Seats.{seat_at};
+    ghost use Rattle.tp_hub.specs.Serving.{sessions_of};
     ghost use Rattle.tp_lock.specs.Locked.{IsFrom, SomeRun};
     ghost use Rattle.tp_lock.specs.Stages.{IsBegun, IsEnded, IsGoneOn, is_midway, is_whole, slots_of};
 
@@ -277,9 +282,10 @@ impl<V: Staged, K: Start<V>> Guarded<V, K> {
         }
     }
 
-    /// Whether a session's WRITEs with FUA are kept apart.
+    /// Whether a session's WRITEs, TRIMs and WRITE_ZEROES with FUA are kept apart.
     pub(crate) fn keeps_apart(&self, number: u8) -> bool
         requires { number < 64 }
+        ensures { result ≡ keeps_apart (sessions_of (slots_of self.now.stage) number).phase }
     {
         match &self.stage {
             Stage::Whole(since) => since.keeps_apart(number),

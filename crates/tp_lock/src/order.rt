@@ -1,32 +1,32 @@
-//! In which order those have a hub who want it alone.
+//! Who gets the hub alone next, of those who wait for it.
 
 use crate::patience::Patience;
 use std::sync::atomic::{AtomicBool, AtomicU64, Ordering};
 use std::sync::{Mutex, MutexGuard, RwLock, RwLockWriteGuard, Wait};
 
-/// So often one who waits for its turn tries to have it before it sleeps.
+/// How many times a waiting thread tries to take the turn before it sleeps.
 const TRIES: u32 = 4000;
 
-/// So often one lets those go first who are to.
+/// How many of these tries a thread leaves to waiting threads that have priority.
 const COURTESY: u32 = 200;
 
 /// What one wants the hub alone for.
 #[derive(Clone, Copy, PartialEq, Eq)]
-pub(crate) enum Purpose {
+pub(crate) enum HubUse {
     /// To keep what was written, which takes as long as the device does.
     Keep,
     /// Anything else.
     Change,
 }
 
-/// One has its turn at a time, and others wait.
+/// A lock with two kinds of waiters: one thread has the turn, and all others wait.
 ///
 /// Where nothing was written since what was written was kept, those go first who are to keep it: for them all is done already. Else all others go before them, so
 /// that one sync keeps what many wrote. Nobody lets others go first for long.
 #[derive(Drop)]
 pub(crate) struct Order {
     turn: Mutex<()>,
-    /// Who keeps what was written has it meanwhile: those who wait for it sleep, and wake together.
+    /// Held for writing while what was written is kept: threads that wait for that sleep here, and all wake when it is done.
     device: RwLock<()>,
     is_keeping: AtomicBool,
     is_kept: AtomicBool,
@@ -37,7 +37,7 @@ pub(crate) struct Order {
 }
 
 impl Order {
-    /// Nobody has its turn, and nothing was written.
+    /// At first no thread has the turn, and nothing is to be kept.
     pub(crate) fn new() -> Order {
         Order {
             turn: Mutex::new(()),
@@ -50,20 +50,20 @@ impl Order {
         }
     }
 
-    /// Those who wait for the same.
-    fn line(&self, purpose: Purpose) -> &AtomicU64 {
+    /// How many threads wait for this purpose.
+    fn line(&self, purpose: HubUse) -> &AtomicU64 {
         match purpose {
-            Purpose::Keep => &self.keepers,
-            Purpose::Change => &self.others,
+            HubUse::Keep => &self.keepers,
+            HubUse::Change => &self.others,
         }
     }
 
-    /// Whether nobody waits who is to go before one who wants this.
-    fn is_first(&self, purpose: Purpose) -> bool {
+    /// Whether no waiting thread has priority over one with this purpose.
+    fn is_first(&self, purpose: HubUse) -> bool {
         let is_kept = self.is_kept.load(Ordering::SeqCst);
         match purpose {
-            Purpose::Keep => is_kept || self.others.load(Ordering::SeqCst) == 0,
-            Purpose::Change => !is_kept || self.keepers.load(Ordering::SeqCst) == 0,
+            HubUse::Keep => is_kept || self.others.load(Ordering::SeqCst) == 0,
+            HubUse::Change => !is_kept || self.keepers.load(Ordering::SeqCst) == 0,
         }
     }
 
@@ -73,7 +73,7 @@ impl Order {
     }
 
     /// Waits for a turn: who waits tries again and again for a while, and sleeps behind that; but for the device it sleeps at once.
-    fn wait<R: Wait>(&self, rt: &R, purpose: Purpose) -> MutexGuard<'_, ()> {
+    fn wait<R: Wait>(&self, rt: &R, purpose: HubUse) -> MutexGuard<'_, ()> {
         let mut waiting = self.patience.begin();
         for tried in 0..TRIES {
             if tried >= COURTESY || self.is_first(purpose) {
@@ -91,21 +91,21 @@ impl Order {
     }
 
     /// A turn, which ends when it is dropped.
-    pub(crate) fn turn<R: Wait>(&self, rt: &R, purpose: Purpose) -> MutexGuard<'_, ()> {
+    pub(crate) fn turn<R: Wait>(&self, rt: &R, purpose: HubUse) -> MutexGuard<'_, ()> {
         self.line(purpose).fetch_add(1, Ordering::SeqCst);
         let turn = self.wait(rt, purpose);
         self.line(purpose).fetch_sub(1, Ordering::SeqCst);
         turn
     }
 
-    /// In one's turn: what it is for begins. While somebody keeps what was written, others wait for the device.
+    /// Called by the thread that has the turn, before its work. Where the work is to keep what was written, it takes `device`, for which others wait asleep.
     pub(crate) fn begin<R: Wait>(
         &self,
         rt: &R,
-        purpose: Purpose,
+        purpose: HubUse,
         _turn: &MutexGuard<'_, ()>,
     ) -> Option<RwLockWriteGuard<'_, ()>> {
-        if purpose == Purpose::Change || self.is_kept.load(Ordering::SeqCst) {
+        if purpose == HubUse::Change || self.is_kept.load(Ordering::SeqCst) {
             return None;
         }
         let device = self.device.write(rt);
@@ -113,10 +113,10 @@ impl Order {
         Some(device)
     }
 
-    /// In one's turn: what it was for is done.
-    pub(crate) fn end(&self, purpose: Purpose, _turn: &MutexGuard<'_, ()>) {
+    /// Called by the thread that has the turn, behind its work.
+    pub(crate) fn end(&self, purpose: HubUse, _turn: &MutexGuard<'_, ()>) {
         self.is_kept
-            .store(purpose == Purpose::Keep, Ordering::SeqCst);
+            .store(purpose == HubUse::Keep, Ordering::SeqCst);
         self.is_keeping.store(false, Ordering::SeqCst);
     }
 }

@@ -177,11 +177,13 @@ pub(crate) fn ended_order<V: Staged, K: Start<V>>(
 impl<V: Staged, K: Start<V>> MidOrdered<V, K> {
     ghost use Rattle.std.specs.Prelude.{◌≡◌, ◌<◌, IfSome, None, true};
     ghost use Rattle.tp_msg.specs.declared.message.Message as messages;
+    ghost use Rattle.nbd_session.specs.Session.{keeps_apart};
     ghost use Rattle.tp_hub.specs.Runs.{Brings};
     ghost use Rattle.tp_hub.specs.Desks.{IsAsked};
     ghost use Rattle.tp_hub.specs.Places.{IsWider};
     ghost use Rattle.tp_hub.specs.Seats.{seat_at};
     ghost use Rattle.tp_hub.specs.Serve.{HubRuns};
+    ghost use Rattle.tp_hub.specs.Serving.{sessions_of};
     ghost use Rattle.tp_lock.specs.Ordered.{IsBehindMessage, IsInOrder, IsInOrderOf, IsMessageTold};
     ghost use Rattle.tp_lock.specs.Stages.{IsBehindOrder, is_there};
 
@@ -308,9 +310,10 @@ impl<V: Staged, K: Start<V>> MidOrdered<V, K> {
         self.mid.seat(number)
     }
 
-    /// Whether a session's WRITEs with FUA are kept apart.
+    /// Whether a session's WRITEs, TRIMs and WRITE_ZEROES with FUA are kept apart.
     pub(crate) fn keeps_apart(&self, number: u8) -> bool
         requires { number < 64 }
+        ensures { result ≡ keeps_apart (sessions_of self.now.slots number).phase }
     {
         self.mid.keeps_apart(number)
     }

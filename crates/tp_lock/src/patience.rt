@@ -1,21 +1,21 @@
-//! Whether it pays to wait awake.
+//! Whether a waiting thread spins or sleeps.
 
 use libc::types::timespec;
 use libc::{CLOCK_MONOTONIC, clock_gettime};
 use std::sync::atomic::{AtomicU64, Ordering};
 use std::{hint, thread};
 
-/// Who lets others run, and has its processor back after so many nanoseconds or more, gave it to somebody who has nothing to do with this: those who serve and
-/// those who ask have it for less, and a busy machine keeps it for some milliseconds.
+/// In nanoseconds. A thread that yields its processor and has it back only after this time gave it to a program that has nothing to do with the pool: our own
+/// threads and our clients keep it for less, and other programs on a busy machine for some milliseconds.
 const LATE: u64 = 2_000_000;
 
-/// So many waits sleep at once behind the first one that was late, and twice as many behind each further one.
+/// How many waits sleep without spinning first, behind the first late one. Each further late one doubles that number.
 const SHORTEST_PAUSE: u64 = 64;
 
-/// But not more than so many.
+/// The greatest such number.
 const LONGEST_PAUSE: u64 = 8192;
 
-/// So often one who is to sleep tries before it does, and lets nobody run in between: some microseconds.
+/// How many times a wait that is to sleep tries before that, without yielding: some microseconds.
 const LOOKS: u32 = 300;
 
 /// Nanoseconds on a clock that only runs on, or 0 where there is none.
@@ -33,9 +33,9 @@ fn now() -> u64 {
         .saturating_add(time.tv_nsec.unsigned_abs())
 }
 
-/// Whether it pays to wait awake, for some who wait for one another. To be woken takes longer than most of their waits, so they try again and again, and let others
-/// run in between. On a machine that is busy with something else that has a processor for milliseconds each time: then they sleep, and one of them looks
-/// now and then whether the machine is still so busy. The time decides how one waits, and nothing else.
+/// Decides for a group of threads that wait for one another whether they spin or sleep. Waking a thread takes longer than most of these waits, so threads spin,
+/// and yield between two tries. Where other programs keep the processors busy a yield costs milliseconds: then threads sleep, and now and then one of them
+/// yields to see whether the machine is still so busy. Measured times decide how threads wait, and nothing else.
 #[derive(Drop)]
 pub struct Patience {
     /// How many waits are still to sleep at once.

@@ -14,7 +14,7 @@ use tp_hub::{Answers, Event, Hub, Ran, Seat};
 use tp_model::{Mode, SharedVolumes, Volumes};
 use tp_msg::Managed;
 
-/// Which hub it was that was put behind a lock, which the caller picks as a type.
+/// Says, for contracts alone, which hub was put behind a lock. The caller picks it as a type.
 pub trait Start<V> {
     ghost is_start: { HubState V → Type 0 };
 }
@@ -23,8 +23,8 @@ impl<V> Start<V> for Brand {
     ghost is_start = { λ hub. Unit {0} };
 }
 
-/// A hub since such a start: it came of that one by asks one behind another, each of which was one run of it, and nothing else was done to it. Whoever has
-/// it alone can only ask it once more, and whoever shares it leaves it as it is.
+/// A hub of which contracts know where it came from: it is the hub of `K`, behind a row of asks, each of which was one run of it, and nothing else was done to
+/// it. A thread that has it alone can only ask it once more, and threads that share it do not change it.
 #[derive(Drop)]
 pub(crate) struct Since<V: Volumes, K: Start<V>> {
     hub: Hub<V>,
@@ -44,7 +44,9 @@ impl<V: Volumes, K: Start<V>> Model for Since<V, K> {
 
 impl<V: Volumes, K: Start<V>> Since<V, K> {
     ghost use Rattle.std.specs.Prelude.{◌≡◌, ◌<◌};
+    ghost use Rattle.nbd_session.specs.Session.{is_at_work, is_to_flush, keeps_apart};
     ghost use Rattle.tp_hub.specs.Seats.{seat_at};
+    ghost use Rattle.tp_hub.specs.Serving.{sessions_of};
     ghost use Rattle.tp_lock.specs.Locked.{IsFrom};
 
     /// The hub that it begins with.
@@ -81,6 +83,7 @@ impl<V: Volumes, K: Start<V>> Since<V, K> {
     /// Whether a session has parts of a request left.
     pub(crate) fn is_at_work(&self, number: u8) -> bool
         requires { number < 64 }
+        ensures { result ≡ is_at_work (sessions_of self.now.slots number).phase }
     {
         self.hub.is_at_work(number)
     }
@@ -88,13 +91,15 @@ impl<V: Volumes, K: Start<V>> Since<V, K> {
     /// Whether nothing but a FLUSH is left of a session's request.
     pub(crate) fn is_to_flush(&self, number: u8) -> bool
         requires { number < 64 }
+        ensures { result ≡ is_to_flush (sessions_of self.now.slots number).phase }
     {
         self.hub.is_to_flush(number)
     }
 
-    /// Whether a session's WRITEs with FUA are kept apart.
+    /// Whether a session's WRITEs, TRIMs and WRITE_ZEROES with FUA are kept apart.
     pub(crate) fn keeps_apart(&self, number: u8) -> bool
         requires { number < 64 }
+        ensures { result ≡ keeps_apart (sessions_of self.now.slots number).phase }
     {
         self.hub.keeps_apart(number)
     }
@@ -123,15 +128,18 @@ impl<V: Volumes, K: Start<V>> Since<V, K> {
 }
 
 impl<V: Managed, K: Start<V>> Since<V, K> {
-    ghost use Rattle.std.specs.Prelude.{◌<◌};
-    ghost use Rattle.tp_hub.specs.Runs.{incoming, session_of};
+    ghost use Rattle.std.specs.Prelude.{◌≡◌, ◌<◌, ℕ, [], false};
+    ghost use Rattle.tp_hub.specs.Runs.{Brings, incoming, session_of};
+    ghost use Rattle.tp_hub.specs.Parts.{IsIdle, is_parted_to};
     ghost use Rattle.tp_hub.specs.Desks.{IsAsked};
     ghost use Rattle.tp_hub.specs.Serve.{HubRuns};
+    ghost use Rattle.tp_hub.specs.Serving.{sessions_of};
 
     /// Asks it once.
     pub(crate) fn ask(&mut self, alloc: Global, event: Event<'_>, out: &mut Answers) -> Ran
         requires { session_of event < 64 }
-        ensures { IsAsked (λ took answers. HubRuns V.view self.old took answers self.new) (incoming event.entry) result.events result.bytes out.old out.new }
+        ensures asked { IsAsked (λ took answers. HubRuns V.view self.old took answers self.new) (incoming event.entry) result.events result.bytes out.old out.new }
+        ensures made { (n : ℕ) → is_parted_to n event.entry ≡ false → incoming event.entry ≡ Brings n [] → 0 < result.events → IsIdle (sessions_of self.new.slots) n }
     {
         self.hub.take(alloc, event, out)
     }

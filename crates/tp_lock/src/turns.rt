@@ -1,12 +1,27 @@
-//! How much of what a client sent is asked at once.
+//! How much of what a client sent is asked at once, and what it begins with.
 
 ghost use Rattle.std.specs.Prelude.{◌≡◌, ◌<◌, ◌≤◌, length, slice_index_or};
 ghost use Rattle.tp_lock.specs.Framing.{first_end, is_to_keep, more_of, turn_of};
+ghost use Rattle.tp_lock.specs.Pieces.{IsKindOf, is_change, kind_but_look};
 
+use nbd_session::begins_with_look;
 use nbd_wire::{Kind, REQUEST_MAGIC, wanted};
 
 /// At most so many requests of a client are made before others may have the hub.
 const MOST_REQUESTS: u32 = 16;
+
+/// What a piece begins with, as far as it matters to how the hub is asked for it.
+#[derive(Clone, Copy, PartialEq, Eq)]
+pub(crate) enum PieceKind {
+    /// A whole READ or BLOCK_STATUS: others may have the hub beside it.
+    Look,
+    /// A WRITE, a TRIM or a WRITE_ZEROES with FUA.
+    ChangeWithFua,
+    /// Anything else that keeps what was written, as a FLUSH does.
+    Keep,
+    /// Anything else.
+    Other,
+}
 
 /// How many bytes stand at the front of some that end with the first request, or before.
 fn first_len(bytes: &[u8]) -> usize
@@ -25,15 +40,42 @@ fn byte_at(bytes: &[u8], i: usize) -> u8
 }
 
 /// Whether a request is to keep what was written, as a FLUSH is, and one with FUA, by its flags and its type.
-pub(crate) fn is_to_keep(request: &[u8]) -> bool
+fn is_to_keep(request: &[u8]) -> bool
     ensures { result ≡ is_to_keep request.now }
 {
     byte_at(request, 5) % 2 == 1 || (byte_at(request, 6) == 0 && byte_at(request, 7) == 3)
 }
 
-/// Whether a request is a WRITE, by its type.
-pub(crate) fn is_write(request: &[u8]) -> bool {
-    byte_at(request, 6) == 0 && byte_at(request, 7) == 1
+/// Whether a request changes sectors, by its type: it is a WRITE, a TRIM or a WRITE_ZEROES.
+fn is_change(request: &[u8]) -> bool
+    ensures { result ≡ is_change request.now }
+{
+    let kind = byte_at(request, 7);
+    byte_at(request, 6) == 0 && (kind == 1 || kind == 4 || kind == 6)
+}
+
+/// What a piece begins with that is no READ and no BLOCK_STATUS, by its flags and its type.
+fn kind_but_look(piece: &[u8]) -> PieceKind
+    ensures { result ≡ kind_but_look piece.now }
+{
+    if is_to_keep(piece) {
+        if is_change(piece) {
+            return PieceKind::ChangeWithFua;
+        }
+        return PieceKind::Keep;
+    }
+    PieceKind::Other
+}
+
+/// What a piece begins with. It is looked up once for each ask, and decides only how the hub is asked: the session reads the piece itself.
+pub(crate) fn kind_of_piece(piece: &[u8]) -> PieceKind
+    ensures { IsKindOf piece.now result }
+{
+    if begins_with_look(piece) {
+        PieceKind::Look
+    } else {
+        kind_but_look(piece)
+    }
 }
 
 /// How many bytes stand at the front of those behind a turn so far that belong to it too. A request that keeps what was written begins a turn, so that what

@@ -5,7 +5,7 @@ pub returns-in-CreateThin : goal.returns-in-CreateThin
 returns-in-CreateThin c = rw c.in-CreateThin.is refl
 
 pub returns-in-CreateSnap : goal.returns-in-CreateSnap
-returns-in-CreateSnap c = rw c.in-CreateSnap.is c.number.ensures
+returns-in-CreateSnap c = rw c.in-CreateSnap.is c.number.ensures.value
 
 pub returns-in-Delete : goal.returns-in-Delete
 returns-in-Delete c = rw c.in-Delete.is refl

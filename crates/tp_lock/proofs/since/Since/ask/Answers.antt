@@ -5,9 +5,12 @@ use Rattle.tp_hub.specs.Serve.{HubRuns}
 use Rattle.tp_lock.proofs.Going.{asked_once}
 use Rattle.tp_lock.proofs.since.Since.ask.Goals as goal
 
-pub returns : goal.returns
-returns g c = subst (λ h. IsAsked (λ took answers. HubRuns g.V.Volumes.view h took answers c.take.new.self) (incoming c.args.event) c.take.result.events c.take.result.bytes c.args.out.now c.take.new.out) c.self.view_is
+pub returns-clause-asked : goal.returns-clause-asked
+returns-clause-asked g c = subst (λ h. IsAsked (λ took answers. HubRuns g.V.Volumes.view h took answers c.take.new.self) (incoming c.args.event) c.take.result.events c.take.result.bytes c.args.out.now c.take.new.out) c.self.view_is
     c.take.ensures.asked
 
 pub invariant_of-self : goal.invariant_of-self
 invariant_of-self g c = asked_once g.V.Volumes.view g.K.Start.is_start _ _ _ _ _ _ _ c.self.invariant c.take.ensures.asked
+
+pub returns-clause-made : goal.returns-clause-made
+returns-clause-made g c n apart is some = c.take.ensures.made n apart is some
