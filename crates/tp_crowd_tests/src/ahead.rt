@@ -216,11 +216,20 @@ where
     Ok((sent.is_ok(), is_read_ahead?))
 }
 
+/// The same of two long writes, of which the first one is read first.
+fn told_of_two_writes<H>(rt: &H) -> io::Result<(bool, bool)>
+where
+    H: Net<Listener = TcpListener, Stream = TcpStream> + Threads + Sync + Alloc<A = Global>,
+{
+    let count = FLAGS.len() + HEAD.len() + 524_288;
+    let text = long_writes(rt.alloc(), b"ab", b"")?;
+    told_of_what_follows(rt, &text, count)
+}
+
 /// What a client sends behind a long write is read while that write could be asked, where there is a processor for it: who is gone has none.
 #[test]
 fn what_follows_a_long_write_is_read_ahead(rt: HostRuntime) -> Result<(), Fail> {
-    let count = FLAGS.len() + HEAD.len() + 524_288;
-    let told = told_of_what_follows(&rt, &long_writes(rt.alloc(), b"ab", b"")?, count)?;
+    let told = told_of_two_writes(&rt)?;
     assert_eq!(rt; told, (true, true));
     Ok(())
 }

@@ -1,6 +1,6 @@
 //! Control clients beside a client, over loopback addresses.
 
-use crate::parts::exchange;
+use crate::parts::is_sent_back;
 use crate::served::listening;
 use crate::waiting::Seen;
 use std::alloc::Global;
@@ -16,18 +16,24 @@ use tp_hub::Hub;
 use tp_model::Refusal;
 use tp_shelf::paged_shelf;
 
-/// A client that was answered that its line is done. It waits 10 seconds at most for what it reads.
+/// Sends a line, and fails where it is not answered that it is done. It waits 10 seconds at most for what it reads.
+fn order(alloc: Global, client: &mut TcpStream, line: &[u8]) -> io::Result<()> {
+    client.set_read_timeout(Some(Duration::from_millis(10_000)))?;
+    if is_sent_back(alloc, client, line, b"ok\n")? {
+        Ok(())
+    } else {
+        Err(io::Error::from(ErrorKind::InvalidData))
+    }
+}
+
+/// A client that was answered that its line is done.
 fn answered<H>(rt: &H, control: SocketAddr, line: &[u8]) -> io::Result<TcpStream>
 where
     H: Net<Listener = TcpListener, Stream = TcpStream> + Alloc<A = Global>,
 {
     let mut client = TcpStream::connect(rt, control)?;
-    client.set_read_timeout(Some(Duration::from_millis(10_000)))?;
-    if exchange(rt.alloc(), &mut client, line, 3)?.as_slice() == b"ok\n".as_slice() {
-        Ok(client)
-    } else {
-        Err(io::Error::from(ErrorKind::InvalidData))
-    }
+    order(rt.alloc(), &mut client, line)?;
+    Ok(client)
 }
 
 /// A client that is answered and goes, and then one that is answered and stays.

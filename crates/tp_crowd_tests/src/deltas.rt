@@ -105,14 +105,17 @@ where
     Ok(told)
 }
 
-/// The same beside those who serve it, and how many clients came, and how many were refused.
+/// That, and how many clients came, and how many were refused.
+type Served = ((Told, Told, Told), (u8, u64));
+
+/// The same beside those who serve it.
 fn told_beside<H>(
     rt: &H,
     listener: TcpListener,
     control: &TcpListener,
     place: &str,
     clients: SocketAddr,
-) -> Result<((Told, Told, Told), (u8, u64)), Fail>
+) -> Result<Served, Fail>
 where
     H: Net<Listener = TcpListener, Stream = TcpStream>
         + Threads
@@ -129,8 +132,36 @@ where
     Ok((told?, served?))
 }
 
-/// The same of listeners of loopback.
-fn told_of_deltas<H>(rt: &H) -> Result<((Told, Told, Told), (u8, u64)), Fail>
+/// The same of a listener of loopback for clients.
+fn told_at<H>(rt: &H, control: &TcpListener, place: &str) -> Result<Served, Fail>
+where
+    H: Net<Listener = TcpListener, Stream = TcpStream>
+        + Threads
+        + Wait
+        + Clock
+        + Sync
+        + Alloc<A = Global>,
+{
+    let (listener, clients) = listening(rt)?;
+    told_beside(rt, listener, control, place, clients)
+}
+
+/// The same where the place is this address.
+fn told_at_address<H>(rt: &H, control: &TcpListener, lines: SocketAddr) -> Result<Served, Fail>
+where
+    H: Net<Listener = TcpListener, Stream = TcpStream>
+        + Threads
+        + Wait
+        + Clock
+        + Sync
+        + Alloc<A = Global>,
+{
+    let place = format!(in rt.alloc(); "{lines}")?;
+    told_at(rt, control, &place)
+}
+
+/// The same of another listener for control lines.
+fn told_of_deltas<H>(rt: &H) -> Result<Served, Fail>
 where
     H: Net<Listener = TcpListener, Stream = TcpStream>
         + Threads
@@ -140,9 +171,7 @@ where
         + Alloc<A = Global>,
 {
     let (control, lines) = listening(rt)?;
-    let (listener, clients) = listening(rt)?;
-    let place = format!(in rt.alloc(); "{lines}")?;
-    told_beside(rt, listener, &control, &place, clients)
+    told_at_address(rt, &control, lines)
 }
 
 /// Pages are joined, their runs and the holes between them printed, and nothing of a volume that the server does not know.

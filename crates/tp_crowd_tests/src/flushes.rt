@@ -84,10 +84,21 @@ where
     Ok((answered, hub.into_inner().into_pool().synced().0))
 }
 
+/// The same behind a write of a sector.
+fn told_of_a_write<H>(rt: &H) -> Result<(usize, u64), Refusal>
+where
+    H: Wait + Sync + Alloc<A = Global>,
+{
+    match write(rt.alloc()) {
+        Ok(write) => told_of_two(rt, &write),
+        Err(_) => Err(Refusal::Memory),
+    }
+}
+
 /// The second of two FLUSHes finds all kept: nothing was written since the first one.
 #[test]
 fn two_flushes_share_a_commit(rt: HostRuntime) -> Result<(), Fail> {
-    let told = told_of_two(&rt, &write(rt.alloc())?)?;
+    let told = told_of_a_write(&rt)?;
     assert_eq!(rt; told, (32, 2));
     Ok(())
 }
@@ -128,15 +139,33 @@ where
     Ok((answered, hub.into_inner().into_pool().synced().0))
 }
 
+/// The same of both profiles, the extended one first.
+fn told_of_profiles<H>(rt: &H, write: &[u8]) -> Result<[(usize, u64); 2], Refusal>
+where
+    H: Wait + Sync + Alloc<A = Global>,
+{
+    Ok([
+        told_of_kept(rt, Profile::Extended, write)?,
+        told_of_kept(rt, Profile::Strict, write)?,
+    ])
+}
+
+/// The same of a write of a sector with FUA.
+fn told_of_kept_writes<H>(rt: &H) -> Result<[(usize, u64); 2], Refusal>
+where
+    H: Wait + Sync + Alloc<A = Global>,
+{
+    match kept_write(rt.alloc()) {
+        Ok(write) => told_of_profiles(rt, &write),
+        Err(_) => Err(Refusal::Memory),
+    }
+}
+
 /// Each WRITE with FUA of an extended session is kept by a flush in parts, between which READs go on. Those of a strict one are kept by their own calls: a flush in
 /// parts is made before the first, of what was asked before.
 #[test]
 fn a_write_with_fua_is_kept_in_parts(rt: HostRuntime) -> Result<(), Fail> {
-    let write = kept_write(rt.alloc())?;
-    let told = [
-        told_of_kept(&rt, Profile::Extended, &write)?,
-        told_of_kept(&rt, Profile::Strict, &write)?,
-    ];
+    let told = told_of_kept_writes(&rt)?;
     assert_eq!(rt; told, [(32, 4), (32, 2)]);
     Ok(())
 }

@@ -63,6 +63,17 @@ where
     Ok((took, is_marked, hub.into_inner().into_pool().cleared()))
 }
 
+/// The same of that text.
+fn told_of_trim<H>(rt: &H) -> Result<([Ran; 3], bool, u64), Refusal>
+where
+    H: Wait + Sync + Alloc<A = Global>,
+{
+    match read_trim_read(rt.alloc()) {
+        Ok(text) => told_of(rt, &text),
+        Err(_) => Err(Refusal::Memory),
+    }
+}
+
 /// Some bytes of a piece.
 fn part(bytes: usize) -> Ran {
     Ran { events: 0, bytes }
@@ -71,7 +82,7 @@ fn part(bytes: usize) -> Ran {
 /// One ask makes all parts of a long request, and answers it once; what stands before and behind it is asked by asks of its own.
 #[test]
 fn a_long_trim_is_made_whole(rt: HostRuntime) -> Result<(), Fail> {
-    let (took, is_marked, cleared) = told_of(&rt, &read_trim_read(rt.alloc())?)?;
+    let (took, is_marked, cleared) = told_of_trim(&rt)?;
     let rest = Ran {
         events: 1,
         bytes: 0,

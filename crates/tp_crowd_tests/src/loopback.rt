@@ -1,6 +1,6 @@
 //! Clients over a loopback address.
 
-use crate::parts::exchange;
+use crate::parts::pass_over;
 use crate::served::{Left, listening, served};
 use crate::talk::{ANSWERED_GO, GO, READ, answers, session};
 use std::alloc::Global;
@@ -18,17 +18,16 @@ fn send_session(alloc: Global, client: &mut TcpStream) -> io::Result<()> {
     client.shutdown(Shutdown::Write)
 }
 
-/// All that a client is sent.
-fn read_all(alloc: Global, client: &mut TcpStream) -> io::Result<Vec<u8>> {
-    let mut sent = Vec::new(alloc);
-    client.read_to_end(&mut sent)?;
-    Ok(sent)
+/// Whether these are the answers to that session.
+fn are_answers(alloc: Global, sent: &[u8]) -> io::Result<bool> {
+    Ok(answers(alloc)?.as_slice() == sent)
 }
 
-/// Whether these are the answers to that session.
+/// Whether that is all that a client is sent.
 fn is_answered(alloc: Global, client: &mut TcpStream) -> io::Result<bool> {
-    let wanted = answers(alloc)?;
-    Ok(read_all(alloc, client)? == wanted)
+    let mut sent = Vec::new(alloc);
+    client.read_to_end(&mut sent)?;
+    are_answers(alloc, &sent)
 }
 
 /// Serves a client, and tells whether it is sent all answers.
@@ -44,14 +43,23 @@ where
     Ok((left, is_answered(rt.alloc(), client)?))
 }
 
-/// The same of a client that sent a whole session before.
+/// A client that sent a whole session.
+fn sent_client<H>(rt: &H, address: SocketAddr) -> io::Result<TcpStream>
+where
+    H: Net<Listener = TcpListener, Stream = TcpStream> + Alloc<A = Global>,
+{
+    let mut client = TcpStream::connect(rt, address)?;
+    send_session(rt.alloc(), &mut client)?;
+    Ok(client)
+}
+
+/// The same of such a client.
 fn told_of_session<H>(rt: &H) -> Result<(Left, bool), Fail>
 where
     H: Net<Listener = TcpListener, Stream = TcpStream> + Threads + Wait + Sync + Alloc<A = Global>,
 {
     let (listener, address) = listening(rt)?;
-    let mut client = TcpStream::connect(rt, address)?;
-    send_session(rt.alloc(), &mut client)?;
+    let mut client = sent_client(rt, address)?;
     served_and_answered(rt, listener, &mut client)
 }
 
@@ -101,9 +109,9 @@ where
     H: Net<Listener = TcpListener, Stream = TcpStream> + Clock + Alloc<A = Global>,
 {
     let greeted = usize::try_from(ANSWERED_GO).unwrap_or(0);
-    exchange(rt.alloc(), client, GO, greeted)?;
+    pass_over(rt.alloc(), client, GO, greeted)?;
     let is_refused = is_refused(rt, address);
-    Ok((is_refused, exchange(rt.alloc(), client, READ, 528)?.len()))
+    Ok((is_refused, pass_over(rt.alloc(), client, READ, 528)?))
 }
 
 /// A client that does that.

@@ -28,17 +28,49 @@ fn letters(alloc: Global, count: usize) -> Result<Vec<u8>, AllocError> {
     Vec::from_elem(alloc, 0x61u8, count)
 }
 
-/// Sends this, and reads so many bytes.
-pub(crate) fn exchange(
+/// Sends this, and reads as many bytes as there is room for: how many.
+fn exchange(client: &mut TcpStream, text: &[u8], sent: &mut [u8]) -> io::Result<usize> {
+    client.write_all(text)?;
+    client.read_exact(sent)?;
+    Ok(sent.len())
+}
+
+/// Sends this, and reads so many bytes, whatever they are: how many.
+pub(crate) fn pass_over(
     alloc: Global,
     client: &mut TcpStream,
     text: &[u8],
     count: usize,
-) -> io::Result<Vec<u8>> {
-    client.write_all(text)?;
+) -> io::Result<usize> {
     let mut sent = Vec::from_elem(alloc, 0u8, count)?;
-    client.read_exact(&mut sent)?;
-    Ok(sent)
+    exchange(client, text, &mut sent)
+}
+
+/// Whether these are the same bytes.
+fn are_same(sent: &[u8], wanted: &[u8]) -> bool {
+    sent == wanted
+}
+
+/// Whether a client who sends this is sent these bytes, where there is room for as many.
+fn is_sent_into(
+    client: &mut TcpStream,
+    text: &[u8],
+    wanted: &[u8],
+    sent: &mut [u8],
+) -> io::Result<bool> {
+    exchange(client, text, sent)?;
+    Ok(are_same(sent, wanted))
+}
+
+/// Whether a client who sends this is sent these bytes, where as many as they are are read.
+pub(crate) fn is_sent_back(
+    alloc: Global,
+    client: &mut TcpStream,
+    text: &[u8],
+    wanted: &[u8],
+) -> io::Result<bool> {
+    let mut sent = Vec::from_elem(alloc, 0u8, wanted.len())?;
+    is_sent_into(client, text, wanted, &mut sent)
 }
 
 /// GO and a read, behind them the head of a long write and the first part of its payload.
@@ -58,23 +90,22 @@ fn read_answer(alloc: Global) -> Result<Vec<u8>, AllocError> {
 }
 
 /// Waits for the answer to a read, behind which the beginning of a write was sent.
-fn begin(alloc: Global, client: &mut TcpStream) -> io::Result<()> {
+fn begin(alloc: Global, client: &mut TcpStream) -> io::Result<usize> {
     let greeted = usize::try_from(ANSWERED_READ).unwrap_or(0);
     let text = read_and_begin(alloc)?;
-    exchange(alloc, client, &text, greeted)?;
-    Ok(())
+    pass_over(alloc, client, &text, greeted)
 }
 
-/// What that write is answered, behind which the beginning of another read is sent.
-fn end_write(alloc: Global, client: &mut TcpStream) -> io::Result<Vec<u8>> {
+/// Whether that write is answered, behind which the beginning of another read is sent.
+fn is_written(alloc: Global, client: &mut TcpStream) -> io::Result<bool> {
     let text = joined(alloc, &[LAST, READ.split_at(5).0])?;
-    exchange(alloc, client, &text, 16)
+    is_sent_back(alloc, client, &text, WRITTEN)
 }
 
 /// Whether this read is answered by what was written.
 fn is_read(alloc: Global, client: &mut TcpStream) -> io::Result<bool> {
     let wanted = read_answer(alloc)?;
-    Ok(exchange(alloc, client, READ.split_at(5).1, 528)? == wanted)
+    is_sent_back(alloc, client, READ.split_at(5).1, &wanted)
 }
 
 /// Sends the second part.
@@ -87,7 +118,7 @@ fn go_on(alloc: Global, client: &mut TcpStream) -> io::Result<()> {
 fn are_answered(alloc: Global, client: &mut TcpStream) -> io::Result<(bool, bool)> {
     begin(alloc, client)?;
     go_on(alloc, client)?;
-    let is_written = end_write(alloc, client)?.as_slice() == WRITTEN;
+    let is_written = is_written(alloc, client)?;
     Ok((is_written, is_read(alloc, client)?))
 }
 

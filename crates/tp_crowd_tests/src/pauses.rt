@@ -1,6 +1,6 @@
 //! Clients over a loopback address that let the server wait.
 
-use crate::parts::exchange;
+use crate::parts::pass_over;
 use crate::served::{Left, listening, served};
 use crate::talk::{GO, READ};
 use std::alloc::{AllocError, Global};
@@ -40,24 +40,40 @@ fn exchange_late<H>(
 where
     H: Alloc<A = Global> + Clock,
 {
-    exchange(rt.alloc(), client, text, 0)?;
+    pass_over(rt.alloc(), client, text, 0)?;
     thread::sleep(rt, Duration::from_millis(pause));
-    let sent = exchange(rt.alloc(), client, &[], count)?;
-    Ok(sent.len())
+    pass_over(rt.alloc(), client, &[], count)
 }
 
-/// A client that reads the answers to its reads late, and then waits before each of five reads more.
-fn talk_with_pauses<H>(rt: &H, address: SocketAddr) -> io::Result<usize>
+/// A client that sends this and reads the answers to it late, and then waits before each of five reads more.
+fn exchange_with_pauses<H>(rt: &H, client: &mut TcpStream, text: &[u8]) -> io::Result<usize>
+where
+    H: Alloc<A = Global> + Clock,
+{
+    let mut sent = exchange_late(rt, client, text, 100, ANSWERED)?;
+    for _ in 0..5 {
+        thread::sleep(rt, Duration::from_millis(5));
+        sent = sent.saturating_add(exchange_late(rt, client, READ, 0, 528)?);
+    }
+    Ok(sent)
+}
+
+/// The same of a new client.
+fn talk_so<H>(rt: &H, address: SocketAddr, text: &[u8]) -> io::Result<usize>
 where
     H: Net<Listener = TcpListener, Stream = TcpStream> + Alloc<A = Global> + Clock,
 {
     let mut client = TcpStream::connect(rt, address)?;
-    let mut sent = exchange_late(rt, &mut client, &long_reads(rt.alloc())?, 100, ANSWERED)?;
-    for _ in 0..5 {
-        thread::sleep(rt, Duration::from_millis(5));
-        sent = sent.saturating_add(exchange_late(rt, &mut client, READ, 0, 528)?);
-    }
-    Ok(sent)
+    exchange_with_pauses(rt, &mut client, text)
+}
+
+/// The same of one that sends those reads.
+fn talk_with_pauses<H>(rt: &H, address: SocketAddr) -> io::Result<usize>
+where
+    H: Net<Listener = TcpListener, Stream = TcpStream> + Alloc<A = Global> + Clock,
+{
+    let text = long_reads(rt.alloc())?;
+    talk_so(rt, address, &text)
 }
 
 /// How many bytes that client is sent, and what is left of those who serve it.

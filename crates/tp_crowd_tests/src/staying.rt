@@ -1,6 +1,6 @@
 //! Clients without end, over loopback addresses.
 
-use crate::parts::exchange;
+use crate::parts::{is_sent_back, pass_over};
 use crate::served::listening;
 use crate::talk::{ANSWERED_GO, GO};
 use crate::waiting::Seen;
@@ -24,7 +24,7 @@ const CLIENTS: u32 = 70;
 /// Has a client be told of its volume. It waits 10 seconds at most for what it reads.
 fn go(alloc: Global, client: &mut TcpStream) -> io::Result<()> {
     client.set_read_timeout(Some(Duration::from_millis(10_000)))?;
-    exchange(alloc, client, GO, ANSWERED_GO as usize)?;
+    pass_over(alloc, client, GO, ANSWERED_GO as usize)?;
     Ok(())
 }
 
@@ -46,7 +46,7 @@ fn is_line_answered(
     answer: &[u8],
 ) -> io::Result<bool> {
     ruler.set_read_timeout(Some(Duration::from_millis(10_000)))?;
-    Ok(exchange(alloc, ruler, line, answer.len())?.as_slice() == answer)
+    is_sent_back(alloc, ruler, line, answer)
 }
 
 /// Says a line to those who serve: whether it is answered so.
@@ -100,18 +100,25 @@ where
     Ok((count as u32, done))
 }
 
-/// How many of four lines are answered so.
+/// Lines, and what each is answered while one client has a volume and another has none.
+const LINES: &[(&[u8], &[u8])] = &[
+    (b"clients\n", b"2 of 64: 0\n"),
+    (b"flush\n", b"ok\n"),
+    (b"flush now\n", b"refused 12\n"),
+    (b"thin 2\n", b"refused 15\n"),
+];
+
+/// How many of these lines are answered so.
 fn told_lines<H>(rt: &H, control: SocketAddr) -> io::Result<u32>
 where
     H: Net<Listener = TcpListener, Stream = TcpStream> + Alloc<A = Global>,
 {
-    let told = [
-        is_answered(rt, control, b"clients\n", b"2 of 64: 0\n")?,
-        is_answered(rt, control, b"flush\n", b"ok\n")?,
-        is_answered(rt, control, b"flush now\n", b"refused 12\n")?,
-        is_answered(rt, control, b"thin 2\n", b"refused 15\n")?,
-    ];
-    Ok(count_so(&told))
+    let mut told = 0u32;
+    for (line, answer) in LINES {
+        let is_so = is_answered(rt, control, line, answer)?;
+        told = told.saturating_add(u32::from(is_so));
+    }
+    Ok(told)
 }
 
 /// The same while one client has a volume and another has none.
@@ -148,16 +155,15 @@ fn many_reads(alloc: Global) -> Result<Vec<u8>, AllocError> {
 }
 
 /// Makes many reads, and takes only the head of what they are answered.
-fn take_a_head(alloc: Global, client: &mut TcpStream) -> io::Result<()> {
+fn take_a_head(alloc: Global, client: &mut TcpStream) -> io::Result<usize> {
     let reads = many_reads(alloc)?;
-    exchange(alloc, client, &reads, 16)?;
-    Ok(())
+    pass_over(alloc, client, &reads, 16)
 }
 
 /// Tells those who serve to stop now: whether they end within 20 seconds, and whether that is done.
 fn stop_now(alloc: Global, ruler: &mut TcpStream) -> io::Result<(u32, bool)> {
     ruler.set_read_timeout(Some(Duration::from_millis(20_000)))?;
-    let done = exchange(alloc, ruler, b"stop now\n", 3)?.as_slice() == b"ok\n".as_slice();
+    let done = is_sent_back(alloc, ruler, b"stop now\n", b"ok\n")?;
     let is_over = matches!(ruler.read(&mut [0]), Ok(0));
     Ok((u32::from(is_over), done))
 }
@@ -171,16 +177,26 @@ where
     stop_now(rt.alloc(), &mut ruler)
 }
 
-/// A client that takes only the head of what it is answered: whether those who serve end while it stays, and whether it is done that they are to stop now.
+/// A client takes only the head of what it is answered: whether those who serve end while it stays, and whether it is done that they are to stop now.
+fn stay_with_a_head<H>(
+    rt: &H,
+    control: SocketAddr,
+    client: &mut TcpStream,
+) -> io::Result<(u32, bool)>
+where
+    H: Net<Listener = TcpListener, Stream = TcpStream> + Alloc<A = Global>,
+{
+    take_a_head(rt.alloc(), client)?;
+    stopped_now(rt, control)
+}
+
+/// The same of a new client.
 fn take_nothing<H>(rt: &H, clients: SocketAddr, control: SocketAddr) -> io::Result<(u32, bool)>
 where
     H: Net<Listener = TcpListener, Stream = TcpStream> + Alloc<A = Global>,
 {
     let mut client = told_client(rt, clients)?;
-    take_a_head(rt.alloc(), &mut client)?;
-    let told = stopped_now(rt, control);
-    drop(client);
-    told
+    stay_with_a_head(rt, control, &mut client)
 }
 
 /// Reads until the other side closes: how many bytes came.
@@ -189,18 +205,26 @@ fn count_rest(alloc: Global, client: &mut TcpStream) -> io::Result<usize> {
     client.read_to_end(&mut rest)
 }
 
-/// A client that takes the head of what it is answered before those who serve are told to stop now, and the rest behind that: whether whole answers came, and whether
+/// A client takes the head of what it is answered before those who serve are told to stop now, and the rest behind that: whether whole answers came, and whether
 /// it is done that they are to stop now.
+fn take_the_rest<H>(rt: &H, control: SocketAddr, client: &mut TcpStream) -> io::Result<(u32, bool)>
+where
+    H: Net<Listener = TcpListener, Stream = TcpStream> + Alloc<A = Global>,
+{
+    take_a_head(rt.alloc(), client)?;
+    let done = is_done(rt, control, b"stop now\n")?;
+    let rest = count_rest(rt.alloc(), client)?;
+    let is_whole = rest > 0 && rest % 1_048_592 == 1_048_576;
+    Ok((u32::from(is_whole), done))
+}
+
+/// The same of a new client.
 fn take_late<H>(rt: &H, clients: SocketAddr, control: SocketAddr) -> io::Result<(u32, bool)>
 where
     H: Net<Listener = TcpListener, Stream = TcpStream> + Alloc<A = Global>,
 {
     let mut client = told_client(rt, clients)?;
-    take_a_head(rt.alloc(), &mut client)?;
-    let done = is_done(rt, control, b"stop now\n")?;
-    let rest = count_rest(rt.alloc(), &mut client)?;
-    let is_whole = rest > 0 && rest % 1_048_592 == 1_048_576;
-    Ok((u32::from(is_whole), done))
+    take_the_rest(rt, control, &mut client)
 }
 
 /// How many of these are so.

@@ -1,14 +1,14 @@
 //! Images with trees that are built by hand: a volume's tree of three levels, and a tree of as many devices as there may be, and of one more.
 
 use crate::images::{
-    block_at, closed, number_at, put_block, put_number, put_short, set_number, set_short, sizes,
+    block_at, number_at, put_block, put_number, put_short, set_number, set_short, sizes,
 };
 use crate::told::{Answers, number_of, told_by_check, told_of};
 use std::alloc::Global;
 use std::test::Fail;
 use tp_disk::{Fault, MemDisk};
 use tp_model::{DevId, Geometry, Refusal};
-use tp_samples::{MemPool, create_snap, create_thin, delete, empty, opened};
+use tp_samples::{MemPool, closed, create_snap, create_thin, delete, empty, opened};
 
 /// The kinds of trees.
 const DEVICE: u32 = 1;

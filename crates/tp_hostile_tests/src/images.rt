@@ -5,7 +5,7 @@ use std::test::Fail;
 use tp_disk::{Disk, Fault, MemDisk};
 use tp_model::{DevId, Geometry, Refusal};
 use tp_samples::{
-    MemPool, SECTOR, close, create_snap, create_thin, empty, flush, set_transaction_id, write,
+    MemPool, SECTOR, closed, create_snap, create_thin, empty, flush, set_transaction_id, write,
 };
 
 /// Sectors of the image: 1032 metadata blocks, of which the trees begin at block 8, and four data blocks.
@@ -38,13 +38,6 @@ pub(crate) fn filled(alloc: Global) -> Result<MemPool, Fail> {
     let mut pool = empty(alloc, sizes()?)?;
     fill(&mut pool)?;
     Ok(pool)
-}
-
-/// The disk of a pool whose closing is answered.
-pub(crate) fn closed(pool: MemPool) -> Result<MemDisk, Refusal> {
-    let (answer, disk) = close(pool);
-    answer?;
-    Ok(disk)
 }
 
 /// Its image.

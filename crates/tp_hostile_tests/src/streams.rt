@@ -3,7 +3,6 @@
 ghost use Rattle.std.specs.Prelude.{◌≡◌, [], IfOk};
 
 use crate::frames::{Asked, READ, add_first, add_option, add_request};
-use crate::images::closed;
 use crate::plain::{PlainPool, VOLUME, copy_in, serve};
 use crate::random::{Random, make_text, piece_of};
 use crate::told::told_by_check;
@@ -16,7 +15,7 @@ use tp_meta::Meta;
 use tp_model::{DevId, Geometry, Refusal};
 use tp_msg::Managed;
 use tp_pool::Pool;
-use tp_samples::{MemPool, close, read, write};
+use tp_samples::{MemPool, close, closed, read, write};
 
 /// A pool of volumes of four blocks over five data blocks.
 fn formatted(alloc: Global) -> Result<MemPool, Refusal>

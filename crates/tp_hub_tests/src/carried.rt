@@ -27,31 +27,36 @@ fn zeroes(alloc: Global, len: usize) -> Result<Vec<u8>, Refusal>
 }
 
 /// Carries a client as session 5 over two volumes of zeros: how it ended, and how many sessions hold volumes after it.
-fn carry_alone(alloc: Global, client: &mut Script<'_>) -> Result<(Carried, usize), Refusal> {
+fn carry_by(
+    alloc: Global,
+    client: &mut Script<'_>,
+    buffer: &mut Vec<u8>,
+) -> Result<(Carried, usize), Refusal>
+    requires { 0 < length buffer.old.items }
+{
     let mut hub = Hub::new(blank_shelf(alloc)?);
-    let mut buffer = zeroes(alloc, PIECE)?;
     let mut out = Answers::new(alloc);
     let mut desk = HubDesk {
         alloc,
         hub: &mut hub,
     };
-    let ending = carry(&mut desk, 5, Profile::Strict, client, &mut buffer, &mut out);
+    let ending = carry(&mut desk, 5, Profile::Strict, client, buffer, &mut out);
     let HubDesk { alloc: _, hub: _ } = desk;
     Ok((ending, hub.into_pool().held()))
+}
+
+/// The same by way of a buffer of its own.
+fn carry_alone(alloc: Global, client: &mut Script<'_>) -> Result<(Carried, usize), Refusal> {
+    let mut buffer = zeroes(alloc, PIECE)?;
+    carry_by(alloc, client, &mut buffer)
 }
 
 /// What is told of a client: how it ended, the sessions that hold volumes, what was taken, the flushes, the reads, and those behind its last byte.
 type Told = (Carried, usize, u64, u64, u64, u64);
 
-/// Carries a client that sends one talk with a DISC in it, so many bytes a read, and takes so many a write.
-fn carry_talk(alloc: Global, gives: usize, takes: usize) -> Result<(Told, [u8; KEPT]), Refusal> {
-    let Ok(talk) = one_talk(alloc) else {
-        return Err(Refusal::Memory);
-    };
-    let mut client = Script::new(&talk);
-    client.gives = gives;
-    client.takes = takes;
-    let (ending, held) = carry_alone(alloc, &mut client)?;
+/// Carries a client: what is told of it, and the first bytes that it took.
+fn carry_and_tell(alloc: Global, client: &mut Script<'_>) -> Result<(Told, [u8; KEPT]), Refusal> {
+    let (ending, held) = carry_alone(alloc, client)?;
     let told = (
         ending,
         held,
@@ -63,13 +68,31 @@ fn carry_talk(alloc: Global, gives: usize, takes: usize) -> Result<(Told, [u8; K
     Ok((told, client.kept))
 }
 
+/// The same of one that sends one talk with a DISC in it, so many bytes a read, and takes so many a write.
+fn carry_talk(alloc: Global, gives: usize, takes: usize) -> Result<(Told, [u8; KEPT]), Refusal> {
+    let Ok(talk) = one_talk(alloc) else {
+        return Err(Refusal::Memory);
+    };
+    let mut client = Script::new(&talk);
+    client.gives = gives;
+    client.takes = takes;
+    carry_and_tell(alloc, &mut client)
+}
+
+/// Whether that talk is answered by the greeting, a reply without an error, and a sector of letters.
+fn are_answers(kept: &[u8; KEPT]) -> [bool; 3] {
+    [
+        &kept[..16] == b"NBDMAGICIHAVEOPT".as_slice(),
+        &kept[104..112] == b"\x67\x44\x66\x98\0\0\0\0".as_slice(),
+        kept[136..648].iter().all(|byte| *byte == 0x61),
+    ]
+}
+
 #[test]
 fn no_read_behind_disc(rt: HostRuntime) -> Result<(), Fail> {
     let (told, kept) = carry_talk(rt.alloc(), usize::MAX, usize::MAX)?;
-    assert_eq!(rt; told, (Carried::SessionOver, 0, ANSWERED, 2, 1, 0));
-    assert!(rt; &kept[..16] == b"NBDMAGICIHAVEOPT".as_slice());
-    assert!(rt; &kept[104..112] == b"\x67\x44\x66\x98\0\0\0\0".as_slice());
-    assert!(rt; kept[136..648].iter().all(|byte| *byte == 0x61));
+    let wanted = (Carried::SessionOver, 0, ANSWERED, 2, 1, 0);
+    assert_eq!(rt; (told, are_answers(&kept)), (wanted, [true; 3]));
     Ok(())
 }
 
@@ -77,11 +100,9 @@ fn no_read_behind_disc(rt: HostRuntime) -> Result<(), Fail> {
 fn one_byte_a_read(rt: HostRuntime) -> Result<(), Fail> {
     let (told, kept) = carry_talk(rt.alloc(), 1, usize::MAX)?;
     let (_, wanted) = carry_talk(rt.alloc(), usize::MAX, usize::MAX)?;
-    assert_eq!(rt;
-        told,
-        (Carried::SessionOver, 0, ANSWERED, 4, HEARD as u64, 0)
-    );
-    assert!(rt; kept == wanted);
+    let is_same = kept == wanted;
+    let heard = (Carried::SessionOver, 0, ANSWERED, 4, HEARD as u64, 0);
+    assert_eq!(rt; (told, is_same), (heard, true));
     Ok(())
 }
 
@@ -89,8 +110,9 @@ fn one_byte_a_read(rt: HostRuntime) -> Result<(), Fail> {
 fn one_byte_a_write(rt: HostRuntime) -> Result<(), Fail> {
     let (told, kept) = carry_talk(rt.alloc(), usize::MAX, 1)?;
     let (_, wanted) = carry_talk(rt.alloc(), usize::MAX, usize::MAX)?;
-    assert_eq!(rt; told, (Carried::SessionOver, 0, ANSWERED, 2, 1, 0));
-    assert!(rt; kept == wanted);
+    let is_same = kept == wanted;
+    let heard = (Carried::SessionOver, 0, ANSWERED, 2, 1, 0);
+    assert_eq!(rt; (told, is_same), (heard, true));
     Ok(())
 }
 
@@ -101,10 +123,18 @@ fn a_write_that_takes_nothing_ends_it(rt: HostRuntime) -> Result<(), Fail> {
     Ok(())
 }
 
-/// Carries a client as session 5: how it ended, how often the hub was asked, and the most bytes that one ask answered.
-fn carry_watched(alloc: Global, client: &mut Script<'_>) -> Result<(Carried, u64, usize), Refusal> {
+/// How a client ended, how often the hub was asked, and the most bytes that one ask answered.
+type Asked = (Carried, u64, usize);
+
+/// Carries a client as session 5, and tells that.
+fn carry_watched(
+    alloc: Global,
+    client: &mut Script<'_>,
+    buffer: &mut Vec<u8>,
+) -> Result<Asked, Refusal>
+    requires { 0 < length buffer.old.items }
+{
     let mut hub = Hub::new(blank_shelf(alloc)?);
-    let mut buffer = zeroes(alloc, PIECE)?;
     let mut out = Answers::new(alloc);
     let desk = HubDesk {
         alloc,
@@ -115,31 +145,49 @@ fn carry_watched(alloc: Global, client: &mut Script<'_>) -> Result<(Carried, u64
         asks: 0,
         most: 0,
     };
-    let ending = carry(
-        &mut watched,
-        5,
-        Profile::Strict,
-        client,
-        &mut buffer,
-        &mut out,
-    );
+    let ending = carry(&mut watched, 5, Profile::Strict, client, buffer, &mut out);
     let Watched { desk, asks, most } = watched;
     let HubDesk { alloc: _, hub: _ } = desk;
     let _ = hub.into_pool();
     Ok((ending, asks, most))
 }
 
+/// The same by way of a buffer of its own.
+fn watch(alloc: Global, client: &mut Script<'_>) -> Result<Asked, Refusal> {
+    let mut buffer = zeroes(alloc, PIECE)?;
+    carry_watched(alloc, client, &mut buffer)
+}
+
+/// How a client ended and how many bytes it took; and whether the hub was asked for each two READs of a piece once at least, and whether no ask answered and no write
+/// offered more than it may.
+type Bounded = ((Carried, u64), [bool; 3]);
+
+/// What is told of a client.
+fn told_watched(alloc: Global, client: &mut Script<'_>) -> Result<Bounded, Refusal> {
+    let (ending, asks, most) = watch(alloc, client)?;
+    let are_so = [
+        asks > READS_IN_A_PIECE as u64 / 2,
+        most <= MOST_BYTES,
+        client.most_offered <= MOST_BYTES,
+    ];
+    Ok(((ending, client.taken), are_so))
+}
+
+/// The same of one that sends a piece of large reads.
+fn told_of_large_reads(alloc: Global) -> Result<Bounded, Refusal> {
+    let Ok(talk) = reads(alloc, READS_IN_A_PIECE) else {
+        return Err(Refusal::Memory);
+    };
+    let mut client = Script::new(&talk);
+    told_watched(alloc, &mut client)
+}
+
 /// 256 KiB of requests that ask for 9 GiB of answers: they go through a buffer of a few MiB, and no ask, for which another client would wait, answers more.
 #[test]
 fn a_piece_of_large_reads(rt: HostRuntime) -> Result<(), Fail> {
-    let talk = reads(rt.alloc(), READS_IN_A_PIECE)?;
-    let mut client = Script::new(&talk);
-    let (ending, asks, most) = carry_watched(rt.alloc(), &mut client)?;
+    let told = told_of_large_reads(rt.alloc())?;
     let all = (GREETED + GONE + READS_IN_A_PIECE * ALL_GIVEN) as u64;
-    assert_eq!(rt; (ending, client.taken), (Carried::EndOfInput, all));
-    assert!(rt; asks > READS_IN_A_PIECE as u64 / 2);
-    assert!(rt; most <= MOST_BYTES);
-    assert!(rt; client.most_offered <= MOST_BYTES);
+    assert_eq!(rt; told, ((Carried::EndOfInput, all), [true; 3]));
     Ok(())
 }
 
@@ -172,12 +220,24 @@ fn serve_beside(
     Ok((told, hub.into_pool().held()))
 }
 
+/// The same of one that sends this.
+fn served_with(alloc: Global, text: &[u8]) -> Result<(Served, usize), Refusal> {
+    let mut buffer = zeroes(alloc, 4096)?;
+    let mut client = Script::new(text);
+    serve_beside(alloc, &mut client, &mut buffer)
+}
+
+/// The same of one that sends one talk.
+fn served_with_talk(alloc: Global) -> Result<(Served, usize), Refusal> {
+    match one_talk(alloc) {
+        Ok(talk) => served_with(alloc, &talk),
+        Err(_) => Err(Refusal::Memory),
+    }
+}
+
 #[test]
 fn the_least_number_is_served(rt: HostRuntime) -> Result<(), Fail> {
-    let talk = one_talk(rt.alloc())?;
-    let mut client = Script::new(&talk);
-    let mut buffer = zeroes(rt.alloc(), 4096)?;
-    let told = serve_beside(rt.alloc(), &mut client, &mut buffer)?;
+    let told = served_with_talk(rt.alloc())?;
     let wanted = (2, Some(1), Carried::SessionOver, ANSWERED, Some(1));
     assert_eq!(rt; told, (wanted, 0));
     Ok(())
@@ -186,9 +246,7 @@ fn the_least_number_is_served(rt: HostRuntime) -> Result<(), Fail> {
 /// Behind a client that goes in the middle of its session its own number is free again, and no other one.
 #[test]
 fn the_number_of_a_client_that_goes_is_free(rt: HostRuntime) -> Result<(), Fail> {
-    let mut client = Script::new(GO_0);
-    let mut buffer = zeroes(rt.alloc(), 4096)?;
-    let told = serve_beside(rt.alloc(), &mut client, &mut buffer)?;
+    let told = served_with(rt.alloc(), GO_0)?;
     let gone = (GREETED + GONE) as u64;
     let wanted = (2, Some(1), Carried::EndOfInput, gone, Some(1));
     assert_eq!(rt; told, (wanted, 0));

@@ -62,13 +62,17 @@ fn is_refused(out: &Answers) -> (bool, bool, bool) {
     )
 }
 
+/// The same of a client of this hub, and how many sessions hold volumes behind it.
+fn told_of(alloc: Global, mut hub: Hub<Shelf>) -> ((bool, bool, bool), usize) {
+    let mut out = Answers::new(alloc);
+    ask(alloc, &mut hub, &mut out);
+    (is_refused(&out), hub.into_pool().held())
+}
+
 /// A snapshot that is refused is no clone, and the session goes on.
 #[test]
 fn a_refused_clone_ends_no_session(rt: HostRuntime) -> Result<(), Fail> {
-    let mut hub = blank_hub(rt.alloc())?;
-    let mut out = Answers::new(rt.alloc());
-    ask(rt.alloc(), &mut hub, &mut out);
-    assert_eq!(rt; is_refused(&out), (true, true, true));
-    assert_eq!(rt; hub.into_pool().held(), 0);
+    let told = told_of(rt.alloc(), blank_hub(rt.alloc())?);
+    assert_eq!(rt; told, ((true, true, true), 0));
     Ok(())
 }

@@ -53,16 +53,21 @@ fn read_beside(alloc: Global, hub: &mut Hub<Shelf>, read: &[u8]) -> (Option<Ran>
     (asked, is_one, out.bytes() == told.bytes())
 }
 
+/// What a READ tells.
+type Read = (Option<Ran>, bool, bool);
+
+/// That of both blocks.
+fn read_both(alloc: Global, hub: &mut Hub<Shelf>) -> (Read, Read) {
+    let mut out = Answers::new(alloc);
+    enter(alloc, hub, &mut out);
+    let first = read_beside(alloc, hub, READ_FIRST);
+    (first, read_beside(alloc, hub, READ_SECOND))
+}
+
 /// A READ of data is shared, and so is one of zeros, which asks for a walk too: it is answered as by a run, and in one chunk where there is no hole.
 #[test]
 fn long_reads_are_shared(rt: HostRuntime) -> Result<(), Fail> {
-    let mut hub = blank_hub(rt.alloc())?;
-    let mut out = Answers::new(rt.alloc());
-    enter(rt.alloc(), &mut hub, &mut out);
-    let told = (
-        read_beside(rt.alloc(), &mut hub, READ_FIRST),
-        read_beside(rt.alloc(), &mut hub, READ_SECOND),
-    );
+    let told = read_both(rt.alloc(), &mut blank_hub(rt.alloc())?);
     assert!(rt; told == ((Some(WHOLE), true, true), (Some(WHOLE), true, true)));
     Ok(())
 }

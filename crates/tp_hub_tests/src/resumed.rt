@@ -6,6 +6,7 @@ use nbd_session::Profile;
 use std::alloc::{AllocError, Global};
 use std::test::Fail;
 use tp_hub::{Answers, Event, Hub, MOST_BYTES, Mark};
+use tp_model::Refusal;
 use tp_msg::Managed;
 use tp_shelf::Shelf;
 
@@ -95,12 +96,19 @@ fn came_behind_go(alloc: Global, mut hub: Hub<Shelf>, text: &[u8]) -> (usize, Ca
     (answered, came)
 }
 
+/// The same of a hub of its own, where the piece is of large reads.
+fn came_of_reads(alloc: Global) -> Result<(usize, Came), Refusal> {
+    let Ok(text) = numbered_reads(alloc, READS) else {
+        return Err(Refusal::Memory);
+    };
+    Ok(came_behind_go(alloc, blank_hub(alloc)?, &text))
+}
+
 /// Where the buffer is full a run stops, and the next one gives the rest of the same output: each reply comes once and in its order, and the
 /// message behind them is done once.
 #[test]
 fn a_full_buffer_loses_no_answer(rt: HostRuntime) -> Result<(), Fail> {
-    let text = numbered_reads(rt.alloc(), READS)?;
-    let (answered, came) = came_behind_go(rt.alloc(), blank_hub(rt.alloc())?, &text);
+    let (answered, came) = came_of_reads(rt.alloc())?;
     let told = (answered, came.in_order, came.messages, came.bytes);
     let is_in_bounds = came.runs > 2 && came.most <= MOST_BYTES;
     let gone = GREETED + GONE;
@@ -165,18 +173,41 @@ fn run_both(alloc: Global, mut hub: Hub<Shelf>, mut other_hub: Hub<Shelf>, text:
     )
 }
 
+/// The same beside another hub. None where there is no memory for that.
+fn run_beside(alloc: Global, hub: Hub<Shelf>, text: &[u8]) -> Option<Both> {
+    match blank_hub(alloc) {
+        Ok(other) => Some(run_both(alloc, hub, other, text)),
+        Err(_) => None,
+    }
+}
+
+/// The same of a new hub. None where there is no memory for either.
+fn run_two(alloc: Global, text: &[u8]) -> Option<Both> {
+    match blank_hub(alloc) {
+        Ok(hub) => run_beside(alloc, hub, text),
+        Err(_) => None,
+    }
+}
+
+/// The same of short reads. None also where there is no memory for these.
+fn run_short_reads(alloc: Global) -> Option<Both> {
+    match short_reads(alloc) {
+        Ok(text) => run_two(alloc, &text),
+        Err(_) => None,
+    }
+}
+
 /// To be run with each allocation refused in turn: it is refused in one of both lists of runs at most, and the other one tells what is wanted.
 #[test]
 fn refused_memory_loses_no_answer(rt: HostRuntime) {
-    let alloc = rt.alloc();
     let all = (
         (true, true),
         (true, true),
         (3 + SECTORS + 4, 2 * GREETED + GONE + SECTORS * GIVEN),
     );
-    let told = match (blank_hub(alloc), blank_hub(alloc), short_reads(alloc)) {
-        (Ok(hub), Ok(other), Ok(text)) => run_both(alloc, hub, other, &text),
-        _ => all,
+    let told = match run_short_reads(rt.alloc()) {
+        Some(told) => told,
+        None => all,
     };
     assert!(rt; told == all);
 }

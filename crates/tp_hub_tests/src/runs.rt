@@ -77,12 +77,11 @@ fn ask_twice(hub: &Hub<Shelf>, piece: &[u8], out: &mut Answers) -> (Option<Ran>,
     (first, hub.ask_shared(2, write, out))
 }
 
-/// The same behind the writes by turns, and whether two answers were given, which are those of a run.
-fn shared_as_run(
-    alloc: Global,
-    hub: &mut Hub<Shelf>,
-    piece: &[u8],
-) -> ((Option<Ran>, Option<Ran>), bool, bool) {
+/// The same, and whether two answers were given, which are those of a run.
+type Shared = ((Option<Ran>, Option<Ran>), bool, bool);
+
+/// That behind the writes by turns.
+fn shared_as_run(alloc: Global, hub: &mut Hub<Shelf>, piece: &[u8]) -> Shared {
     let mut out = Answers::new(alloc);
     write_by_turns(alloc, hub, &mut out);
     out.clear();
@@ -94,11 +93,24 @@ fn shared_as_run(
     (asked, are_given, out.bytes() == told.bytes())
 }
 
+/// The same of a hub of its own.
+fn shared_of(alloc: Global, piece: &[u8]) -> Result<Shared, Refusal> {
+    let mut hub = blank_hub(alloc)?;
+    Ok(shared_as_run(alloc, &mut hub, piece))
+}
+
+/// The same of a piece of reads and a write.
+fn shared_reads(alloc: Global) -> Result<Shared, Refusal> {
+    match reads_and_a_write(alloc) {
+        Ok(piece) => shared_of(alloc, &piece),
+        Err(_) => Err(Refusal::Memory),
+    }
+}
+
 /// Shared reads answer the reads with which a piece begins, as a run does, and nothing behind them.
 #[test]
 fn reads_of_a_piece_are_shared(rt: HostRuntime) -> Result<(), Fail> {
-    let piece = reads_and_a_write(rt.alloc())?;
-    let told = shared_as_run(rt.alloc(), &mut blank_hub(rt.alloc())?, &piece);
+    let told = shared_reads(rt.alloc())?;
     let taken = Ran {
         events: 0,
         bytes: TWO_READS,

@@ -1,11 +1,11 @@
 //! One client over a hub of its own, whose room for answers may not grow.
 ghost use Rattle.std.specs.Prelude.{◌≡◌, ◌<◌, IfOk, length};
 
-use crate::disks::{Before, noted};
+use crate::disks::Before;
 use crate::guests::{Guest, Seen};
 use crate::outcome::Outcome;
-use crate::pools::{MemServed, disk_of_volume, opened_hub};
-use crate::talk::{READS, answers_to_reads, reads};
+use crate::pools::{MemServed, hub_of_volume, is_kept};
+use crate::talk::{READS, texts_of_reads};
 use nbd_session::Profile;
 use std::alloc::{AllocError, Global};
 use tp_hub::{Answers, Carried, Hub, HubDesk, carry, serve};
@@ -17,13 +17,12 @@ enum Way {
     Carry,
 }
 
-/// What a client sends and is to be sent, and what the disk had before.
+/// By which call a client is served, what it sends, and what it is to be sent.
 #[derive(Drop)]
 struct Visit {
     way: Way,
     text: Vec<u8>,
     wanted: Vec<u8>,
-    before: Before,
 }
 
 /// In so many parts a client is answered where nothing is refused: the greeting, and all the rest.
@@ -80,8 +79,14 @@ fn serve_guest(
 }
 
 /// Whether a client had all its answers, and the disk is as it was.
-fn is_served(hub: Hub<MemServed>, visit: &Visit, seen: &Seen, ending: Carried) -> bool {
-    let is_kept = visit.before.is_kept(&hub.into_pool().into_disk());
+fn is_served(
+    hub: Hub<MemServed>,
+    visit: &Visit,
+    before: &Before,
+    seen: &Seen,
+    ending: Carried,
+) -> bool {
+    let is_kept = is_kept(hub, before);
     ending == Carried::EndOfInput && seen.is_answered(visit.wanted.len()) && is_kept
 }
 
@@ -96,26 +101,32 @@ fn zeroes(alloc: Global, len: usize) -> Result<Vec<u8>, AllocError>
 }
 
 /// Whether one client more is served.
-fn is_served_again(alloc: Global, hub: Hub<MemServed>, visit: &Visit) -> bool {
+fn is_served_again(alloc: Global, hub: Hub<MemServed>, visit: &Visit, before: &Before) -> bool {
     let Ok(mut buffer) = zeroes(alloc, PIECE) else {
         return false;
     };
     let seen = Seen::nothing();
     let (hub, ending) = serve_guest(alloc, hub, visit, &seen, &mut buffer);
-    is_served(hub, visit, &seen, ending)
+    is_served(hub, visit, before, &seen, ending)
 }
 
 /// What serving a client comes to.
-fn outcome(alloc: Global, hub: Hub<MemServed>, visit: &Visit, buffer: &mut Vec<u8>) -> Outcome
+fn outcome(
+    alloc: Global,
+    hub: Hub<MemServed>,
+    visit: &Visit,
+    before: &Before,
+    buffer: &mut Vec<u8>,
+) -> Outcome
     requires { 0 < length buffer.old.items }
 {
     let seen = Seen::nothing();
     let (hub, ending) = serve_guest(alloc, hub, visit, &seen, buffer);
     if ending == Carried::NoMemory {
-        let is_again = is_served_again(alloc, hub, visit);
+        let is_again = is_served_again(alloc, hub, visit, before);
         return Outcome::refused(seen.is_untouched(), is_again);
     }
-    if !is_served(hub, visit, &seen, ending) || seen.flushes() > PARTS + 1 {
+    if !is_served(hub, visit, before, &seen, ending) || seen.flushes() > PARTS + 1 {
         return Outcome::Wrong;
     }
     if seen.flushes() > PARTS {
@@ -125,34 +136,29 @@ fn outcome(alloc: Global, hub: Hub<MemServed>, visit: &Visit, buffer: &mut Vec<u
     }
 }
 
-fn outcome_over(alloc: Global, hub: Hub<MemServed>, visit: &Visit) -> Outcome {
+fn outcome_over(alloc: Global, hub: Hub<MemServed>, visit: &Visit, before: &Before) -> Outcome {
     match zeroes(alloc, PIECE) {
-        Ok(mut buffer) => outcome(alloc, hub, visit, &mut buffer),
+        Ok(mut buffer) => outcome(alloc, hub, visit, before, &mut buffer),
         Err(_) => Outcome::Before,
     }
 }
 
-/// What serving a client over the pool of a volume comes to.
-fn outcome_of(alloc: Global, way: Way) -> Outcome {
-    let (Ok(disk), Ok(text), Ok(wanted)) = (
-        disk_of_volume(alloc),
-        reads(alloc, READS),
-        answers_to_reads(alloc, READS),
-    ) else {
-        return Outcome::Before;
-    };
-    let Some(before) = noted(alloc, &disk) else {
-        return Outcome::Before;
-    };
-    let visit = Visit {
-        way,
-        text,
-        wanted,
-        before,
-    };
-    match opened_hub(alloc, disk) {
-        Some(hub) => outcome_over(alloc, hub, &visit),
+/// What a visit comes to over the pool of a volume.
+fn outcome_of_visit(alloc: Global, visit: &Visit) -> Outcome {
+    match hub_of_volume(alloc) {
+        Some((hub, before)) => outcome_over(alloc, hub, visit, &before),
         None => Outcome::Before,
+    }
+}
+
+/// What serving a client comes to.
+fn outcome_of(alloc: Global, way: Way) -> Outcome {
+    match texts_of_reads(alloc, READS) {
+        Ok((text, wanted)) => {
+            let visit = Visit { way, text, wanted };
+            outcome_of_visit(alloc, &visit)
+        }
+        Err(_) => Outcome::Before,
     }
 }
 

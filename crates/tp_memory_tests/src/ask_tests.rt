@@ -70,18 +70,28 @@ where
     ran
 }
 
-/// A call to a listener, and its address. None where memory was refused, or the system refuses it.
-fn listening<H>(rt: &H) -> Option<(TcpListener, SocketAddr, String)>
+/// Sends a line to one who listens at this address. None where that is not done.
+fn asked_at<H>(rt: &H, listener: &TcpListener, address: SocketAddr) -> Option<Outcome>
 where
-    H: Net<Listener = TcpListener, Stream = TcpStream> + Alloc<A = Global>,
+    H: Files<File = File>
+        + Net<Listener = TcpListener, Stream = TcpStream>
+        + Threads
+        + Wait
+        + Clock
+        + Sync
+        + Alloc<A = Global>,
 {
-    let listener = TcpListener::bind(rt, "127.0.0.1:0").ok()?;
-    let address = listener.local_addr().ok()?;
     let place = format!(in rt.alloc(); "{address}").ok()?;
-    Some((listener, address, place))
+    let ask = Ask {
+        words: &["thinpool", "ask", &place, "create_thin 7"],
+        input: b"",
+        output: b"ok\n",
+    };
+    let ran = asked(rt, listener, &ask, address)?;
+    Some(told(&ran, &ask))
 }
 
-/// Sends a line to one who listens. None where that is not done.
+/// The same of a new listener. None also where the system refuses it.
 fn asked_anew<H>(rt: &H) -> Option<Outcome>
 where
     H: Files<File = File>
@@ -92,14 +102,9 @@ where
         + Sync
         + Alloc<A = Global>,
 {
-    let (listener, address, place) = listening(rt)?;
-    let ask = Ask {
-        words: &["thinpool", "ask", &place, "create_thin 7"],
-        input: b"",
-        output: b"ok\n",
-    };
-    let ran = asked(rt, &listener, &ask, address)?;
-    Some(told(&ran, &ask))
+    let listener = TcpListener::bind(rt, "127.0.0.1:0").ok()?;
+    let address = listener.local_addr().ok()?;
+    asked_at(rt, &listener, address)
 }
 
 /// What a call came to that is not asked again yet.

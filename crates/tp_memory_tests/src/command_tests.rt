@@ -1,8 +1,8 @@
 //! The commands of the program over an image in memory.
 
-use crate::commands::{Ask, CHECK, CREATE, FORMAT, IMAGE, is_done, outcome_behind, run};
+use crate::commands::{Ask, CHECK, CREATE, FORMAT, IMAGE, Ran, is_done, outcome_behind, run};
 use crate::outcome::Outcome;
-use crate::talk::{answers, session};
+use crate::talk::session_texts;
 use std::alloc::Global;
 use std::fs::{File, remove_file};
 use std::io;
@@ -16,7 +16,7 @@ use tp_images::{Images, MemImages};
 
 /// What formatting a new image comes to that ended so. It has its size from when it was made on, also where formatting is refused; where there is no memory for
 /// the image, it is not there.
-fn outcome_of_new<H>(rt: &H, images: &mut MemImages) -> Outcome
+fn outcome_of_made<H>(rt: &H, images: &mut MemImages, ran: &Ran) -> Outcome
 where
     H: Files<File = File>
         + Net<Listener = TcpListener, Stream = TcpStream>
@@ -26,9 +26,6 @@ where
         + Sync
         + Alloc<A = Global>,
 {
-    let Some(ran) = run(rt, images, &FORMAT) else {
-        return Outcome::Before;
-    };
     if ran.is_done(&FORMAT) {
         return Outcome::Done;
     }
@@ -39,6 +36,23 @@ where
         return Outcome::refused(is_untouched, is_done);
     }
     Outcome::failed(ran.is_fault() && is_done && !(is_there && is_untouched))
+}
+
+/// The same where it is formatted now.
+fn outcome_of_new<H>(rt: &H, images: &mut MemImages) -> Outcome
+where
+    H: Files<File = File>
+        + Net<Listener = TcpListener, Stream = TcpStream>
+        + Threads
+        + Wait
+        + Clock
+        + Sync
+        + Alloc<A = Global>,
+{
+    match run(rt, images, &FORMAT) {
+        Some(ran) => outcome_of_made(rt, images, &ran),
+        None => Outcome::Before,
+    }
 }
 
 /// Whether no sector of the image was written.
@@ -114,7 +128,7 @@ where
         + Sync
         + Alloc<A = Global>,
 {
-    let (Ok(input), Ok(output)) = (session(rt.alloc()), answers(rt.alloc())) else {
+    let Ok((input, output)) = session_texts(rt.alloc()) else {
         return Outcome::Before;
     };
     let ask = Ask {
@@ -144,7 +158,45 @@ end 3
 refused 15
 ";
 
-/// What a call over a fresh pool in memory comes to, of which nothing is left.
+/// What a call over a fresh pool in memory came to, of which nothing is left.
+fn outcome_of_left<H>(rt: &H, images: &mut MemImages, ask: &Ask<'_>, ran: &Ran) -> Outcome
+where
+    H: Files<File = File>
+        + Net<Listener = TcpListener, Stream = TcpStream>
+        + Threads
+        + Wait
+        + Clock
+        + Sync
+        + Alloc<A = Global>,
+{
+    if ran.is_done(ask) {
+        return Outcome::Done;
+    }
+    let is_done = is_done(rt, images, ask);
+    if ran.is_memory(ask) {
+        return Outcome::refused(true, is_done);
+    }
+    Outcome::failed(ran.is_fault() && is_done)
+}
+
+/// What such a call comes to.
+fn outcome_beside<H>(rt: &H, images: &mut MemImages, ask: &Ask<'_>) -> Outcome
+where
+    H: Files<File = File>
+        + Net<Listener = TcpListener, Stream = TcpStream>
+        + Threads
+        + Wait
+        + Clock
+        + Sync
+        + Alloc<A = Global>,
+{
+    match run(rt, images, ask) {
+        Some(ran) => outcome_of_left(rt, images, ask, &ran),
+        None => Outcome::Before,
+    }
+}
+
+/// The same where there are no images.
 fn outcome_of_memory<H>(rt: &H, ask: &Ask<'_>) -> Outcome
 where
     H: Files<File = File>
@@ -155,18 +207,7 @@ where
         + Sync
         + Alloc<A = Global>,
 {
-    let mut images = MemImages::new(rt.alloc());
-    let Some(ran) = run(rt, &mut images, ask) else {
-        return Outcome::Before;
-    };
-    if ran.is_done(ask) {
-        return Outcome::Done;
-    }
-    let is_done = is_done(rt, &mut images, ask);
-    if ran.is_memory(ask) {
-        return Outcome::refused(true, is_done);
-    }
-    Outcome::failed(ran.is_fault() && is_done)
+    outcome_beside(rt, &mut MemImages::new(rt.alloc()), ask)
 }
 
 /// What a session over such a pool comes to.
@@ -180,7 +221,7 @@ where
         + Sync
         + Alloc<A = Global>,
 {
-    let (Ok(input), Ok(output)) = (session(rt.alloc()), answers(rt.alloc())) else {
+    let Ok((input, output)) = session_texts(rt.alloc()) else {
         return Outcome::Before;
     };
     let ask = Ask {

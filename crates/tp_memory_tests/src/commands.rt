@@ -199,6 +199,23 @@ where
     Outcome::failed(ran.is_fault() && is_written && is_done(rt, images, &CHECK))
 }
 
+/// What a call on the image comes to that had that before.
+fn outcome_of_call<H>(rt: &H, images: &mut MemImages, ask: &Ask<'_>, before: &Before) -> Outcome
+where
+    H: Files<File = File>
+        + Net<Listener = TcpListener, Stream = TcpStream>
+        + Threads
+        + Wait
+        + Clock
+        + Sync
+        + Alloc<A = Global>,
+{
+    match run(rt, images, ask) {
+        Some(ran) => outcome(rt, images, ask, before, &ran),
+        None => Outcome::Before,
+    }
+}
+
 /// What a call on the image comes to.
 pub(crate) fn outcome_of<H>(rt: &H, images: &mut MemImages, ask: &Ask<'_>) -> Outcome
 where
@@ -210,16 +227,32 @@ where
         + Sync
         + Alloc<A = Global>,
 {
-    let Some(before) = before_in(rt.alloc(), images) else {
-        return Outcome::Before;
-    };
-    match run(rt, images, ask) {
-        Some(ran) => outcome(rt, images, ask, &before, &ran),
+    match before_in(rt.alloc(), images) {
+        Some(before) => outcome_of_call(rt, images, ask, &before),
         None => Outcome::Before,
     }
 }
 
 /// The same behind calls that make the image.
+fn outcome_in<H>(rt: &H, images: &mut MemImages, made: &[Ask<'_>], ask: &Ask<'_>) -> Outcome
+where
+    H: Files<File = File>
+        + Net<Listener = TcpListener, Stream = TcpStream>
+        + Threads
+        + Wait
+        + Clock
+        + Sync
+        + Alloc<A = Global>,
+{
+    for call in made {
+        if !is_done(rt, images, call) {
+            return Outcome::Before;
+        }
+    }
+    outcome_of(rt, images, ask)
+}
+
+/// The same where there are no images before.
 fn outcome_once<H>(rt: &H, made: &[Ask<'_>], ask: &Ask<'_>) -> Outcome
 where
     H: Files<File = File>
@@ -230,13 +263,7 @@ where
         + Sync
         + Alloc<A = Global>,
 {
-    let mut images = MemImages::new(rt.alloc());
-    for call in made {
-        if !is_done(rt, &mut images, call) {
-            return Outcome::Before;
-        }
-    }
-    outcome_of(rt, &mut images, ask)
+    outcome_in(rt, &mut MemImages::new(rt.alloc()), made, ask)
 }
 
 /// The same, tried again where memory was refused before the call.

@@ -1,10 +1,10 @@
 //! Serving clients at once, one of whom may be refused memory or a thread.
 
-use crate::disks::{Before, noted};
+use crate::disks::Before;
 use crate::guests::{Guest, Seen, Silence};
 use crate::outcome::Outcome;
-use crate::pools::{MemServed, disk_of_volume, opened_hub};
-use crate::talk::{READS, answers_to_reads, reads};
+use crate::pools::{MemServed, hub_of_volume, is_kept};
+use crate::talk::{READS, texts_of_reads};
 use std::alloc::Global;
 use std::sync::Wait;
 use std::thread::Threads;
@@ -43,16 +43,15 @@ fn untouched(first: &Seen, second: &Seen, wanted: usize) -> Option<u64> {
     Some(count)
 }
 
-/// What each client sends and is to be sent, and what the disk had before.
+/// What each client sends and is to be sent.
 #[derive(Drop)]
 struct Visit {
     text: Vec<u8>,
     wanted: Vec<u8>,
-    before: Before,
 }
 
 /// Whether one client more is served over a hub, and the hub's disk is then as it was.
-fn is_served_again<H>(rt: &H, hub: Hub<MemServed>, visit: &Visit) -> bool
+fn is_served_again<H>(rt: &H, hub: Hub<MemServed>, visit: &Visit, before: &Before) -> bool
 where
     H: Threads + Wait + Sync + Alloc<A = Global>,
 {
@@ -61,9 +60,8 @@ where
         return false;
     };
     let (counts, hub) = serve(rt, hub, clients);
-    counts == (1, 0)
-        && seen.is_answered(visit.wanted.len())
-        && visit.before.is_kept(&hub.into_pool().into_disk())
+    let is_kept = is_kept(hub, before);
+    counts == (1, 0) && seen.is_answered(visit.wanted.len()) && is_kept
 }
 
 /// What serving came to, with what is told of it: who is refused is one who was neither sent anything nor read from.
@@ -73,20 +71,21 @@ fn outcome<H>(
     untouched: Option<u64>,
     hub: Hub<MemServed>,
     visit: &Visit,
+    before: &Before,
 ) -> Outcome
 where
     H: Threads + Wait + Sync + Alloc<A = Global>,
 {
     let is_told = counts.0 == 2 && untouched == Some(counts.1);
     match counts.1 {
-        0 => Outcome::done(is_told && visit.before.is_kept(&hub.into_pool().into_disk())),
-        1 => Outcome::refused(is_told, is_served_again(rt, hub, visit)),
+        0 => Outcome::done(is_kept(hub, before) && is_told),
+        1 => Outcome::refused(is_told, is_served_again(rt, hub, visit, before)),
         _ => Outcome::Wrong,
     }
 }
 
 /// What serving two clients comes to.
-fn outcome_over<H>(rt: &H, hub: Hub<MemServed>, visit: &Visit) -> Outcome
+fn outcome_over<H>(rt: &H, hub: Hub<MemServed>, visit: &Visit, before: &Before) -> Outcome
 where
     H: Threads + Wait + Sync + Alloc<A = Global>,
 {
@@ -99,32 +98,31 @@ where
     };
     let (counts, hub) = serve(rt, hub, clients);
     let untouched = untouched(&first, &second, visit.wanted.len());
-    outcome(rt, counts, untouched, hub, visit)
+    outcome(rt, counts, untouched, hub, visit, before)
 }
 
 /// The same over the pool of a volume.
+fn outcome_of_visit<H>(rt: &H, visit: &Visit) -> Outcome
+where
+    H: Threads + Wait + Sync + Alloc<A = Global>,
+{
+    match hub_of_volume(rt.alloc()) {
+        Some((hub, before)) => outcome_over(rt, hub, visit, &before),
+        None => Outcome::Before,
+    }
+}
+
+/// The same of clients that send reads.
 fn outcome_of<H>(rt: &H) -> Outcome
 where
     H: Threads + Wait + Sync + Alloc<A = Global>,
 {
-    let (Ok(disk), Ok(text), Ok(wanted)) = (
-        disk_of_volume(rt.alloc()),
-        reads(rt.alloc(), READS),
-        answers_to_reads(rt.alloc(), READS),
-    ) else {
-        return Outcome::Before;
-    };
-    let Some(before) = noted(rt.alloc(), &disk) else {
-        return Outcome::Before;
-    };
-    let visit = Visit {
-        text,
-        wanted,
-        before,
-    };
-    match opened_hub(rt.alloc(), disk) {
-        Some(hub) => outcome_over(rt, hub, &visit),
-        None => Outcome::Before,
+    match texts_of_reads(rt.alloc(), READS) {
+        Ok((text, wanted)) => {
+            let visit = Visit { text, wanted };
+            outcome_of_visit(rt, &visit)
+        }
+        Err(_) => Outcome::Before,
     }
 }
 

@@ -1,12 +1,13 @@
 //! Runs of a hub that go on from where memory was refused.
 
-use crate::disks::{Before, noted};
+use crate::disks::Before;
 use crate::outcome::Outcome;
-use crate::pools::{MemServed, disk_of_volume, opened_hub};
+use crate::pools::{MemServed, hub_of_volume, is_kept};
 use crate::talk::{READS, reads, session};
 use nbd_session::Profile;
 use std::alloc::Global;
 use tp_hub::{Answers, Event, Hub};
+use tp_model::Refusal;
 use tp_msg::Managed;
 use tp_shelf::{Shelf, blank_shelf};
 
@@ -83,31 +84,37 @@ fn outcome_of_two<V: Managed>(
     }
 }
 
-/// The hub over the pool of a volume, and what its disk had before. None where memory was refused.
-fn hub_of_volume(alloc: Global) -> Option<(Hub<MemServed>, Before)> {
-    let Ok(disk) = disk_of_volume(alloc) else {
-        return None;
-    };
-    let before = noted(alloc, &disk)?;
-    let hub = opened_hub(alloc, disk)?;
-    Some((hub, before))
+/// The same of a hub, beside one over another pool of a volume.
+fn outcome_beside(alloc: Global, hub: &mut Hub<MemServed>, text: &[u8]) -> Outcome {
+    match hub_of_volume(alloc) {
+        Some((mut other, _)) => outcome_of_two(alloc, hub, &mut other, text),
+        None => Outcome::Before,
+    }
+}
+
+/// The same, where the hub's disk has then what it had before.
+fn outcome_over(alloc: Global, mut hub: Hub<MemServed>, before: &Before, text: &[u8]) -> Outcome {
+    let outcome = outcome_beside(alloc, &mut hub, text);
+    if is_kept(hub, before) {
+        outcome
+    } else {
+        Outcome::Wrong
+    }
+}
+
+/// The same of the hub over the pool of a volume.
+fn outcome_of_text(alloc: Global, text: &[u8]) -> Outcome {
+    match hub_of_volume(alloc) {
+        Some((hub, before)) => outcome_over(alloc, hub, &before, text),
+        None => Outcome::Before,
+    }
 }
 
 /// What a run of reads over the pool of a disk comes to.
 fn outcome_of_reads(alloc: Global) -> Outcome {
-    let (Some((mut hub, before)), Some((mut other, _)), Ok(text)) = (
-        hub_of_volume(alloc),
-        hub_of_volume(alloc),
-        reads(alloc, READS),
-    ) else {
-        return Outcome::Before;
-    };
-    let outcome = outcome_of_two(alloc, &mut hub, &mut other, &text);
-    let (disk, _) = (hub.into_pool().into_disk(), other.into_pool().into_disk());
-    if before.is_kept(&disk) {
-        outcome
-    } else {
-        Outcome::Wrong
+    match reads(alloc, READS) {
+        Ok(text) => outcome_of_text(alloc, &text),
+        Err(_) => Outcome::Before,
     }
 }
 
@@ -120,7 +127,12 @@ fn run_over_a_disk(rt: HostRuntime) {
     assert!(rt; outcome.is_right(&mut rt.stdout()));
 }
 
-/// What a run with a write over volumes that keep all comes to, and whether both are the same at last.
+/// The hub over volumes that keep all.
+fn hub_of_shelf(alloc: Global) -> Result<Hub<Shelf>, Refusal> {
+    Ok(Hub::new(blank_shelf(alloc)?))
+}
+
+/// What a run over such a hub comes to beside one over another, and whether the volumes of both are the same at last.
 fn outcome_of_shelves(
     alloc: Global,
     mut hub: Hub<Shelf>,
@@ -132,15 +144,35 @@ fn outcome_of_shelves(
     (outcome, shelf.first_bytes() == other.first_bytes())
 }
 
-fn outcome_of_writes(alloc: Global) -> Outcome {
-    let (Ok(shelf), Ok(other), Ok(text)) = (blank_shelf(alloc), blank_shelf(alloc), session(alloc))
-    else {
-        return Outcome::Before;
-    };
-    match outcome_of_shelves(alloc, Hub::new(shelf), Hub::new(other), &text) {
+/// The same, where there is memory for that other one.
+fn outcome_beside_shelf(alloc: Global, hub: Hub<Shelf>, text: &[u8]) -> (Outcome, bool) {
+    match hub_of_shelf(alloc) {
+        Ok(other) => outcome_of_shelves(alloc, hub, other, text),
+        Err(_) => (Outcome::Before, true),
+    }
+}
+
+/// The same, where there is memory for both.
+fn outcome_of_session(alloc: Global, text: &[u8]) -> (Outcome, bool) {
+    match hub_of_shelf(alloc) {
+        Ok(hub) => outcome_beside_shelf(alloc, hub, text),
+        Err(_) => (Outcome::Before, true),
+    }
+}
+
+/// What a run with a write comes to.
+fn outcome_of_write(alloc: Global, text: &[u8]) -> Outcome {
+    match outcome_of_session(alloc, text) {
         (Outcome::Before, _) => Outcome::Before,
         (outcome, true) => outcome,
         (_, false) => Outcome::Wrong,
+    }
+}
+
+fn outcome_of_writes(alloc: Global) -> Outcome {
+    match session(alloc) {
+        Ok(text) => outcome_of_write(alloc, &text),
+        Err(_) => Outcome::Before,
     }
 }
 

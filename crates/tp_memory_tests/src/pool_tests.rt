@@ -54,21 +54,35 @@ fn is_asked(call: Call, before: &Before, mut pool: MemServed) -> bool {
     is_told && (call.may_write() || before.is_kept(&disk))
 }
 
+/// What a call came to that was refused for memory, and asked again with the disk that was handed back.
+fn outcome_again(alloc: Global, call: Call, before: &Before, disk: MemDisk) -> Outcome {
+    let is_kept = before.is_kept(&disk);
+    match call.ask(alloc, disk) {
+        Ok(pool) => Outcome::refused(is_kept, is_asked(call, before, pool)),
+        Err(_) => Outcome::Wrong,
+    }
+}
+
+/// What a call came to that was refused.
+fn outcome_of_refused(
+    alloc: Global,
+    call: Call,
+    before: &Before,
+    reason: Refusal,
+    disk: MemDisk,
+) -> Outcome {
+    match reason {
+        Refusal::Memory => outcome_again(alloc, call, before, disk),
+        Refusal::Fault => Outcome::failed(call.may_write() && before.is_written(&disk)),
+        _ => Outcome::Wrong,
+    }
+}
+
 /// What a call came to.
 fn outcome(alloc: Global, call: Call, before: &Before, asked: Asked) -> Outcome {
     match asked {
         Ok(pool) => Outcome::done(is_asked(call, before, pool)),
-        Err((Refusal::Memory, disk)) => {
-            let is_kept = before.is_kept(&disk);
-            match call.ask(alloc, disk) {
-                Ok(pool) => Outcome::refused(is_kept, is_asked(call, before, pool)),
-                Err(_) => Outcome::Wrong,
-            }
-        }
-        Err((Refusal::Fault, disk)) => {
-            Outcome::failed(call.may_write() && before.is_written(&disk))
-        }
-        Err(_) => Outcome::Wrong,
+        Err((reason, disk)) => outcome_of_refused(alloc, call, before, reason, disk),
     }
 }
 

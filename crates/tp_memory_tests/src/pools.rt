@@ -4,6 +4,7 @@ ghost use Rattle.std.specs.Prelude.{◌≡◌};
 ghost use Rattle.std.specs.FinMap.{empty};
 ghost use Rattle.tp_holders.specs.Holders.{holds_of};
 
+use crate::disks::{Before, noted};
 use std::alloc::Global;
 use tp_cache::ReadCache;
 use tp_disk::MemDisk;
@@ -36,24 +37,35 @@ fn fill(pool: &mut MemServed) -> Result<(), Refusal> {
     pool.write(id, 0, &[0x61; 512], false)
 }
 
-/// The pool of a disk of zeros.
-fn formatted(alloc: Global, geometry: Geometry) -> Result<MemServed, Refusal> {
-    let Ok(disk) = MemDisk::new(alloc, geometry.image_sectors()) else {
-        return Err(Refusal::Memory);
-    };
+/// The pool of a disk that was formatted.
+fn formatted_on(alloc: Global, disk: MemDisk, geometry: Geometry) -> Result<MemServed, Refusal> {
     match MemServed::format(alloc, disk, geometry, ROOM) {
         Ok(pool) => Ok(pool),
         Err((refusal, _)) => Err(refusal),
     }
 }
 
+/// The same of a disk of zeros.
+fn formatted(alloc: Global, geometry: Geometry) -> Result<MemServed, Refusal> {
+    match MemDisk::new(alloc, geometry.image_sectors()) {
+        Ok(disk) => formatted_on(alloc, disk, geometry),
+        Err(_) => Err(Refusal::Memory),
+    }
+}
+
+/// The disk of a pool that is closed, or why filling its volume or closing it was refused.
+fn closed(pool: MemServed, filled: Result<(), Refusal>) -> Result<MemDisk, Refusal> {
+    let (answer, disk) = pool.close();
+    filled?;
+    answer?;
+    Ok(disk)
+}
+
 /// The disk of a pool with volume 0, closed.
 pub(crate) fn disk_of_volume(alloc: Global) -> Result<MemDisk, Refusal> {
     let mut pool = formatted(alloc, sizes()?)?;
-    fill(&mut pool)?;
-    let (closed, disk) = pool.close();
-    closed?;
-    Ok(disk)
+    let filled = fill(&mut pool);
+    closed(pool, filled)
 }
 
 /// The hub over a pool of which nobody holds a volume.
@@ -64,11 +76,33 @@ fn hub_of(pool: MemServed) -> Hub<MemServed>
 }
 
 /// The hub over the pool of a disk. None where it is not opened.
-pub(crate) fn opened_hub(alloc: Global, disk: MemDisk) -> Option<Hub<MemServed>> {
+fn opened_hub(alloc: Global, disk: MemDisk) -> Option<Hub<MemServed>> {
     match MemServed::open(alloc, disk, ROOM) {
         Ok(pool) => Some(hub_of(pool)),
         Err(_) => None,
     }
+}
+
+/// The same, and what the disk had before.
+fn opened_behind(alloc: Global, disk: MemDisk) -> Option<(Hub<MemServed>, Before)> {
+    let before = noted(alloc, &disk)?;
+    match opened_hub(alloc, disk) {
+        Some(hub) => Some((hub, before)),
+        None => None,
+    }
+}
+
+/// The hub over the pool of a volume, and what its disk had before. None where memory was refused.
+pub(crate) fn hub_of_volume(alloc: Global) -> Option<(Hub<MemServed>, Before)> {
+    match disk_of_volume(alloc) {
+        Ok(disk) => opened_behind(alloc, disk),
+        Err(_) => None,
+    }
+}
+
+/// Whether the disk of a hub has all that it had, and was not written since.
+pub(crate) fn is_kept(hub: Hub<MemServed>, before: &Before) -> bool {
+    before.is_kept(&hub.into_pool().into_disk())
 }
 
 /// Whether this is the status line of a pool.

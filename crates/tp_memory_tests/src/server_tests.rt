@@ -55,7 +55,28 @@ where
     )
 }
 
-/// The same, and how it ended. None where there is no room for what is said, or no thread.
+/// The same, and how it ended. None where there is no thread.
+fn served_at<H>(
+    rt: &H,
+    images: &mut MemImages,
+    places: &Places,
+    notice: &mut Notice<'_>,
+) -> Option<(Ending, Visit)>
+where
+    H: Files<File = File>
+        + Net<Listener = TcpListener, Stream = TcpStream>
+        + Threads
+        + Wait
+        + Clock
+        + Sync
+        + Alloc<A = Global>,
+{
+    let begun = AtomicBool::new(false);
+    let (visit, status) = serve_beside(rt, images, &begun, places, notice);
+    Some((ended(status?, notice), visit))
+}
+
+/// The same. None also where there is no room for what is said.
 fn served<H>(rt: &H, images: &mut MemImages) -> Option<(Ending, Visit)>
 where
     H: Files<File = File>
@@ -67,12 +88,10 @@ where
         + Alloc<A = Global>,
 {
     let places: Places = OnceLock::new();
-    let Ok(mut notice) = Notice::new(rt.alloc(), false, &places) else {
-        return None;
-    };
-    let begun = AtomicBool::new(false);
-    let (visit, status) = serve_beside(rt, images, &begun, &places, &mut notice);
-    Some((ended(status?, &notice), visit))
+    match Notice::new(rt.alloc(), false, &places) {
+        Ok(mut notice) => served_at(rt, images, &places, &mut notice),
+        Err(_) => None,
+    }
 }
 
 /// What serving one client came to.
@@ -124,7 +143,28 @@ where
     )
 }
 
-/// The same, and how it ended. None where there is no room for what is said, or no thread.
+/// The same, and how it ended. None where there is no thread.
+fn stayed_at<H>(
+    rt: &H,
+    images: &mut MemImages,
+    places: &Places,
+    notice: &mut Notice<'_>,
+) -> Option<(Ending, Stay)>
+where
+    H: Files<File = File>
+        + Net<Listener = TcpListener, Stream = TcpStream>
+        + Threads
+        + Wait
+        + Clock
+        + Sync
+        + Alloc<A = Global>,
+{
+    let begun = AtomicBool::new(false);
+    let (stay, status) = run_beside(rt, images, &begun, places, notice);
+    Some((ended(status?, notice), stay))
+}
+
+/// The same. None also where there is no room for what is said.
 fn stayed<H>(rt: &H, images: &mut MemImages) -> Option<(Ending, Stay)>
 where
     H: Files<File = File>
@@ -136,12 +176,10 @@ where
         + Alloc<A = Global>,
 {
     let places: Places = OnceLock::new();
-    let Ok(mut notice) = Notice::new(rt.alloc(), true, &places) else {
-        return None;
-    };
-    let begun = AtomicBool::new(false);
-    let (stay, status) = run_beside(rt, images, &begun, &places, &mut notice);
-    Some((ended(status?, &notice), stay))
+    match Notice::new(rt.alloc(), true, &places) {
+        Ok(mut notice) => stayed_at(rt, images, &places, &mut notice),
+        Err(_) => None,
+    }
 }
 
 /// That the first client has all its answers, and the first control line ends all.

@@ -37,12 +37,38 @@ const DONE: [&[u8]; 3] = [
     b"\x67\x44\x66\x98\0\0\0\0\0\0\0\0\0\0\0\x03",
 ];
 
-/// These parts, one behind the other.
-fn joined(alloc: Global, parts: &[&[u8]]) -> Result<Vec<u8>, AllocError> {
-    let mut text = Vec::new(alloc);
+/// Adds these parts, one behind the other.
+fn add(text: &mut Vec<u8>, parts: &[&[u8]]) -> Result<(), AllocError> {
     for part in parts {
         text.extend_from_slice(part)?;
     }
+    Ok(())
+}
+
+/// The same so often.
+fn add_often(text: &mut Vec<u8>, parts: &[&[u8]], count: usize) -> Result<(), AllocError> {
+    for _ in 0..count {
+        add(text, parts)?;
+    }
+    Ok(())
+}
+
+/// These parts, one behind the other.
+fn joined(alloc: Global, parts: &[&[u8]]) -> Result<Vec<u8>, AllocError> {
+    let mut text = Vec::new(alloc);
+    add(&mut text, parts)?;
+    Ok(text)
+}
+
+/// The same, and behind them others so often.
+fn repeated(
+    alloc: Global,
+    begin: &[&[u8]],
+    parts: &[&[u8]],
+    count: usize,
+) -> Result<Vec<u8>, AllocError> {
+    let mut text = joined(alloc, begin)?;
+    add_often(&mut text, parts, count)?;
     Ok(text)
 }
 
@@ -52,7 +78,7 @@ pub(crate) fn session(alloc: Global) -> Result<Vec<u8>, AllocError> {
 }
 
 /// What a client of that session is sent.
-pub(crate) fn answers(alloc: Global) -> Result<Vec<u8>, AllocError> {
+fn answers(alloc: Global) -> Result<Vec<u8>, AllocError> {
     let [export, sizes, ack] = GO_REPLIES;
     let [written, read, flushed] = DONE;
     let parts = [
@@ -61,25 +87,34 @@ pub(crate) fn answers(alloc: Global) -> Result<Vec<u8>, AllocError> {
     joined(alloc, &parts)
 }
 
+/// That session, and what its client is sent.
+pub(crate) fn session_texts(alloc: Global) -> Result<(Vec<u8>, Vec<u8>), AllocError> {
+    let text = session(alloc)?;
+    let wanted = answers(alloc)?;
+    Ok((text, wanted))
+}
+
 /// How many reads of a sector are asked for at once, so that the room for answers grows again and again.
 pub(crate) const READS: usize = 40;
 
 /// GO, and so many reads of a sector.
 pub(crate) fn reads(alloc: Global, count: usize) -> Result<Vec<u8>, AllocError> {
-    let mut text = joined(alloc, &[GO])?;
-    for _ in 0..count {
-        text.extend_from_slice(READ)?;
-    }
-    Ok(text)
+    repeated(alloc, &[GO], &[READ], count)
 }
 
 /// What a client of these reads is sent.
-pub(crate) fn answers_to_reads(alloc: Global, count: usize) -> Result<Vec<u8>, AllocError> {
+fn answers_to_reads(alloc: Global, count: usize) -> Result<Vec<u8>, AllocError> {
     let [export, sizes, ack] = GO_REPLIES;
-    let mut text = joined(alloc, &[GREETING, export, sizes, ack])?;
-    for _ in 0..count {
-        text.extend_from_slice(DONE[1])?;
-        text.extend_from_slice(LETTERS)?;
-    }
-    Ok(text)
+    let begin = [GREETING, export, sizes, ack];
+    repeated(alloc, &begin, &[DONE[1], LETTERS], count)
+}
+
+/// These reads, and what their client is sent.
+pub(crate) fn texts_of_reads(
+    alloc: Global,
+    count: usize,
+) -> Result<(Vec<u8>, Vec<u8>), AllocError> {
+    let text = reads(alloc, count)?;
+    let wanted = answers_to_reads(alloc, count)?;
+    Ok((text, wanted))
 }

@@ -8,11 +8,11 @@ use tp_disk::MemDisk;
 use tp_meta::{Meta, Metadata};
 use tp_model::{DevId, Geometry, Refusal};
 use tp_samples::{
-    MemPool, SECTOR, Stop, close, create_thin, empty, fill_of, flush, opened, read, stopped, write,
+    MemPool, Stop, byte_over, close, create_thin, empty, fill, flush, opened, stopped,
 };
 
-/// Bytes of a block.
-const BLOCK: usize = 128 * SECTOR;
+/// Sectors of a block.
+const BLOCK: usize = 128;
 
 /// The disk calls of opening.
 const OPENING: u64 = 6;
@@ -32,11 +32,8 @@ fn with(found: Found, block: usize, value: u8) -> Found {
 
 /// What fills a block of volume 0, if one byte does.
 fn fill_in(alloc: Global, pool: &mut MemPool, block: u64) -> Result<Option<u8>, Refusal> {
-    let Ok(mut bytes) = Vec::from_elem(alloc, 255u8, BLOCK) else {
-        return Err(Refusal::Memory);
-    };
-    read(pool, DevId::new(0), block.saturating_mul(128), &mut bytes)?;
-    Ok(fill_of(&bytes))
+    let sector = block.saturating_mul(128);
+    byte_over(alloc, pool, DevId::new(0), sector, BLOCK)
 }
 
 /// What fills the first three blocks of volume 0, where one byte does.
@@ -69,10 +66,8 @@ fn found_on(alloc: Global, disk: &MemDisk) -> Result<Found, Fail> {
 
 /// Fills a block of volume 0 and flushes.
 fn fill_block(alloc: Global, pool: &mut MemPool, block: u64, value: u8) -> Result<(), Refusal> {
-    let Ok(bytes) = Vec::from_elem(alloc, value, BLOCK) else {
-        return Err(Refusal::Memory);
-    };
-    write(pool, DevId::new(0), block.saturating_mul(128), &bytes)?;
+    let sector = block.saturating_mul(128);
+    fill(alloc, pool, DevId::new(0), sector, BLOCK, value)?;
     flush(pool)
 }
 

@@ -10,11 +10,11 @@ use tp_check::{CheckError, check};
 use tp_disk::{Disk, Fault, MemDisk};
 use tp_model::{DevId, Geometry, Refusal};
 use tp_samples::{
-    MemPool, SECTOR, Stop, byte_at, close, create_thin, empty, flush, opened, stopped, trim, write,
+    MemPool, Stop, byte_at, close, create_thin, empty, fill, flush, opened, stopped, trim,
 };
 
-/// Bytes of a block.
-const BLOCK: usize = 128 * SECTOR;
+/// Sectors of a block.
+const BLOCK: usize = 128;
 
 /// The first sector of the data, behind 1032 metadata blocks.
 const DATA: u64 = 8 * 1032;
@@ -30,19 +30,11 @@ fn second() -> DevId {
     DevId::new(1)
 }
 
-/// Fills block 0 of a volume.
-fn fill(alloc: Global, pool: &mut MemPool, id: DevId, value: u8) -> Result<(), Refusal> {
-    let Ok(bytes) = Vec::from_elem(alloc, value, BLOCK) else {
-        return Err(Refusal::Memory);
-    };
-    write(pool, id, 0, &bytes)
-}
-
 /// Makes both volumes, and fills block 0 of the first with aa, which a flush keeps.
 fn keep_a_block(alloc: Global, pool: &mut MemPool) -> Result<(), Refusal> {
     create_thin(pool, first())?;
     create_thin(pool, second())?;
-    fill(alloc, pool, first(), 0xaa)?;
+    fill(alloc, pool, first(), 0, BLOCK, 0xaa)?;
     flush(pool)
 }
 
@@ -98,7 +90,7 @@ fn found_behind(alloc: Global, disk: &MemDisk, cut: &Stop) -> Result<Found, Fail
 /// What the first volume has, and what is found where the second one is then given bb and the power is cut.
 fn live_again(alloc: Global, pool: &mut MemPool, cut: &Stop) -> Result<(Option<u8>, Found), Fail> {
     let before = byte_at(pool, first(), 0)?;
-    fill(alloc, pool, second(), 0xbb)?;
+    fill(alloc, pool, second(), 0, BLOCK, 0xbb)?;
     Ok((before, found_behind(alloc, pool.disk(), cut)?))
 }
 

@@ -5,8 +5,8 @@ use std::test::Fail;
 use tp_model::{DevId, Geometry, Refusal};
 use tp_msg::{Message, read_message};
 use tp_samples::{
-    MemPool, SECTOR, Stop, byte_at, create_snap, create_thin, delete, example, grow, has_line,
-    has_volume_line, held_byte_at, release, reserve, set_transaction_id, told_of_empty,
+    MemPool, SECTOR, Stop, byte_at, create_snap, create_thin, delete, example, fill, grow,
+    has_line, has_volume_line, held_byte_at, release, reserve, set_transaction_id, told_of_empty,
     told_of_example, told_of_restarted, volume_blocks, write,
 };
 
@@ -34,8 +34,8 @@ const FULL: &[u8] =
 
 const SEVENTH: &[u8] = b"7 9/2048 0/4 - rw no_discard_passdown error_if_no_space - 512";
 
-/// Bytes of a data block.
-const BLOCK: usize = 128 * SECTOR;
+/// Sectors of a data block.
+const BLOCK: usize = 128;
 
 /// The sizes of a pool that has so many data blocks.
 fn sizes(data_blocks: u64) -> Result<Geometry, Refusal> {
@@ -190,10 +190,8 @@ fn snapshot_of_snapshot(rt: HostRuntime) -> Result<(), Fail> {
 
 /// Fills so many blocks of volume 0, from the first one on.
 fn fill_blocks(alloc: Global, pool: &mut MemPool, count: usize, value: u8) -> Result<(), Refusal> {
-    let Ok(bytes) = Vec::from_elem(alloc, value, BLOCK.saturating_mul(count)) else {
-        return Err(Refusal::Memory);
-    };
-    write(pool, DevId::new(0), 0, &bytes)
+    let sectors = BLOCK.saturating_mul(count);
+    fill(alloc, pool, DevId::new(0), 0, sectors, value)
 }
 
 /// Two answers, and whether the status line is right before and behind them.

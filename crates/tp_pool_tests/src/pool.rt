@@ -7,8 +7,8 @@ use tp_meta::Meta;
 use tp_model::{DevId, Geometry, Mode, Refusal};
 use tp_pool::Pool;
 use tp_samples::{
-    MemPool, SECTOR, byte_at, close, create_thin, example, example_failing, flush, opened, read,
-    told_of_empty, told_of_example, told_of_failing, trim, write,
+    MemPool, SECTOR, byte_at, close, closed, create_thin, example, example_failing, fill, flush,
+    opened, read, told_of_empty, told_of_example, told_of_failing, trim, write, write_through,
 };
 
 /// Sectors of four blocks.
@@ -115,25 +115,11 @@ fn a_closed_pool_is_opened_with_what_was_written(rt: HostRuntime) -> Result<(), 
     Ok(())
 }
 
-/// Fills so many sectors of volume 0 from one on.
-fn fill(
-    alloc: Global,
-    pool: &mut MemPool,
-    sector: u64,
-    count: usize,
-    value: u8,
-) -> Result<(), Refusal> {
-    let Ok(bytes) = Vec::from_elem(alloc, value, SECTOR.saturating_mul(count)) else {
-        return Err(Refusal::Memory);
-    };
-    write(pool, DevId::new(0), sector, &bytes)
-}
-
 /// What writes answer of five blocks, of which one is mapped and three are free; and of a volume that is not there.
 fn refused(alloc: Global, pool: &mut MemPool) -> Result<[Result<(), Refusal>; 2], Refusal> {
     write(pool, DevId::new(0), 128, &[1; SECTOR])?;
     Ok([
-        fill(alloc, pool, 254, FOUR_BLOCKS, 2),
+        fill(alloc, pool, DevId::new(0), 254, FOUR_BLOCKS, 2),
         write(pool, DevId::new(1), 0, &[2; SECTOR]),
     ])
 }
@@ -164,7 +150,7 @@ fn told_of_the_last_blocks(
     pool: &mut MemPool,
 ) -> Result<(Result<(), Refusal>, Other), Refusal> {
     let [five, _] = refused(alloc, pool)?;
-    fill(alloc, pool, 128, FOUR_BLOCKS, 2)?;
+    fill(alloc, pool, DevId::new(0), 128, FOUR_BLOCKS, 2)?;
     let wanted = [(127, 0), (128, 2), (639, 2), (640, 0)];
     Ok((five, first_other(pool, DevId::new(0), &wanted)?))
 }
@@ -308,16 +294,9 @@ fn a_volume_that_is_there_is_held(rt: HostRuntime) -> Result<(), Fail> {
 
 /// Writes over two blocks, flushes and writes one sector again.
 fn write_and_rewrite(alloc: Global, pool: &mut MemPool) -> Result<(), Refusal> {
-    fill(alloc, pool, 100, 200, 5)?;
+    fill(alloc, pool, DevId::new(0), 100, 200, 5)?;
     flush(pool)?;
     write(pool, DevId::new(0), 130, &[6; SECTOR])
-}
-
-/// The disk of a pool that is closed.
-fn closed(pool: MemPool) -> Result<MemDisk, Refusal> {
-    let (answer, disk) = close(pool);
-    answer?;
-    Ok(disk)
 }
 
 /// The disk of a session that does that and is closed.
@@ -357,7 +336,7 @@ const SIXTEEN_BLOCKS_BYTES: usize = SIXTEEN_BLOCKS * SECTOR;
 /// Makes volume 0 and gives each of its sixteen blocks a data block.
 fn create_whole(alloc: Global, pool: &mut MemPool) -> Result<(), Refusal> {
     create_thin(pool, DevId::new(0))?;
-    fill(alloc, pool, 0, SIXTEEN_BLOCKS, 1)
+    fill(alloc, pool, DevId::new(0), 0, SIXTEEN_BLOCKS, 1)
 }
 
 /// How many calls its disk had.
@@ -372,20 +351,10 @@ fn write_calls(pool: &mut MemPool, sector: u64, bytes: &[u8]) -> Result<u64, Ref
     Ok(disk_calls(pool).saturating_sub(before))
 }
 
-/// Writes whole sectors of volume 0 with FUA, where it has them.
-fn write_through(pool: &mut MemPool, sector: u64, bytes: &[u8]) -> Result<(), Refusal> {
-    let count = bytes.len() as u64 / 512;
-    let end = pool.geometry().volume_sectors();
-    if bytes.len() % SECTOR != 0 || count > 2048 || sector > end || count > end - sector {
-        return Err(Refusal::BadGeometry);
-    }
-    pool.write(DevId::new(0), sector, bytes, true)
-}
-
-/// How many disk calls that makes.
+/// The same with FUA.
 fn write_through_calls(pool: &mut MemPool, sector: u64, bytes: &[u8]) -> Result<u64, Refusal> {
     let before = disk_calls(pool);
-    write_through(pool, sector, bytes)?;
+    write_through(pool, DevId::new(0), sector, bytes)?;
     Ok(disk_calls(pool).saturating_sub(before))
 }
 

@@ -4,9 +4,9 @@ use std::alloc::Global;
 use std::test::Fail;
 use tp_model::{DevId, Geometry, Refusal};
 use tp_samples::{
-    MemPool, SECTOR, Stop, byte_at, create_snap, create_thin, fill_of, flush, has_line,
-    has_volume_line, read, told_of_empty, told_of_example, told_of_restarted, trim, write,
-    write_zeroes,
+    MemPool, Stop, byte_at, byte_over, create_snap, create_thin, fill, flush, has_line,
+    has_volume_line, told_of_empty, told_of_example, told_of_restarted, trim, trim_through,
+    write_zeroes, zero_through,
 };
 
 /// The volume that is trimmed.
@@ -14,8 +14,8 @@ fn volume() -> DevId {
     DevId::new(0)
 }
 
-/// Bytes of a block.
-const BLOCK: usize = 128 * SECTOR;
+/// Sectors of a block.
+const BLOCK: usize = 128;
 
 /// Two of 4 data blocks are in use.
 const TWO_OF_FOUR: &[u8] = b"0 10/2048 2/4 - rw no_discard_passdown error_if_no_space - 512";
@@ -37,10 +37,8 @@ fn fill_blocks(
     count: usize,
     value: u8,
 ) -> Result<(), Refusal> {
-    let Ok(bytes) = Vec::from_elem(alloc, value, BLOCK.saturating_mul(count)) else {
-        return Err(Refusal::Memory);
-    };
-    write(pool, volume(), block.saturating_mul(128), &bytes)
+    let (sector, sectors) = (block.saturating_mul(128), BLOCK.saturating_mul(count));
+    fill(alloc, pool, volume(), sector, sectors, value)
 }
 
 /// The bytes of some sectors of the volume, where each has one byte all over.
@@ -125,24 +123,6 @@ fn trim_survives_reclaiming(rt: HostRuntime) -> Result<(), Fail> {
     Ok(())
 }
 
-/// Trims sectors of the volume with FUA, where it has them.
-fn trim_through(pool: &mut MemPool, sector: u64, count: u64) -> Result<(), Refusal> {
-    let end = pool.geometry().volume_sectors();
-    if count > 2048 || sector > end || count > end - sector {
-        return Err(Refusal::BadGeometry);
-    }
-    pool.trim(DevId::new(0), sector, count, true)
-}
-
-/// Makes sectors of the volume zero with FUA, where it has them, and leaves holes where it may.
-fn zero_through(pool: &mut MemPool, sector: u64, count: u64) -> Result<(), Refusal> {
-    let end = pool.geometry().volume_sectors();
-    if count > 2048 || sector > end || count > end - sector {
-        return Err(Refusal::BadGeometry);
-    }
-    pool.write_zeroes(DevId::new(0), sector, count, false, true)
-}
-
 /// The bytes of some sectors of blocks 0 and 1.
 fn bytes_of_both(pool: &mut MemPool) -> Result<[Option<u8>; 4], Refusal> {
     bytes_at(pool, [0, 127, 128, 255])
@@ -179,11 +159,7 @@ fn trims_and_zeros_with_fua_are_kept(rt: HostRuntime) -> Result<(), Fail> {
 
 /// The byte of all sectors behind sector 0 in blocks 0 and 1 of the volume, where they have one byte all over.
 fn byte_behind(alloc: Global, pool: &mut MemPool) -> Result<Option<u8>, Refusal> {
-    let Ok(mut rest) = Vec::from_elem(alloc, 255u8, 255 * SECTOR) else {
-        return Err(Refusal::Memory);
-    };
-    read(pool, volume(), 1, &mut rest)?;
-    Ok(fill_of(&rest))
+    byte_over(alloc, pool, volume(), 1, 255)
 }
 
 /// The byte of sector 0 of the volume, of all behind it in blocks 0 and 1, and of sector 256, where each has one byte all over.

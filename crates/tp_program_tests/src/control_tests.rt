@@ -1,7 +1,7 @@
 //! A test of control lines over the system's sockets: a snapshot of a volume that a client writes, and where that differs from it.
 
 use crate::parts::{CLIENT_GO, Call, GO_REPLIES, GREETING, MADE, Part};
-use crate::servers::{Places, exchange, is_exchanged, run_server};
+use crate::servers::{Places, is_exchanged, is_sent_back, run_server};
 use crate::steps::{make_calls, make_last_calls};
 use std::alloc::Global;
 use std::fs::File;
@@ -81,12 +81,12 @@ where
 
 /// Whether a line that asks for a snapshot is accepted.
 fn is_accepted(alloc: Global, lines: &mut TcpStream) -> io::Result<bool> {
-    Ok(exchange(alloc, lines, b"create_snap 1 0\n", 3)?.as_slice() == b"ok\n".as_slice())
+    is_sent_back(alloc, lines, b"create_snap 1 0\n", b"ok\n")
 }
 
 /// Whether a line that asks where the volume differs from the snapshot is answered by the page of its first block.
 fn is_page_told(alloc: Global, lines: &mut TcpStream) -> io::Result<bool> {
-    Ok(exchange(alloc, lines, b"delta 1 0 0\n", 12)?.as_slice() == b"0+65536 end\n".as_slice())
+    is_sent_back(alloc, lines, b"delta 1 0 0\n", b"0+65536 end\n")
 }
 
 /// Whether the line is accepted, where the volume differs is told, the snapshot reads as the volume did then, and the volume as it was filled since.

@@ -6,6 +6,8 @@
 #[cfg(test)]
 mod check_tests;
 #[cfg(test)]
+mod chunk_tests;
+#[cfg(test)]
 mod command_line_tests;
 #[cfg(test)]
 mod control_tests;

@@ -189,6 +189,44 @@ where
     Ok(feed_in(rt, images, &sent).status == Status::Done)
 }
 
+/// Calls on a pool, and what a client of it sends behind them.
+type Turn = (&'static [Call], &'static [Part<'static>]);
+
+/// What is listed of a pool from its beginning on.
+const LISTED: &[Turn] = &[
+    (NEW, WRITES),
+    (WRITTEN, CHANGES),
+    (CHANGED, &[]),
+    (REFUSED, &[]),
+    (GROWN, WRITES_FAR),
+    (LONGER, &[]),
+];
+
+/// Makes these calls, and has a client served that sends these parts, if there are any.
+fn take_turn<H>(
+    rt: &H,
+    images: &mut MemImages,
+    calls: &[Call],
+    sent: &[Part<'_>],
+) -> Result<(), Fail>
+where
+    H: Files<File = File>
+        + Net<Listener = TcpListener, Stream = TcpStream>
+        + Threads
+        + Wait
+        + Clock
+        + Sync
+        + Alloc<A = Global>
+        + Abort,
+{
+    make_calls_in(rt, images, calls)?;
+    if sent.is_empty() {
+        return Ok(());
+    }
+    let _ = is_fed(rt, images, sent)?;
+    Ok(())
+}
+
 /// Lists what is in a pool, and asserts that it is exact.
 fn list<H>(rt: &H, images: &mut MemImages) -> Result<(), Fail>
 where
@@ -201,15 +239,10 @@ where
         + Alloc<A = Global>
         + Abort,
 {
-    make_calls_in(rt, images, NEW)?;
-    let _ = is_fed(rt, images, WRITES)?;
-    make_calls_in(rt, images, WRITTEN)?;
-    let _ = is_fed(rt, images, CHANGES)?;
-    make_calls_in(rt, images, CHANGED)?;
-    make_calls_in(rt, images, REFUSED)?;
-    make_calls_in(rt, images, GROWN)?;
-    let _ = is_fed(rt, images, WRITES_FAR)?;
-    make_calls_in(rt, images, LONGER)
+    for (calls, sent) in LISTED {
+        take_turn(rt, images, calls, sent)?;
+    }
+    Ok(())
 }
 
 #[test]

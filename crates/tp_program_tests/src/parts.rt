@@ -21,6 +21,9 @@ pub(crate) const GREETING: &[u8] = b"NBDMAGICIHAVEOPT\x00\x03";
 pub(crate) const CLIENT_GO: &[u8] =
     b"\x00\x00\x00\x03IHAVEOPT\x00\x00\x00\x07\x00\x00\x00\x07\x00\x00\x00\x010\x00\x00";
 
+/// The flags of a client that wants no zeroes behind EXPORT_NAME.
+pub(crate) const FLAGS: &[u8] = b"\x00\x00\x00\x03";
+
 /// INFO_EXPORT, INFO_BLOCK_SIZE and ACK.
 pub(crate) const GO_REPLIES: &[u8] =
     b"\x00\x03\xe8\x89\x04\x55\x65\xa9\x00\x00\x00\x07\x00\x00\x00\x03\x00\x00\x00\x0c\x00\x00\x00\x00\x00\x00\x00\x10\x00\x00\x00\x6d\x00\x03\xe8\x89\x04\x55\x65\xa9\x00\x00\x00\x07\x00\x00\x00\x03\x00\x00\x00\x0e\x00\x03\x00\x00\x02\x00\x00\x00\x10\x00\x00\x10\x00\x00\x00\x03\xe8\x89\x04\x55\x65\xa9\x00\x00\x00\x07\x00\x00\x00\x01\x00\x00\x00\x00";
@@ -43,6 +46,11 @@ pub(crate) enum Part<'a> {
     /// The same of a chunk that others follow.
     Front(u16, u64, u32),
 }
+
+/// EXPORT_NAME of volume 0.
+pub(crate) const EXPORT_NAME: Part<'static> = Part::Text(
+    b"IHAVEOPT\x00\x00\x00\x01\x00\x00\x00\x010",
+);
 
 /// These parts, one behind the other.
 pub(crate) fn joined(alloc: Global, parts: &[Part<'_>]) -> Result<Vec<u8>, AllocError> {
@@ -256,6 +264,12 @@ pub(crate) const MADE: &[Call] = &[
     ),
     ("message", &["create_thin 0"], 0, "ok\n"),
 ];
+
+/// A pool of an image is checked, and found clean.
+pub(crate) const CLEAN: &[Call] = &[("check", &[], 0, "clean\n")];
+
+/// A client is fed who is offered what `run` offers.
+pub(crate) const EXTENDED: Call = ("feed", &["--extended"], 0, "");
 
 /// Adds the words of a call on this image.
 fn add_words<'a>(words: &mut Vec<&'a str>, image: &'a str, call: &Call) -> Result<(), AllocError> {

@@ -1,7 +1,7 @@
 //! Tests of clients without end over the system's sockets, until a control line ends them.
 
 use crate::parts::{CLIENT_GO, Call, GO_REPLIES, GREETING, MADE, Part, Ran};
-use crate::servers::{Places, exchange, is_exchanged, run_server};
+use crate::servers::{Places, is_exchanged, is_sent_back, run_server};
 use crate::steps::{make_calls, make_last_calls};
 use std::alloc::Global;
 use std::fs::{self, File};
@@ -41,20 +41,42 @@ fn go_and_fill(alloc: Global, client: &mut TcpStream) -> io::Result<()> {
 
 /// Whether it is answered that all is to stop now.
 pub(crate) fn is_stopped(alloc: Global, lines: &mut TcpStream) -> io::Result<bool> {
-    Ok(exchange(alloc, lines, b"stop now\n", 3)?.as_slice() == b"ok\n".as_slice())
+    is_sent_back(alloc, lines, b"stop now\n", b"ok\n")
 }
 
 /// A line stops all, and then the client reads: whether that is answered, and how many bytes the client has.
+fn stop_and_read(
+    alloc: Global,
+    lines: &mut TcpStream,
+    client: &mut TcpStream,
+) -> io::Result<(bool, usize)> {
+    let is_stopped = is_stopped(alloc, lines)?;
+    Ok((is_stopped, client.read(&mut [0])?))
+}
+
+/// The same by a client of control lines of its own.
 fn stop_beside<H>(rt: &H, control: SocketAddr, client: &mut TcpStream) -> io::Result<(bool, usize)>
 where
     H: Net<Listener = TcpListener, Stream = TcpStream> + Wait + Alloc<A = Global>,
 {
     let mut lines = TcpStream::connect(rt, control)?;
-    let is_stopped = is_stopped(rt.alloc(), &mut lines)?;
-    Ok((is_stopped, client.read(&mut [0])?))
+    stop_and_read(rt.alloc(), &mut lines, client)
 }
 
 /// The same behind a write of that client.
+fn fill_and_stop<H>(
+    rt: &H,
+    control: SocketAddr,
+    client: &mut TcpStream,
+) -> io::Result<(bool, usize)>
+where
+    H: Net<Listener = TcpListener, Stream = TcpStream> + Wait + Alloc<A = Global>,
+{
+    go_and_fill(rt.alloc(), client)?;
+    stop_beside(rt, control, client)
+}
+
+/// The same of a new client.
 fn write_and_stop<H>(rt: &H, places: &Places) -> io::Result<(bool, usize)>
 where
     H: Net<Listener = TcpListener, Stream = TcpStream> + Wait + Alloc<A = Global>,
@@ -63,8 +85,7 @@ where
         return Err(io::Error::from(ErrorKind::NotConnected));
     };
     let mut client = TcpStream::connect(rt, *clients)?;
-    go_and_fill(rt.alloc(), &mut client)?;
-    stop_beside(rt, *control, &mut client)
+    fill_and_stop(rt, *control, &mut client)
 }
 
 /// What is left: what was written is there, though nobody flushed it.
@@ -242,6 +263,19 @@ where
 }
 
 /// A client has a clone, and a line stops all.
+fn fill_clone_and_stop<H>(
+    rt: &H,
+    control: SocketAddr,
+    client: &mut TcpStream,
+) -> io::Result<(bool, (bool, usize))>
+where
+    H: Net<Listener = TcpListener, Stream = TcpStream> + Wait + Alloc<A = Global>,
+{
+    let is_filled = clone_and_fill(rt.alloc(), client)?;
+    Ok((is_filled, stop_beside(rt, control, client)?))
+}
+
+/// The same of a new client.
 fn clone_and_stop<H>(rt: &H, places: &Places) -> io::Result<(bool, (bool, usize))>
 where
     H: Net<Listener = TcpListener, Stream = TcpStream> + Wait + Alloc<A = Global>,
@@ -250,8 +284,7 @@ where
         return Err(io::Error::from(ErrorKind::NotConnected));
     };
     let mut client = TcpStream::connect(rt, *clients)?;
-    let is_filled = clone_and_fill(rt.alloc(), &mut client)?;
-    Ok((is_filled, stop_beside(rt, *control, &mut client)?))
+    fill_clone_and_stop(rt, *control, &mut client)
 }
 
 /// How the program ends, and what the client is told.

@@ -1,7 +1,7 @@
 //! Tests of clients over the system's sockets and of a pipe. Each test has a file of its own, for they run side by side.
 
 use crate::parts::{
-    CLIENT_GO, Call, FAULT, GO_REPLIES, GREETING, MADE, Part, Ran, add, greeted, joined,
+    CLEAN, CLIENT_GO, Call, FAULT, GO_REPLIES, GREETING, MADE, Part, Ran, add, greeted, joined,
     told_of_unread,
 };
 use crate::servers::{Places, addresses_in, exchange, is_exchanged, run_server};
@@ -63,22 +63,20 @@ where
     }
 }
 
-/// Sends all this, ends this side, and reads what is sent.
-fn talk(alloc: Global, client: &mut TcpStream, text: &[u8]) -> io::Result<Vec<u8>> {
+/// Sends all this, ends this side, and reads what is sent: how many bytes.
+fn talk(client: &mut TcpStream, text: &[u8], sent: &mut Vec<u8>) -> io::Result<usize> {
     client.write_all(text)?;
     client.shutdown(Shutdown::Write)?;
-    let mut sent = Vec::new(alloc);
-    client.read_to_end(&mut sent)?;
-    Ok(sent)
+    client.read_to_end(sent)
 }
 
 /// A client that does that.
-fn converse<H>(rt: &H, places: &Places, text: &[u8]) -> io::Result<Vec<u8>>
+fn converse<H>(rt: &H, places: &Places, text: &[u8], sent: &mut Vec<u8>) -> io::Result<usize>
 where
-    H: Net<Listener = TcpListener, Stream = TcpStream> + Wait + Alloc<A = Global>,
+    H: Net<Listener = TcpListener, Stream = TcpStream> + Wait,
 {
     let mut client = connect(rt, places)?;
-    talk(rt.alloc(), &mut client, text)
+    talk(&mut client, text, sent)
 }
 
 /// Whether a client that sends this so is sent these parts.
@@ -86,7 +84,8 @@ fn is_sent<H>(rt: &H, places: &Places, text: &[u8], wanted: &[Part<'_>]) -> io::
 where
     H: Net<Listener = TcpListener, Stream = TcpStream> + Wait + Alloc<A = Global>,
 {
-    let sent = converse(rt, places, text)?;
+    let mut sent = Vec::new(rt.alloc());
+    converse(rt, places, text, &mut sent)?;
     are_parts(rt.alloc(), &sent, wanted)
 }
 
@@ -233,12 +232,17 @@ fn into_the_first_answer(alloc: Global) -> Result<usize, AllocError> {
     Ok(greeted(alloc)?.len() + 512)
 }
 
-/// Asks for 32 MiB, and reads the beginning of the first answer.
-fn begin(alloc: Global, client: &mut TcpStream) -> io::Result<()> {
+/// Sends this, and reads the beginning of the first answer.
+fn begin_by(alloc: Global, client: &mut TcpStream, text: &[u8]) -> io::Result<()> {
     let begun = into_the_first_answer(alloc)?;
+    let mut sent = Vec::from_elem(alloc, 0u8, begun)?;
+    exchange(client, text, &mut sent)
+}
+
+/// Asks for 32 MiB, and reads that.
+fn begin(alloc: Global, client: &mut TcpStream) -> io::Result<()> {
     let text = long_reads(alloc)?;
-    exchange(alloc, client, &text, begun)?;
-    Ok(())
+    begin_by(alloc, client, &text)
 }
 
 /// A client that does that and goes, so that the connection breaks off.
@@ -359,15 +363,12 @@ where
     told_at(rt, image, &other)
 }
 
-/// An image without a fault.
-const WHOLE_IMAGE: &[Call] = &[("check", &[], 0, "clean\n")];
-
 /// The image is let go as it was.
 #[test]
 fn an_address_that_is_taken(rt: HostRuntime) -> Result<(), Fail> {
     make_calls(&rt, "taken.img", MADE)?;
     let told = told_of_taken(&rt, "taken.img")?;
-    make_last_calls(&rt, "taken.img", WHOLE_IMAGE)?;
+    make_last_calls(&rt, "taken.img", CLEAN)?;
     assert_eq!(rt; told, (Status::Refused, true));
     Ok(())
 }

@@ -100,31 +100,51 @@ where
     }
 }
 
-/// Sends this, and reads so many bytes.
-pub(crate) fn exchange(
-    alloc: Global,
+/// Sends this, and reads as many bytes as there is room for.
+pub(crate) fn exchange(client: &mut TcpStream, text: &[u8], sent: &mut [u8]) -> io::Result<()> {
+    client.write_all(text)?;
+    client.read_exact(sent)
+}
+
+/// Whether these are the same bytes.
+fn are_same(sent: &[u8], wanted: &[u8]) -> bool {
+    sent == wanted
+}
+
+/// Whether a client who sends this is sent these bytes, where there is room for as many.
+fn is_sent_into(
     client: &mut TcpStream,
     text: &[u8],
-    count: usize,
-) -> io::Result<Vec<u8>> {
-    client.write_all(text)?;
-    let mut sent = Vec::from_elem(alloc, 0u8, count)?;
-    client.read_exact(&mut sent)?;
-    Ok(sent)
+    wanted: &[u8],
+    sent: &mut [u8],
+) -> io::Result<bool> {
+    exchange(client, text, sent)?;
+    Ok(are_same(sent, wanted))
 }
 
 /// Whether a client who sends this is sent these bytes, where as many as they are are read.
-fn is_sent_back(
+pub(crate) fn is_sent_back(
+    alloc: Global,
+    client: &mut TcpStream,
+    text: &[u8],
+    wanted: &[u8],
+) -> io::Result<bool> {
+    let mut sent = Vec::from_elem(alloc, 0u8, wanted.len())?;
+    is_sent_into(client, text, wanted, &mut sent)
+}
+
+/// The same of a client whose text is made of parts.
+fn is_answered(
     alloc: Global,
     client: &mut TcpStream,
     text: &[Part<'_>],
     wanted: &[u8],
 ) -> io::Result<bool> {
     let text = joined(alloc, text)?;
-    Ok(exchange(alloc, client, &text, wanted.len())?.as_slice() == wanted)
+    is_sent_back(alloc, client, &text, wanted)
 }
 
-/// The same of parts.
+/// The same where what it is sent is, too.
 pub(crate) fn is_exchanged(
     alloc: Global,
     client: &mut TcpStream,
@@ -132,5 +152,5 @@ pub(crate) fn is_exchanged(
     wanted: &[Part<'_>],
 ) -> io::Result<bool> {
     let wanted = joined(alloc, wanted)?;
-    is_sent_back(alloc, client, text, &wanted)
+    is_answered(alloc, client, text, &wanted)
 }

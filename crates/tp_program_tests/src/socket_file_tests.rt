@@ -1,6 +1,6 @@
 //! Tests of socket files: one that a dead server left is replaced, and nothing else is.
 
-use crate::parts::{Call, GREETING, MADE, Part, run};
+use crate::parts::{CLEAN, GREETING, MADE, Part, run};
 use crate::run_tests::is_stopped;
 use crate::servers::is_exchanged;
 use crate::steps::{make_calls, make_last_calls};
@@ -134,9 +134,6 @@ fn is_for_owner<F: Files>(files: &F, path: &str) -> io::Result<bool> {
     fs::remove_file(files, path)?;
     Ok(mode & 0o777 == 0o600)
 }
-
-/// What is left of an image that nothing was written to.
-const CLEAN: &[Call] = &[("check", &[], 0, "clean\n")];
 
 /// Whether both files are for their owner alone. They are removed.
 fn are_for_owner<F: Files>(files: &F) -> io::Result<[bool; 2]> {

@@ -45,6 +45,13 @@ pub fn close(pool: MemPool) -> (Result<(), Refusal>, MemDisk) {
     pool.close()
 }
 
+/// The disk of a pool whose closing is answered.
+pub fn closed(pool: MemPool) -> Result<MemDisk, Refusal> {
+    let (answer, disk) = close(pool);
+    answer?;
+    Ok(disk)
+}
+
 /// Whether this is the pool's status line.
 pub fn has_line(pool: &MemPool, line: &[u8]) -> bool {
     let mut out = [0; 192];

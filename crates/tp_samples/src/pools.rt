@@ -93,14 +93,50 @@ pub fn held_byte_at(pool: &mut MemPool, id: DevId, sector: u64) -> Result<Option
     Ok(fill_of(&out))
 }
 
-/// Writes whole sectors of a volume, where it has them.
-pub fn write(pool: &mut MemPool, id: DevId, sector: u64, bytes: &[u8]) -> Result<(), Refusal> {
+/// Writes whole sectors of a volume, where it has them, with FUA or without.
+fn write_so(
+    pool: &mut MemPool,
+    id: DevId,
+    sector: u64,
+    bytes: &[u8],
+    fua: bool,
+) -> Result<(), Refusal> {
     let count = bytes.len() as u64 / 512;
     let end = pool.geometry().volume_sectors();
     if bytes.len() % SECTOR != 0 || count > 2048 || sector > end || count > end - sector {
         return Err(Refusal::BadGeometry);
     }
-    pool.write(id, sector, bytes, false)
+    pool.write(id, sector, bytes, fua)
+}
+
+/// Writes whole sectors of a volume, where it has them.
+pub fn write(pool: &mut MemPool, id: DevId, sector: u64, bytes: &[u8]) -> Result<(), Refusal> {
+    write_so(pool, id, sector, bytes, false)
+}
+
+/// The same with FUA.
+pub fn write_through(
+    pool: &mut MemPool,
+    id: DevId,
+    sector: u64,
+    bytes: &[u8],
+) -> Result<(), Refusal> {
+    write_so(pool, id, sector, bytes, true)
+}
+
+/// Fills so many sectors of a volume from one on, where it has them.
+pub fn fill(
+    alloc: Global,
+    pool: &mut MemPool,
+    id: DevId,
+    sector: u64,
+    count: usize,
+    value: u8,
+) -> Result<(), Refusal> {
+    let Ok(bytes) = Vec::from_elem(alloc, value, SECTOR.saturating_mul(count)) else {
+        return Err(Refusal::Memory);
+    };
+    write(pool, id, sector, &bytes)
 }
 
 /// Reads whole sectors of a volume, where it has them.
@@ -113,25 +149,66 @@ pub fn read(pool: &mut MemPool, id: DevId, sector: u64, out: &mut [u8]) -> Resul
     pool.read(id, sector, out)
 }
 
-/// Trims sectors of volume 0, where it has them.
-pub fn trim(pool: &mut MemPool, sector: u64, count: u64) -> Result<(), Refusal> {
+/// The byte that fills so many sectors of a volume from one on, if one does.
+pub fn byte_over(
+    alloc: Global,
+    pool: &mut MemPool,
+    id: DevId,
+    sector: u64,
+    count: usize,
+) -> Result<Option<u8>, Refusal> {
+    let Ok(mut bytes) = Vec::from_elem(alloc, 255u8, SECTOR.saturating_mul(count)) else {
+        return Err(Refusal::Memory);
+    };
+    read(pool, id, sector, &mut bytes)?;
+    Ok(fill_of(&bytes))
+}
+
+/// Trims sectors of volume 0, where it has them, with FUA or without.
+fn trim_so(pool: &mut MemPool, sector: u64, count: u64, fua: bool) -> Result<(), Refusal> {
     let end = pool.geometry().volume_sectors();
     if count > 2048 || sector > end || count > end - sector {
         return Err(Refusal::BadGeometry);
     }
-    pool.trim(DevId::new(0), sector, count, false)
+    pool.trim(DevId::new(0), sector, count, fua)
 }
 
-/// Makes sectors of the volume zero, where it has them.
+/// Trims sectors of volume 0, where it has them.
+pub fn trim(pool: &mut MemPool, sector: u64, count: u64) -> Result<(), Refusal> {
+    trim_so(pool, sector, count, false)
+}
+
+/// The same with FUA.
+pub fn trim_through(pool: &mut MemPool, sector: u64, count: u64) -> Result<(), Refusal> {
+    trim_so(pool, sector, count, true)
+}
+
+/// Makes sectors of volume 0 zero, where it has them, with FUA or without.
+fn zero_so(
+    pool: &mut MemPool,
+    sector: u64,
+    count: u64,
+    no_hole: bool,
+    fua: bool,
+) -> Result<(), Refusal> {
+    let end = pool.geometry().volume_sectors();
+    if count > 2048 || sector > end || count > end - sector {
+        return Err(Refusal::BadGeometry);
+    }
+    pool.write_zeroes(DevId::new(0), sector, count, no_hole, fua)
+}
+
+/// Makes sectors of volume 0 zero, where it has them.
 pub fn write_zeroes(
     pool: &mut MemPool,
     sector: u64,
     count: u64,
     no_hole: bool,
 ) -> Result<(), Refusal> {
-    let end = pool.geometry().volume_sectors();
-    if count > 2048 || sector > end || count > end - sector {
-        return Err(Refusal::BadGeometry);
-    }
-    pool.write_zeroes(DevId::new(0), sector, count, no_hole, false)
+    zero_so(pool, sector, count, no_hole, false)
+}
+
+/// The same with FUA, and with holes where there may be some.
+pub fn zero_through(pool: &mut MemPool, sector: u64, count: u64) -> Result<(), Refusal> {
+    zero_so(pool, sector, count, false, true)
 }

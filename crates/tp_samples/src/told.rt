@@ -1,6 +1,6 @@
 //! What is told of a pool by a function that has it by `&mut`.
 //!
-//! Who owns a pool is proved to let all parts of it go at each exit. So these own it, and a test calls them with the function that tells.
+//! Who owns a pool is proved to let all parts of it go at each exit. So `told_by` alone owns it, and a test calls these with the function that tells.
 
 use crate::pools::{MemPool, empty, example_failing};
 use crate::stops::{Stop, restarted};
@@ -8,6 +8,13 @@ use std::alloc::Global;
 use std::test::Fail;
 use tp_disk::MemDisk;
 use tp_model::{Geometry, Refusal};
+
+/// What is told of a pool, which is let go behind that.
+fn told_by<T, F: FnOnce(&mut MemPool) -> T + Drop>(mut pool: MemPool, tell: F) -> T
+    requires { F.IsAlwaysCallable tell }
+{
+    tell(&mut pool)
+}
 
 /// What is told of the empty pool of this geometry.
 pub fn told_of_empty<T, F: FnOnce(&mut MemPool) -> T + Drop>(
@@ -17,8 +24,7 @@ pub fn told_of_empty<T, F: FnOnce(&mut MemPool) -> T + Drop>(
 ) -> Result<T, Refusal>
     requires { F.IsAlwaysCallable tell }
 {
-    let mut pool = empty(alloc, geometry)?;
-    Ok(tell(&mut pool))
+    Ok(told_by(empty(alloc, geometry)?, tell))
 }
 
 /// What is told of a pool of four data blocks with volume 0.
@@ -40,8 +46,7 @@ pub fn told_of_failing<T, F: FnOnce(&mut MemPool) -> T + Drop>(
 ) -> Result<T, Refusal>
     requires { F.IsAlwaysCallable tell }
 {
-    let mut pool = example_failing(alloc, first, last)?;
-    Ok(tell(&mut pool))
+    Ok(told_by(example_failing(alloc, first, last)?, tell))
 }
 
 /// What is told of the pool of a clean image that a stop leaves.
@@ -53,6 +58,5 @@ pub fn told_of_restarted<T, F: FnOnce(&mut MemPool) -> T + Drop>(
 ) -> Result<T, Fail>
     requires { F.IsAlwaysCallable tell }
 {
-    let mut pool = restarted(alloc, disk, stop)?;
-    Ok(tell(&mut pool))
+    Ok(told_by(restarted(alloc, disk, stop)?, tell))
 }

@@ -1,9 +1,9 @@
 //! Which calls of the disk a request makes.
 
 use crate::calls::{create_thin, flush};
-use crate::pools::{MANY, MemServed, byte_at, stopped, tally, with_volume, write};
+use crate::pools::{MANY, MemServed, byte_at, left_behind, tally, with_volume, write};
 use crate::tallies::Tally;
-use crate::told::told_of_empty;
+use crate::told::{told_by, told_of_empty};
 use std::alloc::Global;
 use std::test::Fail;
 use tp_model::{DevId, Geometry, Refusal};
@@ -22,7 +22,7 @@ const ONE_DATA_READ: [u64; 5] = [0, 0, 1, 0, 0];
 fn reopened(alloc: Global, metadata_blocks: u64, room: Room) -> Result<MemServed, Fail> {
     let geometry = Geometry::new(128, 16, metadata_blocks, 4)?;
     let pool = with_volume(alloc, geometry, room)?;
-    stopped(alloc, &pool, room)
+    left_behind(alloc, pool, Ok(()), room)
 }
 
 /// What is told of such a pool.
@@ -34,8 +34,7 @@ fn told_of_reopened<T, F: FnOnce(&mut MemServed) -> T + Drop>(
 ) -> Result<T, Fail>
     requires { F.IsAlwaysCallable tell }
 {
-    let mut pool = reopened(alloc, metadata_blocks, room)?;
-    Ok(tell(&mut pool))
+    Ok(told_by(reopened(alloc, metadata_blocks, room)?, tell))
 }
 
 /// What a write to volume 0 from this sector on calls.

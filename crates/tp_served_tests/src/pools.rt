@@ -43,15 +43,19 @@ pub(crate) fn formatted(
     }
 }
 
+/// A pool, with one volume more.
+pub(crate) fn with_new(mut pool: MemServed, id: DevId) -> Result<MemServed, Refusal> {
+    create_thin(&mut pool, id)?;
+    Ok(pool)
+}
+
 /// Makes a disk the pool of this geometry with volume 0.
 pub(crate) fn with_volume(
     alloc: Global,
     geometry: Geometry,
     room: Room,
 ) -> Result<MemServed, Refusal> {
-    let mut pool = formatted(alloc, geometry, room)?;
-    create_thin(&mut pool, DevId::new(0))?;
-    Ok(pool)
+    with_new(formatted(alloc, geometry, room)?, DevId::new(0))
 }
 
 /// The pool of a disk, on a new tally.
@@ -87,9 +91,36 @@ pub(crate) fn stopped(alloc: Global, pool: &MemServed, room: Room) -> Result<Mem
     Ok(opened(alloc, disk, pool.geometry(), room)?)
 }
 
+/// The same of a pool that is let go, or why what was done with it before was refused.
+pub(crate) fn left_behind(
+    alloc: Global,
+    pool: MemServed,
+    done: Result<(), Refusal>,
+    room: Room,
+) -> Result<MemServed, Fail> {
+    done?;
+    stopped(alloc, &pool, room)
+}
+
 /// How often its disk was called.
 pub(crate) fn tally(pool: &MemServed) -> Tally {
     pool.disk().tally()
+}
+
+/// Writes whole sectors of a volume, where it has them, with FUA or without.
+fn write_so(
+    pool: &mut MemServed,
+    id: DevId,
+    sector: u64,
+    bytes: &[u8],
+    fua: bool,
+) -> Result<(), Refusal> {
+    let count = bytes.len() as u64 / 512;
+    let end = pool.geometry().volume_sectors();
+    if bytes.len() % SECTOR != 0 || count > 2048 || sector > end || count > end - sector {
+        return Err(Refusal::BadGeometry);
+    }
+    pool.write(id, sector, bytes, fua)
 }
 
 /// Writes whole sectors of a volume, where it has them.
@@ -99,12 +130,7 @@ pub(crate) fn write(
     sector: u64,
     bytes: &[u8],
 ) -> Result<(), Refusal> {
-    let count = bytes.len() as u64 / 512;
-    let end = pool.geometry().volume_sectors();
-    if bytes.len() % SECTOR != 0 || count > 2048 || sector > end || count > end - sector {
-        return Err(Refusal::BadGeometry);
-    }
-    pool.write(id, sector, bytes, false)
+    write_so(pool, id, sector, bytes, false)
 }
 
 /// The same with FUA.
@@ -114,12 +140,7 @@ pub(crate) fn write_through(
     sector: u64,
     bytes: &[u8],
 ) -> Result<(), Refusal> {
-    let count = bytes.len() as u64 / 512;
-    let end = pool.geometry().volume_sectors();
-    if bytes.len() % SECTOR != 0 || count > 2048 || sector > end || count > end - sector {
-        return Err(Refusal::BadGeometry);
-    }
-    pool.write(id, sector, bytes, true)
+    write_so(pool, id, sector, bytes, true)
 }
 
 /// The byte that fills a sector of a volume, where it has it and one does.

@@ -1,8 +1,9 @@
 //! Shared reads, beside the ordinary ones.
 
 use crate::pools::{
-    MANY, MemServed, byte_at, shared_byte_at, stopped, with_volume, write, write_through,
+    MANY, MemServed, byte_at, left_behind, shared_byte_at, with_volume, write, write_through,
 };
+use crate::told::told_by;
 use std::alloc::Global;
 use std::test::Fail;
 use tp_model::{DevId, Geometry, Refusal};
@@ -20,8 +21,8 @@ const LATER: u64 = 300;
 /// A pool with volume 0, of which that sector was written with FUA, as a stop behind that leaves it.
 fn written(alloc: Global) -> Result<MemServed, Fail> {
     let mut pool = with_volume(alloc, Geometry::new(128, 16, 2048, 4)?, MANY)?;
-    write_through(&mut pool, DevId::new(VOLUME), SECTOR, &[7; 512])?;
-    stopped(alloc, &pool, MANY)
+    let done = write_through(&mut pool, DevId::new(VOLUME), SECTOR, &[7; 512]);
+    left_behind(alloc, pool, done, MANY)
 }
 
 /// What is told of such a pool.
@@ -31,8 +32,7 @@ fn told_of_written<T, F: FnOnce(&mut MemServed) -> T + Drop>(
 ) -> Result<T, Fail>
     requires { F.IsAlwaysCallable tell }
 {
-    let mut pool = written(alloc)?;
-    Ok(tell(&mut pool))
+    Ok(told_by(written(alloc)?, tell))
 }
 
 /// What a shared read gives before and behind an ordinary read, and what that one gives.

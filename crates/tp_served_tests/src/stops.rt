@@ -1,7 +1,9 @@
 //! What a stop leaves of random writes after a fault of any disk call, against plain arrays, with few places for changed blocks.
 
-use crate::calls::{close, create_thin, flush};
-use crate::pools::{FEW, MemServed, byte_at, closed, is_clean, opened, with_volume, write};
+use crate::calls::{close, flush};
+use crate::pools::{
+    FEW, MemServed, byte_at, closed, is_clean, opened, with_new, with_volume, write,
+};
 use crate::told::told_of_opened;
 use std::alloc::Global;
 use std::test::Fail;
@@ -87,9 +89,7 @@ fn perform_all(pool: &mut MemServed, expected: &mut Expected) -> Result<(), Refu
 
 /// A pool with volumes 0 and 1.
 fn with_both(alloc: Global, geometry: Geometry, room: Room) -> Result<MemServed, Refusal> {
-    let mut pool = with_volume(alloc, geometry, room)?;
-    create_thin(&mut pool, DevId::new(1))?;
-    Ok(pool)
+    with_new(with_volume(alloc, geometry, room)?, DevId::new(1))
 }
 
 /// A pool with two volumes, closed.

@@ -114,8 +114,9 @@ fn filled_and_closed(
 
 #[test]
 fn a_closed_pool_is_opened_with_all(rt: HostRuntime) -> Result<(), Fail> {
-    let (answer, disk) = filled_and_closed(rt.alloc(), sizes()?)?;
-    let found = told_of_opened(rt.alloc(), disk, sizes()?, FEW, found);
+    let sizes = sizes()?;
+    let (answer, disk) = filled_and_closed(rt.alloc(), sizes)?;
+    let found = told_of_opened(rt.alloc(), disk, sizes, FEW, found);
     assert_eq!(rt; (answer, found), (Ok(()), Ok(Ok((64, 0)))));
     Ok(())
 }

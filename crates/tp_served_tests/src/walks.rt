@@ -1,7 +1,8 @@
 //! Walks over the slots of a volume.
 
 use crate::calls::{flush, walk, walk_shared};
-use crate::pools::{MANY, MemServed, stopped, with_volume, write};
+use crate::pools::{MANY, MemServed, left_behind, with_volume, write};
+use crate::told::told_by;
 use std::alloc::Global;
 use std::test::Fail;
 use tp_model::{DevId, Geometry, Refusal, Slot, Slots, Vb};
@@ -58,8 +59,8 @@ fn write_two(pool: &mut MemServed) -> Result<(), Refusal> {
 /// A pool with volume 0 of four blocks of which those two have slots, reopened behind a flush.
 fn written(alloc: Global) -> Result<MemServed, Fail> {
     let mut pool = with_volume(alloc, Geometry::new(128, 16, 2048, 4)?, MANY)?;
-    write_two(&mut pool)?;
-    stopped(alloc, &pool, MANY)
+    let done = write_two(&mut pool);
+    left_behind(alloc, pool, done, MANY)
 }
 
 /// What is told of such a pool.
@@ -69,8 +70,7 @@ fn told_of_written<T, F: FnOnce(&mut MemServed) -> T + Drop>(
 ) -> Result<T, Fail>
     requires { F.IsAlwaysCallable tell }
 {
-    let mut pool = written(alloc)?;
-    Ok(tell(&mut pool))
+    Ok(told_by(written(alloc)?, tell))
 }
 
 /// What walks list from the first block, the third, and behind the last slot.

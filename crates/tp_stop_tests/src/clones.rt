@@ -111,11 +111,20 @@ fn told_of_clones(
     Ok((told, before.as_slice() == behind.as_slice()))
 }
 
+/// The same of a hub that is let go behind that.
+fn told_by(alloc: Global, mut hub: Hub<MemServed>) -> Result<([u8; 3], bool), AllocError> {
+    let mut out = Answers::new(alloc);
+    told_of_clones(alloc, &mut hub, &mut out)
+}
+
+/// The hub over a new pool.
+fn new_hub(alloc: Global) -> Result<Hub<MemServed>, Fail> {
+    Ok(opened(alloc, founded(alloc, ROOM)?, ROOM)?)
+}
+
 #[test]
 fn each_client_has_a_clone_of_its_own(rt: HostRuntime) -> Result<(), Fail> {
-    let mut hub = opened(rt.alloc(), founded(rt.alloc(), ROOM)?, ROOM)?;
-    let mut out = Answers::new(rt.alloc());
-    let told = told_of_clones(rt.alloc(), &mut hub, &mut out)?;
+    let told = told_by(rt.alloc(), new_hub(rt.alloc())?)?;
     assert_eq!(rt; told, ([b'a', b'b', 0], true));
     Ok(())
 }
@@ -150,15 +159,18 @@ fn are_deleted(alloc: Global, hub: &mut Hub<MemServed>, out: &mut Answers) -> bo
     are_told
 }
 
-/// The status line of a new pool.
-fn line_of_new(alloc: Global, out: &mut Answers) -> Result<Vec<u8>, Fail> {
-    let mut hub = opened(alloc, founded(alloc, ROOM)?, ROOM)?;
-    Ok(line(alloc, &mut hub, out)?)
+/// The status line of a pool whose hub is let go behind that.
+fn line_by(
+    alloc: Global,
+    mut hub: Hub<MemServed>,
+    out: &mut Answers,
+) -> Result<Vec<u8>, AllocError> {
+    line(alloc, &mut hub, out)
 }
 
 /// The disk that a stop leaves of a new pool with clones.
 fn stopped_of_new(alloc: Global, out: &mut Answers) -> Result<MemDisk, Fail> {
-    let mut hub = opened(alloc, founded(alloc, ROOM)?, ROOM)?;
+    let mut hub = new_hub(alloc)?;
     Ok(stopped(alloc, &mut hub, out)?)
 }
 
@@ -167,14 +179,20 @@ fn deleted_behind_stop(alloc: Global, out: &mut Answers) -> Result<(bool, Vec<u8
     let disk = stopped_of_new(alloc, out)?;
     let mut hub = opened(alloc, disk, ROOM)?;
     let are_deleted = are_deleted(alloc, &mut hub, out);
-    Ok((are_deleted, line(alloc, &mut hub, out)?))
+    Ok((are_deleted, line_by(alloc, hub, out)?))
+}
+
+/// Whether they are, and the line is that of a new pool then.
+fn are_gone(alloc: Global, out: &mut Answers) -> Result<bool, Fail> {
+    let (are_deleted, behind) = deleted_behind_stop(alloc, out)?;
+    let before = line_by(alloc, new_hub(alloc)?, out)?;
+    Ok(are_deleted && before.as_slice() == behind.as_slice())
 }
 
 #[test]
 fn clones_that_a_stop_leaves_are_deleted_by_their_ids(rt: HostRuntime) -> Result<(), Fail> {
     let mut out = Answers::new(rt.alloc());
-    let (are_deleted, behind) = deleted_behind_stop(rt.alloc(), &mut out)?;
-    let before = line_of_new(rt.alloc(), &mut out)?;
-    assert!(rt; are_deleted && before.as_slice() == behind.as_slice());
+    let are_gone = are_gone(rt.alloc(), &mut out)?;
+    assert!(rt; are_gone);
     Ok(())
 }

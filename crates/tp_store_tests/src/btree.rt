@@ -58,10 +58,16 @@ fn an_empty_tree(rt: HostRuntime) -> Result<(), Fail> {
 }
 
 /// What look-ups in a tree of two levels tell, what walks over it find, and the tree's extent.
-fn told_of_two_levels(
-    tm: &mut Tm,
-    disk: &mut MemDisk,
-) -> Result<(LookUps, Walks, Extent), Refusal> {
+type TwoLevels = (LookUps, Walks, Extent);
+
+/// The same as it is to be.
+const TWO_LEVELS: TwoLevels = (
+    [(true, false), (true, false), (false, false)],
+    [(252, 753), (48, 897), (0, 0)],
+    (300, Some(897)),
+);
+
+fn told_of_two_levels(tm: &mut Tm, disk: &mut MemDisk) -> Result<TwoLevels, Refusal> {
     let root = tree_on(tm, disk)?;
     let told = lookups_on(tm, disk, root, [0, 897, 898])?;
     let walked = walks_on(tm, disk, root, [0, 754, 898])?;
@@ -71,14 +77,7 @@ fn told_of_two_levels(
 #[test]
 fn a_tree_of_two_levels(rt: HostRuntime) -> Result<(), Fail> {
     let told = told_of_store(rt.alloc(), told_of_two_levels)?;
-    assert_eq!(rt;
-        told,
-        Ok((
-            [(true, false), (true, false), (false, false)],
-            [(252, 753), (48, 897), (0, 0)],
-            (300, Some(897))
-        ))
-    );
+    assert_eq!(rt; told, Ok(TWO_LEVELS));
     Ok(())
 }
 

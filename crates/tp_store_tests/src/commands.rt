@@ -141,39 +141,6 @@ fn delete<M: Mapping, D: Disk>(
     Ok(mapping.delete(disk, device)?)
 }
 
-/// Does what a command wants, where it may: of a device that there is, or with an id that no device has.
-fn perform<M: Mapping, D: Disk>(
-    mapping: &mut M,
-    disk: &mut D,
-    geometry: &Geometry,
-    device: DevId,
-    command: &Command,
-) -> Result<Option<Pb>, Refusal>
-    requires { M.geometry mapping.old ≡ geometry.now }
-    ensures { M.geometry mapping.new ≡ geometry.now }
-{
-    let there = has(mapping, disk, geometry, device)?;
-    match *command {
-        Command::Create if !there => add(mapping, disk, geometry, device, None)?,
-        Command::Snapshot(origin) if !there => {
-            if has(mapping, disk, geometry, origin)? {
-                add(mapping, disk, geometry, device, Some(origin))?;
-            }
-        }
-        Command::Map(block) if there => return map(mapping, disk, geometry, device, block),
-        Command::Unmap(block) if there => {
-            let (place, _, _) = told_of(mapping, disk, geometry, device, block)?;
-            if place.is_some() {
-                unmap(mapping, disk, geometry, device, block)?;
-            }
-        }
-        Command::Delete if there => delete(mapping, disk, geometry, device)?,
-        Command::Keep => mapping.keep(),
-        _ => (),
-    }
-    Ok(None)
-}
-
 /// Whether there is such a device.
 fn has<M: Mapping, D: Disk>(
     mapping: &M,
@@ -185,6 +152,108 @@ fn has<M: Mapping, D: Disk>(
 {
     let (_, mapped, _) = told_of(mapping, disk, geometry, device, Vb::new(0))?;
     Ok(mapped.is_some())
+}
+
+/// Adds a device with the slots of another one, where there is that one.
+fn add_of<M: Mapping, D: Disk>(
+    mapping: &mut M,
+    disk: &mut D,
+    geometry: &Geometry,
+    device: DevId,
+    origin: DevId,
+) -> Result<(), Refusal>
+    requires { M.geometry mapping.old ≡ geometry.now }
+    ensures { M.geometry mapping.new ≡ geometry.now }
+{
+    if !has(mapping, disk, geometry, origin)? {
+        return Ok(());
+    }
+    add(mapping, disk, geometry, device, Some(origin))
+}
+
+/// Takes a virtual block its data block, where it has one.
+fn unmap_mapped<M: Mapping, D: Disk>(
+    mapping: &mut M,
+    disk: &mut D,
+    geometry: &Geometry,
+    device: DevId,
+    block: Vb,
+) -> Result<Option<Pb>, Refusal>
+    requires { M.geometry mapping.old ≡ geometry.now }
+    ensures { M.geometry mapping.new ≡ geometry.now }
+{
+    let (place, _, _) = told_of(mapping, disk, geometry, device, block)?;
+    if place.is_none() {
+        return Ok(None);
+    }
+    unmap(mapping, disk, geometry, device, block)?;
+    Ok(None)
+}
+
+/// Does what a command wants with an id that no device has.
+fn perform_without<M: Mapping, D: Disk>(
+    mapping: &mut M,
+    disk: &mut D,
+    geometry: &Geometry,
+    device: DevId,
+    command: &Command,
+) -> Result<(), Refusal>
+    requires { M.geometry mapping.old ≡ geometry.now }
+    ensures { M.geometry mapping.new ≡ geometry.now }
+{
+    match *command {
+        Command::Create => add(mapping, disk, geometry, device, None),
+        Command::Snapshot(origin) => add_of(mapping, disk, geometry, device, origin),
+        Command::Keep => {
+            mapping.keep();
+            Ok(())
+        }
+        _ => Ok(()),
+    }
+}
+
+/// Does what a command wants of a device that there is.
+fn perform_with<M: Mapping, D: Disk>(
+    mapping: &mut M,
+    disk: &mut D,
+    geometry: &Geometry,
+    device: DevId,
+    command: &Command,
+) -> Result<Option<Pb>, Refusal>
+    requires { M.geometry mapping.old ≡ geometry.now }
+    ensures { M.geometry mapping.new ≡ geometry.now }
+{
+    match *command {
+        Command::Map(block) => map(mapping, disk, geometry, device, block),
+        Command::Unmap(block) => unmap_mapped(mapping, disk, geometry, device, block),
+        Command::Delete => {
+            delete(mapping, disk, geometry, device)?;
+            Ok(None)
+        }
+        Command::Keep => {
+            mapping.keep();
+            Ok(None)
+        }
+        _ => Ok(None),
+    }
+}
+
+/// Does what a command wants, where it may: of a device that there is, or with an id that no device has.
+fn perform<M: Mapping, D: Disk>(
+    mapping: &mut M,
+    disk: &mut D,
+    geometry: &Geometry,
+    device: DevId,
+    command: &Command,
+) -> Result<Option<Pb>, Refusal>
+    requires { M.geometry mapping.old ≡ geometry.now }
+    ensures { M.geometry mapping.new ≡ geometry.now }
+{
+    if !has(mapping, disk, geometry, device)? {
+        perform_without(mapping, disk, geometry, device, command)?;
+        return Ok(None);
+    }
+    perform_with(mapping, disk, geometry, device, command)
 }
 
 /// Whether both tell the same of each virtual block.

@@ -131,6 +131,39 @@ fn put_one<D: Disk>(
     Ok(was == Some(done.was.value) && done.was.key == entry.key)
 }
 
+/// Gives a tree the values of another one.
+fn copy_values(values: &mut [Option<u64>], from: usize, i: usize) {
+    for key in 0..KEYS {
+        let value = value_at(values, from, key);
+        set_value(values, i, key, value);
+    }
+}
+
+/// An empty tree for a place that has none.
+fn plant_empty<D: Disk>(
+    tm: &mut Tm,
+    disk: &mut D,
+    forest: &mut Forest,
+    i: usize,
+) -> Result<(), Refusal> {
+    forest.roots[i % ROOTS] = Some(empty_on(tm, disk)?);
+    Ok(())
+}
+
+/// A snapshot of another tree, which has this root.
+fn plant_snapshot(
+    tm: &mut Tm,
+    forest: &mut Forest,
+    from: usize,
+    root: Mb,
+    i: usize,
+) -> Result<(), Refusal> {
+    share_on(tm, root)?;
+    forest.roots[i % ROOTS] = Some(root);
+    copy_values(&mut forest.values, from, i);
+    Ok(())
+}
+
 /// A tree for a place that has none: a snapshot of another, or an empty one.
 fn plant<D: Disk>(
     tm: &mut Tm,
@@ -140,20 +173,21 @@ fn plant<D: Disk>(
     shares: bool,
 ) -> Result<(), Refusal> {
     let from = (i % ROOTS + 1) % ROOTS;
+    if !shares {
+        return plant_empty(tm, disk, forest, i);
+    }
     let other = forest.roots[from];
-    if !shares || other.is_none() {
-        forest.roots[i % ROOTS] = Some(empty_on(tm, disk)?);
-        return Ok(());
+    match other {
+        Some(root) => plant_snapshot(tm, forest, from, root, i),
+        None => plant_empty(tm, disk, forest, i),
     }
-    if let Some(root) = other {
-        share_on(tm, root)?;
-    }
-    forest.roots[i % ROOTS] = other;
+}
+
+/// Takes a tree its values.
+fn clear_values(values: &mut [Option<u64>], i: usize) {
     for key in 0..KEYS {
-        let value = value_at(&forest.values, from, key);
-        set_value(&mut forest.values, i, key, value);
+        set_value(values, i, key, None);
     }
-    Ok(())
 }
 
 /// Gives up a tree, where there is one.
@@ -163,9 +197,7 @@ fn fell<D: Disk>(tm: &mut Tm, disk: &mut D, forest: &mut Forest, i: usize) -> Re
     };
     release_on(tm, disk, root)?;
     forest.roots[i % ROOTS] = None;
-    for key in 0..KEYS {
-        set_value(&mut forest.values, i, key, None);
-    }
+    clear_values(&mut forest.values, i);
     Ok(())
 }
 
@@ -488,11 +520,16 @@ fn told_of_a_forest(alloc: Global, tm: &mut Tm, disk: &mut MemDisk) -> Result<To
     Ok((told, fell_all(tm, disk, &mut forest)))
 }
 
+/// The same in a store of its own.
+fn told_of_operations_on(alloc: Global, disk: &mut MemDisk) -> Result<Told, Fail> {
+    let mut tm = wide_store(alloc)?;
+    told_of_a_forest(alloc, &mut tm, disk)
+}
+
 /// The same on a disk of its own.
 fn told_of_operations(alloc: Global) -> Result<Told, Fail> {
     let mut disk = MemDisk::new(alloc, 81_920)?;
-    let mut tm = wide_store(alloc)?;
-    told_of_a_forest(alloc, &mut tm, &mut disk)
+    told_of_operations_on(alloc, &mut disk)
 }
 
 #[test]

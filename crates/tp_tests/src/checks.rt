@@ -7,7 +7,9 @@ use tp_disk::MemDisk;
 use tp_meta::Meta;
 use tp_model::{DevId, Geometry, Mode, Refusal};
 use tp_pool::Pool;
-use tp_samples::{MemPool, Stop, formatted, grow, opened, restarted, trim, write_zeroes};
+use tp_samples::{
+    MemPool, Stop, close, closed, formatted, grow, opened, restarted, trim, write_zeroes,
+};
 use tp_users::{short_pool_is_used_again, stop_short_pool};
 
 const WANTS_CHECK: &[u8] = b"- ro no_discard_passdown error_if_no_space needs_check 512";
@@ -80,15 +82,21 @@ fn out_of_room(alloc: Global) -> Result<(MemPool, RunOut), Fail> {
     Ok((pool, out))
 }
 
-#[test]
-fn five_hundred_volumes(rt: HostRuntime) -> Result<(), Fail> {
-    let (pool, out) = out_of_room(rt.alloc())?;
+/// Whether as many volumes as should be were made before one was refused, why it was, and whether that was where there was no room; how many metadata blocks are in use
+/// then, and how many were before.
+fn told_of_room(alloc: Global) -> Result<((bool, Refusal, bool), (u64, u64)), Fail> {
+    let (pool, out) = out_of_room(alloc)?;
     let is_in_range = out.volumes >= 496 && out.volumes <= 507;
     let is_in_time = out.used >= 521 && out.last_used <= 520;
-    assert_eq!(rt;
-        (is_in_range, out.reason, is_in_time, used_by(&pool)),
-        (true, Refusal::NoMetadataSpace, true, out.used)
-    );
+    let told = (is_in_range, out.reason, is_in_time);
+    Ok((told, (used_by(&pool), out.used)))
+}
+
+#[test]
+fn five_hundred_volumes(rt: HostRuntime) -> Result<(), Fail> {
+    let (told, (used, before)) = told_of_room(rt.alloc())?;
+    let wanted = (true, Refusal::NoMetadataSpace, true);
+    assert_eq!(rt; (told, used), (wanted, before));
     Ok(())
 }
 
@@ -112,14 +120,19 @@ fn full_pool(alloc: Global, metadata_blocks: u64) -> Result<MemPool, Fail> {
     Ok(pool)
 }
 
-#[test]
-fn a_short_pool_is_used_again(rt: HostRuntime) -> Result<(), Fail> {
-    let pool = full_pool(rt.alloc(), 1032)?;
-    let Some(disk) = stop_short_pool(rt.alloc(), pool, DevId::new(700), &[])? else {
+/// Whether a pool without room for a volume more wants no check when it is used again behind a stop.
+fn is_used_again(alloc: Global) -> Result<bool, Fail> {
+    let pool = full_pool(alloc, 1032)?;
+    let Some(disk) = stop_short_pool(alloc, pool, DevId::new(700), &[])? else {
         return Err(Fail::from(Refusal::NoMetadataSpace));
     };
-    let again = short_pool_is_used_again(rt.alloc(), disk, DevId::new(3))?;
-    assert_eq!(rt; ends_with(&again, CLEARED), true);
+    let again = short_pool_is_used_again(alloc, disk, DevId::new(3))?;
+    Ok(ends_with(&again, CLEARED))
+}
+
+#[test]
+fn a_short_pool_is_used_again(rt: HostRuntime) -> Result<(), Fail> {
+    assert_eq!(rt; is_used_again(rt.alloc())?, true);
     Ok(())
 }
 
@@ -140,22 +153,29 @@ fn a_trim_wants_less_room_than_zeros(rt: HostRuntime) -> Result<(), Fail> {
     Ok(())
 }
 
-/// A pool with 511 free metadata blocks answers a volume that is to grow, and is read-only then; or its count of free ones is another.
-#[test]
-fn growing_wants_room(rt: HostRuntime) -> Result<(), Fail> {
-    let mut pool = full_pool(rt.alloc(), 1033)?;
+/// How many metadata blocks are free, what a volume that is to grow is answered, what the pool lets its users do then, and whether it wants a check.
+fn told_of_growing(alloc: Global) -> Result<(u64, Result<(), Refusal>, Mode, bool), Fail> {
+    let mut pool = full_pool(alloc, 1033)?;
     let free = 1033u64.saturating_sub(used_by(&pool));
     let answer = grow(&mut pool, DevId::new(0), 64);
     let is_told = ends_with(&pool, WANTS_CHECK);
+    Ok((free, answer, pool.mode(), is_told))
+}
+
+/// A pool with 511 free metadata blocks answers a volume that is to grow, and is read-only then; or its count of free ones is another.
+#[test]
+fn growing_wants_room(rt: HostRuntime) -> Result<(), Fail> {
     assert_eq!(rt;
-        (free, answer, pool.mode(), is_told),
+        told_of_growing(rt.alloc())?,
         (511, Err(Refusal::NoMetadataSpace), Mode::ReadOnly, true)
     );
     Ok(())
 }
 
-/// Whether a pool is read-only and its line ends so, and what it answers to a removal.
-fn told(pool: &mut MemPool, end: &[u8]) -> (Mode, bool, Result<(), Refusal>) {
+/// What a pool lets its users do, whether its line ends as it should, and what it answers to a removal.
+type Told = (Mode, bool, Result<(), Refusal>);
+
+fn told(pool: &mut MemPool, end: &[u8]) -> Told {
     (
         pool.mode(),
         ends_with(pool, end),
@@ -163,44 +183,56 @@ fn told(pool: &mut MemPool, end: &[u8]) -> (Mode, bool, Result<(), Refusal>) {
     )
 }
 
+/// What is told of a pool that wants a check, and of what a stop leaves of it.
+fn told_of_both(alloc: Global, pool: &mut MemPool) -> Result<(Told, Told), Fail> {
+    let before = told(pool, WANTS_CHECK);
+    let mut left = restarted(alloc, pool.disk(), &Stop::Oldest)?;
+    Ok((before, told(&mut left, WANTS_CHECK)))
+}
+
+/// The same of a pool that ran out of metadata room.
+fn told_of_short(alloc: Global) -> Result<(Told, Told), Fail> {
+    let (mut pool, _) = out_of_room(alloc)?;
+    told_of_both(alloc, &mut pool)
+}
+
 #[test]
 fn short_pool_wants_a_check(rt: HostRuntime) -> Result<(), Fail> {
-    let (mut pool, _) = out_of_room(rt.alloc())?;
-    let before = told(&mut pool, WANTS_CHECK);
-    let mut left = restarted(rt.alloc(), pool.disk(), &Stop::Oldest)?;
-    let behind = told(&mut left, WANTS_CHECK);
     let refused = (Mode::ReadOnly, true, Err(Refusal::ReadOnly));
-    assert_eq!(rt; (before, behind), (refused, refused));
+    assert_eq!(rt; told_of_short(rt.alloc())?, (refused, refused));
     Ok(())
 }
 
 /// The disk of a pool that ran out of metadata room, closed and cleared, with how many volumes it has.
 fn cleared(alloc: Global) -> Result<(MemDisk, u32), Fail> {
     let (pool, out) = out_of_room(alloc)?;
-    let (answer, mut disk) = pool.close();
-    answer?;
+    let mut disk = closed(pool)?;
     Pool::<MemDisk, Meta>::clear_needs_check(alloc, &mut disk)?;
     Ok((disk, out.volumes))
+}
+
+/// The pool of a disk, opened to read only.
+fn opened_to_read(alloc: Global, disk: MemDisk) -> Result<MemPool, Refusal> {
+    match Pool::<MemDisk, Meta>::open_read_only(alloc, disk) {
+        Ok(pool) => Ok(pool),
+        Err((refusal, _)) => Err(refusal),
+    }
+}
+
+/// What is told of such a pool and of closing it, and how many calls its disk had before that and behind it.
+fn told_of_only_read(mut pool: MemPool) -> (Told, Result<(), Refusal>, (u64, u64)) {
+    let told = told(&mut pool, READ_ONLY);
+    let calls = pool.disk().calls();
+    let (answer, disk) = close(pool);
+    (told, answer, (calls, disk.calls()))
 }
 
 #[test]
 fn cleared_pool_is_only_read(rt: HostRuntime) -> Result<(), Fail> {
     let (disk, _) = cleared(rt.alloc())?;
-    let mut pool = match Pool::<MemDisk, Meta>::open_read_only(rt.alloc(), disk) {
-        Ok(pool) => pool,
-        Err((refusal, _)) => return Err(Fail::from(refusal)),
-    };
-    let answer = told(&mut pool, READ_ONLY);
-    let calls = pool.disk().calls();
-    let (closed, disk) = pool.close();
-    assert_eq!(rt;
-        (answer, closed, disk.calls()),
-        (
-            (Mode::ReadOnly, true, Err(Refusal::ReadOnly)),
-            Ok(()),
-            calls
-        )
-    );
+    let (told, answer, (calls, behind)) = told_of_only_read(opened_to_read(rt.alloc(), disk)?);
+    let refused = (Mode::ReadOnly, true, Err(Refusal::ReadOnly));
+    assert_eq!(rt; (told, answer, behind), (refused, Ok(()), calls));
     Ok(())
 }
 
@@ -212,29 +244,38 @@ fn remove_each(pool: &mut MemPool, volumes: u32) -> Result<(), Refusal> {
     Ok(())
 }
 
-#[test]
-fn metadata_runs_out(rt: HostRuntime) -> Result<(), Fail> {
-    let (disk, volumes) = cleared(rt.alloc())?;
-    let mut pool = opened(rt.alloc(), disk)?;
+/// Whether a pool is cleared, what the removals of so many volumes are answered, whether it is empty then, what closing it is answered, and whether its image is clean.
+type Emptied = (bool, Result<(), Refusal>, bool, Result<(), Refusal>, bool);
+
+fn told_of_removals(alloc: Global, mut pool: MemPool, volumes: u32) -> Emptied {
     let before = ends_with(&pool, CLEARED);
     let removed = remove_each(&mut pool, volumes);
     let is_empty = ends_with(&pool, EMPTY);
-    let (closed, mut disk) = pool.close();
-    let is_clean = check(rt.alloc(), &mut disk).is_ok();
-    assert_eq!(rt;
-        (before, removed, is_empty, closed, is_clean),
-        (true, Ok(()), true, Ok(()), true)
-    );
+    let (answer, mut disk) = close(pool);
+    let is_clean = check(alloc, &mut disk).is_ok();
+    (before, removed, is_empty, answer, is_clean)
+}
+
+#[test]
+fn metadata_runs_out(rt: HostRuntime) -> Result<(), Fail> {
+    let (disk, volumes) = cleared(rt.alloc())?;
+    let told = told_of_removals(rt.alloc(), opened(rt.alloc(), disk)?, volumes);
+    assert_eq!(rt; told, (true, Ok(()), true, Ok(()), true));
     Ok(())
 }
 
-/// Whether a stop leaves a clean image, of the pool without its flag, or with it where clearing it was not answered Ok.
+/// Whether a pool has lost its flag, or has it where clearing it was not answered Ok.
+fn is_shown(pool: &MemPool, is_cleared: bool) -> bool {
+    if ends_with(pool, CLEARED) {
+        return true;
+    }
+    !is_cleared && ends_with(pool, WANTS_CHECK)
+}
+
+/// Whether a stop leaves a clean image of such a pool.
 fn is_left(alloc: Global, disk: &MemDisk, is_cleared: bool, stop: &Stop) -> Result<bool, Fail> {
     let left = restarted(alloc, disk, stop)?;
-    if ends_with(&left, CLEARED) {
-        return Ok(true);
-    }
-    Ok(!is_cleared && ends_with(&left, WANTS_CHECK))
+    Ok(is_shown(&left, is_cleared))
 }
 
 /// The first of some stops that leaves what it should not.
@@ -258,22 +299,31 @@ fn first_wrong_stop(
     Ok(None)
 }
 
-/// What is wrong where this call fails while the flag is cleared, or none for 0: that it is not told, or what one of some stops leaves.
-fn wrong_at(
+/// A call of the disk at which something is wrong, and the number of a stop, where what that leaves is.
+type Wrong = (u64, Option<usize>);
+
+/// What is wrong on a disk on which this call failed while the flag was cleared, or none for 0: that it was not told, or what one of some stops leaves.
+fn wrong_on(
     alloc: Global,
-    begin: &MemDisk,
+    disk: &MemDisk,
+    is_cleared: bool,
     call: u64,
-) -> Result<Option<(u64, Option<usize>)>, Fail> {
-    let mut disk = begin.stop(alloc, &[])?;
-    disk.fail(call, call);
-    let is_cleared = Pool::<MemDisk, Meta>::clear_needs_check(alloc, &mut disk).is_ok();
+) -> Result<Option<Wrong>, Fail> {
     if is_cleared != (call == 0) {
         return Ok(Some((call, None)));
     }
-    match first_wrong_stop(alloc, &disk, is_cleared)? {
+    match first_wrong_stop(alloc, disk, is_cleared)? {
         Some(number) => Ok(Some((call, Some(number)))),
         None => Ok(None),
     }
+}
+
+/// The same of a copy of this disk.
+fn wrong_at(alloc: Global, begin: &MemDisk, call: u64) -> Result<Option<Wrong>, Fail> {
+    let mut disk = begin.stop(alloc, &[])?;
+    disk.fail(call, call);
+    let is_cleared = Pool::<MemDisk, Meta>::clear_needs_check(alloc, &mut disk).is_ok();
+    wrong_on(alloc, &disk, is_cleared, call)
 }
 
 /// How many calls of the disk clearing the flag makes.
@@ -284,7 +334,7 @@ fn calls_of_clearing(alloc: Global, begin: &MemDisk) -> Result<u64, Fail> {
 }
 
 /// The first call at which something is wrong.
-fn first_wrong(alloc: Global, begin: &MemDisk) -> Result<Option<(u64, Option<usize>)>, Fail> {
+fn first_wrong(alloc: Global, begin: &MemDisk) -> Result<Option<Wrong>, Fail> {
     let calls = calls_of_clearing(alloc, begin)?;
     for call in 0..calls.saturating_add(1) {
         let wrong = wrong_at(alloc, begin, call)?;
@@ -295,11 +345,15 @@ fn first_wrong(alloc: Global, begin: &MemDisk) -> Result<Option<(u64, Option<usi
     Ok(None)
 }
 
+/// The same of a pool that ran out of metadata room.
+fn first_wrong_of_short(alloc: Global) -> Result<Option<Wrong>, Fail> {
+    let (pool, _) = out_of_room(alloc)?;
+    let begin = closed(pool)?;
+    first_wrong(alloc, &begin)
+}
+
 #[test]
 fn a_stop_while_the_flag_is_cleared(rt: HostRuntime) -> Result<(), Fail> {
-    let (pool, _) = out_of_room(rt.alloc())?;
-    let (answer, begin) = pool.close();
-    answer?;
-    assert_eq!(rt; first_wrong(rt.alloc(), &begin)?, None);
+    assert_eq!(rt; first_wrong_of_short(rt.alloc())?, None);
     Ok(())
 }

@@ -1,12 +1,12 @@
 //! Clients of a pool: what they are sent, and the status lines behind it.
 
-use crate::sessions::{GO, closed, put_away, served};
+use crate::sessions::{GO, closed_example, served};
 use crate::texts::{Part, READ, TRIM, WRITE, joined};
 use std::alloc::Global;
 use std::test::Fail;
 use tp_disk::MemDisk;
 use tp_model::{DevId, Refusal};
-use tp_samples::{MemPool, has_line};
+use tp_samples::{MemPool, close, create_snap, delete, has_line, has_volume_line};
 
 /// Where the answers to requests begin, behind the one to GO.
 const GREETED: usize = 86;
@@ -25,6 +25,17 @@ const TWO_OF_FOUR: &[u8] = b"0 10/2048 2/4 - rw no_discard_passdown error_if_no_
 const FULL: &[u8] =
     b"0 10/2048 4/4 - out_of_data_space no_discard_passdown error_if_no_space - 512";
 
+/// Whether a pool and its volume show these lines.
+fn are_shown(pool: &mut MemPool, line: &[u8], volume_line: &[u8]) -> Result<(bool, bool), Refusal> {
+    let is_shown = has_line(pool, line);
+    Ok((is_shown, has_volume_line(pool, DevId::new(0), volume_line)?))
+}
+
+/// The same of a pool that is let go behind that.
+fn were_shown(mut pool: MemPool, line: &[u8], volume_line: &[u8]) -> Result<(bool, bool), Refusal> {
+    are_shown(&mut pool, line, volume_line)
+}
+
 /// Whether a client of the example pool is sent this behind the answer to GO, and whether the pool and its volume show these lines then.
 fn is_served(
     alloc: Global,
@@ -33,13 +44,10 @@ fn is_served(
     line: &[u8],
     volume_line: &[u8],
 ) -> Result<(bool, bool, bool), Fail> {
-    let (sent, pool) = served(alloc, closed(alloc)?, text)?;
-    let mut pool = pool;
+    let (sent, pool) = served(alloc, closed_example(alloc)?, text)?;
+    let (is_shown, is_volume_shown) = were_shown(pool, line, volume_line)?;
     let is_sent = sent.get(GREETED..) == Some(wants);
-    let is_shown = has_line(&pool, line);
-    let mut out = [0; 192];
-    let length = pool.thin_status(DevId::new(0), &mut out)?;
-    Ok((is_sent, is_shown, &out[..length] == volume_line))
+    Ok((is_sent, is_shown, is_volume_shown))
 }
 
 /// What `is_served` tells of a text and of answers that are made of these parts.
@@ -153,24 +161,30 @@ fn told_of_a_write(
     Ok((error_of(&sent), pool))
 }
 
+/// The disk of a pool that is closed, or why what was done before or closing it was refused.
+fn closed_behind(pool: MemPool, done: Result<(), Refusal>) -> Result<MemDisk, Refusal> {
+    let (answer, disk) = close(pool);
+    done?;
+    answer?;
+    Ok(disk)
+}
+
 /// Makes volume 1 a snapshot of volume 0, and closes the pool.
-fn snapshot(pool: MemPool) -> Result<MemDisk, Refusal> {
-    let mut pool = pool;
-    pool.create_snap(DevId::new(1), DevId::new(0))?;
-    put_away(pool)
+fn snapshot(mut pool: MemPool) -> Result<MemDisk, Refusal> {
+    let done = create_snap(&mut pool, DevId::new(1), DevId::new(0));
+    closed_behind(pool, done)
 }
 
 /// Removes volume 1, and closes the pool.
-fn remove(pool: MemPool) -> Result<MemDisk, Refusal> {
-    let mut pool = pool;
-    pool.delete(DevId::new(1))?;
-    put_away(pool)
+fn remove(mut pool: MemPool) -> Result<MemDisk, Refusal> {
+    let done = delete(&mut pool, DevId::new(1));
+    closed_behind(pool, done)
 }
 
 /// What clients are told of a write of all data blocks, of one of a block behind a snapshot, and of that one behind the snapshot's removal; and
 /// whether the pool is full behind the first and the last.
 fn told_of_writes(alloc: Global) -> Result<([Option<u8>; 3], [bool; 2]), Fail> {
-    let (filled, pool) = told_of_a_write(alloc, closed(alloc)?, 4)?;
+    let (filled, pool) = told_of_a_write(alloc, closed_example(alloc)?, 4)?;
     let is_full = has_line(&pool, FULL);
     let (refused, pool) = told_of_a_write(alloc, snapshot(pool)?, 1)?;
     let (written, pool) = told_of_a_write(alloc, remove(pool)?, 1)?;

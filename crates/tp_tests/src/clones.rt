@@ -54,6 +54,26 @@ fn visit_example(alloc: Global, text: &[u8]) -> Result<(Visit, Option<u8>), Refu
     Ok((visit, byte_at(&mut pool, DevId::new(0), 0)?))
 }
 
+/// How many bytes a session over such a pool is sent that hears this, the byte that fills that sector then, and the least id behind its end.
+type Told = (usize, Option<u8>, Option<DevId>);
+
+fn told_of(alloc: Global, text: &[u8]) -> Result<Told, Refusal> {
+    let (visit, byte) = visit_example(alloc, text)?;
+    Ok((visit.sent.len(), byte, visit.left))
+}
+
+/// Whether it is sent the flags of a volume that has one connection.
+fn has_one_connection(alloc: Global, text: &[u8]) -> Result<bool, Refusal> {
+    let (visit, _) = visit_example(alloc, text)?;
+    Ok(visit.sent.get(30..32) == Some(b"\0\x6d".as_slice()))
+}
+
+/// Whether it is sent nothing but that there is no such volume.
+fn is_unknown(alloc: Global, text: &[u8]) -> Result<bool, Refusal> {
+    let (visit, _) = visit_example(alloc, text)?;
+    Ok(visit.sent.as_slice() == UNKNOWN)
+}
+
 /// A client that has a clone of volume 0, writes a sector of bytes 61 to it with FUA, and is gone.
 fn written(alloc: Global) -> Result<Vec<u8>, AllocError> {
     joined(
@@ -66,38 +86,42 @@ fn written(alloc: Global) -> Result<Vec<u8>, AllocError> {
     )
 }
 
+/// What is told of that client.
+fn told_of_written(alloc: Global) -> Result<Told, Refusal> {
+    match written(alloc) {
+        Ok(text) => told_of(alloc, &text),
+        Err(_) => Err(Refusal::Memory),
+    }
+}
+
 #[test]
 fn a_clone_goes_with_its_client(rt: HostRuntime) -> Result<(), Fail> {
-    let text = written(rt.alloc())?;
-    let (visit, byte) = visit_example(rt.alloc(), &text)?;
-    assert_eq!(rt;
-        (visit.sent.len(), byte, visit.left),
-        (86 + 16, Some(0), None)
-    );
+    let told = told_of_written(rt.alloc())?;
+    assert_eq!(rt; told, (86 + 16, Some(0), None));
     Ok(())
 }
 
 #[test]
 fn of_a_clone_no_second_connection_is_told(rt: HostRuntime) -> Result<(), Fail> {
     for text in [GO, INFO] {
-        let (visit, _) = visit_example(rt.alloc(), text)?;
-        assert!(rt; visit.sent.get(30..32) == Some(b"\0\x6d".as_slice()));
+        let is_so = has_one_connection(rt.alloc(), text)?;
+        assert!(rt; is_so);
     }
     Ok(())
 }
 
 #[test]
 fn info_makes_no_clone(rt: HostRuntime) -> Result<(), Fail> {
-    let (visit, _) = visit_example(rt.alloc(), INFO)?;
-    assert_eq!(rt; (visit.sent.len(), visit.left), (86, None));
+    let (len, _, left) = told_of(rt.alloc(), INFO)?;
+    assert_eq!(rt; (len, left), (86, None));
     Ok(())
 }
 
 #[test]
 fn a_clone_has_no_name_and_none_without_its_volume(rt: HostRuntime) -> Result<(), Fail> {
     for text in [GO_BY_NUMBER, GO_OF_NONE] {
-        let (visit, _) = visit_example(rt.alloc(), text)?;
-        assert!(rt; visit.sent.as_slice() == UNKNOWN);
+        let is_so = is_unknown(rt.alloc(), text)?;
+        assert!(rt; is_so);
     }
     Ok(())
 }

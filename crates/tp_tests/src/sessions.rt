@@ -10,7 +10,7 @@ use tp_disk::{Disk, Fault, MemDisk};
 use tp_meta::Meta;
 use tp_model::{Cloned, DevId, Geometry, Mode, Refusal};
 use tp_pool::Pool;
-use tp_samples::{MemPool, SECTOR, byte_at, example_failing};
+use tp_samples::{MemPool, SECTOR, byte_at, closed, example_failing};
 
 /// The client flags, and options that tell of the volume 0 or ABORT.
 const ABORT: &[u8] = b"\0\0\0\x03IHAVEOPT\0\0\0\x02\0\0\0\0";
@@ -80,16 +80,9 @@ fn told_of_failed(alloc: Global, text: &[u8]) -> Result<(Vec<u8>, Mode), Refusal
     told_flushed(alloc, &mut pool, text)
 }
 
-/// The disk of a pool that is closed.
-pub(crate) fn put_away(pool: MemPool) -> Result<MemDisk, Refusal> {
-    let (answer, disk) = pool.close();
-    answer?;
-    Ok(disk)
-}
-
 /// The disk of a pool that was closed, with no calls counted.
-pub(crate) fn closed(alloc: Global) -> Result<MemDisk, Refusal> {
-    let disk = put_away(example_failing(alloc, 0, 0)?)?;
+pub(crate) fn closed_example(alloc: Global) -> Result<MemDisk, Refusal> {
+    let disk = closed(example_failing(alloc, 0, 0)?)?;
     match disk.stop(alloc, &[]) {
         Ok(disk) => Ok(disk),
         Err(_) => Err(Refusal::Memory),
@@ -120,7 +113,7 @@ fn told_of_opened(alloc: Global, disk: MemDisk, text: &[u8]) -> Result<(Vec<u8>,
 
 /// What is sent in a pool whose disk fails from its opening on, and its mode.
 fn told_over_a_failing_disk(alloc: Global, text: &[u8]) -> Result<(Vec<u8>, Mode), Refusal> {
-    let mut disk = closed(alloc)?;
+    let mut disk = closed_example(alloc)?;
     disk.fail(OPENING + 1, u64::MAX);
     told_of_opened(alloc, disk, text)
 }
@@ -134,11 +127,11 @@ fn length_served(alloc: Global, disk: MemDisk, text: &[u8]) -> Result<(usize, Me
 /// The number of bytes that a session is sent in a pool in which one call of the disk fails, counted from the opening on, and that a new
 /// session is sent behind it, where the pool is closed and opened in between.
 fn lengths_over_a_fault(alloc: Global, call: u64, text: &[u8]) -> Result<(usize, usize), Refusal> {
-    let mut disk = closed(alloc)?;
+    let mut disk = closed_example(alloc)?;
     let fails = OPENING.saturating_add(call);
     disk.fail(fails, fails);
     let (first, pool) = length_served(alloc, disk, text)?;
-    let (second, _) = length_served(alloc, put_away(pool)?, text)?;
+    let (second, _) = length_served(alloc, closed(pool)?, text)?;
     Ok((first, second))
 }
 
@@ -190,7 +183,7 @@ fn want_a_check(disk: &mut MemDisk) -> Result<(), Fault> {
 
 /// What is sent in a pool that wants a check, and its mode.
 fn told_to_be_checked(alloc: Global, text: &[u8]) -> Result<(Vec<u8>, Mode), Refusal> {
-    let mut disk = closed(alloc)?;
+    let mut disk = closed_example(alloc)?;
     match want_a_check(&mut disk) {
         Ok(()) => told_of_opened(alloc, disk, text),
         Err(Fault) => Err(Refusal::Fault),
@@ -205,7 +198,7 @@ fn told_wanting(
     alloc: Global,
     text: &[u8],
 ) -> Result<(Vec<u8>, Result<(), Refusal>, bool), Refusal> {
-    let mut disk = closed(alloc)?;
+    let mut disk = closed_example(alloc)?;
     if want_a_check(&mut disk).is_err() {
         return Err(Refusal::Fault);
     }
@@ -217,47 +210,81 @@ fn told_wanting(
     Ok((sent, made, &out[..length] == WANTS_CHECK))
 }
 
-/// The answers to GO, WRITE, READ and FLUSH have 86, 16, 528 and 16 bytes.
-#[test]
-fn needs_check_pool(rt: HostRuntime) -> Result<(), Fail> {
-    let text = first_text(rt.alloc())?;
-    let (sent, made, has_line) = told_wanting(rt.alloc(), &text)?;
+/// The flags that such a pool sends, whether a WRITE is refused and a FLUSH is not, what it answers to a new volume, and whether its status line says so. The answers to GO,
+/// WRITE, READ and FLUSH have 86, 16, 528 and 16 bytes.
+type Wanting = (Option<u8>, bool, bool, Result<(), Refusal>, bool);
+
+fn shown_wanting(alloc: Global, text: &[u8]) -> Result<Wanting, Refusal> {
+    let (sent, made, has_line) = told_wanting(alloc, text)?;
     let flags = sent.get(FLAGS.1).copied();
     let is_refused = sent.get(86..102)
         == Some(b"\x67\x44\x66\x98\0\0\0\x01\0\0\0\0\0\0\0\x01".as_slice());
     let is_flushed = sent.get(630..)
         == Some(b"\x67\x44\x66\x98\0\0\0\0\0\0\0\0\0\0\0\x03".as_slice());
-    assert_eq!(rt;
-        (flags, is_refused, is_flushed, made, has_line),
-        (Some(0x6f), true, true, Err(Refusal::ReadOnly), true)
-    );
+    Ok((flags, is_refused, is_flushed, made, has_line))
+}
+
+/// The same of the first client's text.
+fn shown_of_first_text(alloc: Global) -> Result<Wanting, Refusal> {
+    match first_text(alloc) {
+        Ok(text) => shown_wanting(alloc, &text),
+        Err(_) => Err(Refusal::Memory),
+    }
+}
+
+#[test]
+fn needs_check_pool(rt: HostRuntime) -> Result<(), Fail> {
+    let shown = shown_of_first_text(rt.alloc())?;
+    let wanted = (Some(0x6f), true, true, Err(Refusal::ReadOnly), true);
+    assert_eq!(rt; shown, wanted);
     Ok(())
+}
+
+/// What is sent in a pool, and its mode.
+type Sent = Result<(Vec<u8>, Mode), Refusal>;
+
+/// How many bytes that are, and the mode.
+fn length_of(told: Sent) -> Result<(usize, Mode), Refusal> {
+    let (sent, mode) = told?;
+    Ok((sent.len(), mode))
+}
+
+/// The byte of it at a place, and the mode.
+fn byte_of(told: Sent, at: usize) -> Result<(Option<u8>, Mode), Refusal> {
+    let (sent, mode) = told?;
+    Ok((sent.get(at).copied(), mode))
+}
+
+/// Whether it is this, and the mode.
+fn is_sent(told: Sent, wanted: &[u8]) -> Result<(bool, Mode), Refusal> {
+    let (sent, mode) = told?;
+    Ok((sent.as_slice() == wanted, mode))
 }
 
 #[test]
 fn options_in_a_failed_pool(rt: HostRuntime) -> Result<(), Fail> {
     for text in [EXPORT_NAME, INFO, GO, NO_NAME, LIST, LIST_DATA] {
-        let (sent, mode) = told_of_failed(rt.alloc(), text)?;
-        assert_eq!(rt; (sent.len(), mode), (0, Mode::Failed));
+        let told = length_of(told_of_failed(rt.alloc(), text));
+        assert_eq!(rt; told, Ok((0, Mode::Failed)));
     }
     Ok(())
 }
 
+/// What ABORT is answered.
+const ACKNOWLEDGED: &[u8] = b"\0\x03\xe8\x89\x04\x55\x65\xa9\0\0\0\x02\0\0\0\x01\0\0\0\0";
+
 #[test]
 fn abort_is_acknowledged_in_a_failed_pool(rt: HostRuntime) -> Result<(), Fail> {
-    let (sent, mode) = told_of_failed(rt.alloc(), ABORT)?;
-    assert_eq!(rt; mode, Mode::Failed);
-    assert!(rt;
-        sent.as_slice() == b"\0\x03\xe8\x89\x04\x55\x65\xa9\0\0\0\x02\0\0\0\x01\0\0\0\0".as_slice()
-    );
+    let told = is_sent(told_of_failed(rt.alloc(), ABORT), ACKNOWLEDGED);
+    assert_eq!(rt; told, Ok((true, Mode::Failed)));
     Ok(())
 }
 
 #[test]
 fn a_fault_in_an_option_ends_the_session_alone(rt: HostRuntime) -> Result<(), Fail> {
     for text in [EXPORT_NAME, INFO, GO, LIST] {
-        let (sent, mode) = told_over_a_failing_disk(rt.alloc(), text)?;
-        assert_eq!(rt; (sent.len(), mode), (0, Mode::Writable));
+        let told = length_of(told_over_a_failing_disk(rt.alloc(), text));
+        assert_eq!(rt; told, Ok((0, Mode::Writable)));
     }
     Ok(())
 }
@@ -265,8 +292,8 @@ fn a_fault_in_an_option_ends_the_session_alone(rt: HostRuntime) -> Result<(), Fa
 #[test]
 fn a_read_only_pool_is_told_so(rt: HostRuntime) -> Result<(), Fail> {
     for (text, at) in [(EXPORT_NAME, FLAGS.0), (INFO, FLAGS.1), (GO, FLAGS.1)] {
-        let (sent, mode) = told_to_be_checked(rt.alloc(), text)?;
-        assert_eq!(rt; (sent.get(at).copied(), mode), (Some(0x6f), Mode::ReadOnly));
+        let told = byte_of(told_to_be_checked(rt.alloc(), text), at);
+        assert_eq!(rt; told, Ok((Some(0x6f), Mode::ReadOnly)));
     }
     Ok(())
 }
@@ -297,23 +324,34 @@ fn told_of_beginning(
     Ok((all.starts_with(sent.as_slice()), byte))
 }
 
-/// Where the first beginning of a client's text ends behind which something else is told than should be.
-fn first_wrong_end(alloc: Global, text: &[u8]) -> Result<Option<usize>, Refusal> {
-    let (all, _) = begun(alloc, text)?;
+/// Where the first beginning of a client's text ends behind which something else is told than should be, where these bytes are sent to who sends all of it.
+fn first_wrong_of(alloc: Global, text: &[u8], all: &[u8]) -> Result<Option<usize>, Refusal> {
     for end in 0..text.len() {
         let wants = if end < WRITTEN { 0 } else { 0x61 };
-        if told_of_beginning(alloc, &text[..end], &all)? != (true, Some(wants)) {
+        if told_of_beginning(alloc, &text[..end], all)? != (true, Some(wants)) {
             return Ok(Some(end));
         }
     }
     Ok(None)
 }
 
+/// The same of what is sent to one who does.
+fn first_wrong_end(alloc: Global, text: &[u8]) -> Result<Option<usize>, Refusal> {
+    let (all, _) = begun(alloc, text)?;
+    first_wrong_of(alloc, text, &all)
+}
+
+/// The same of the first client's text.
+fn first_wrong_end_of_first(alloc: Global) -> Result<Option<usize>, Refusal> {
+    match first_text(alloc) {
+        Ok(text) => first_wrong_end(alloc, &text),
+        Err(_) => Err(Refusal::Memory),
+    }
+}
+
 #[test]
 fn every_beginning_of_a_session(rt: HostRuntime) -> Result<(), Fail> {
-    let text = first_text(rt.alloc())?;
-    let wrong = first_wrong_end(rt.alloc(), &text);
-    assert_eq!(rt; wrong, Ok(None));
+    assert_eq!(rt; first_wrong_end_of_first(rt.alloc()), Ok(None));
     Ok(())
 }
 

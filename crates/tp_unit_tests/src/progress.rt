@@ -58,8 +58,8 @@ fn read_and_write<D: Disk>(disk: &mut D) -> Result<(), Fault> {
     Ok(())
 }
 
-/// What is written while a second goes by with each call of a disk: how many lines, and how many bytes.
-fn told(alloc: Global, is_read: bool) -> Result<(u64, u64), Fail> {
+/// What reading and writing a disk answers, and what is written while a second goes by with each call of it: how many lines, and how many bytes.
+fn told_of(disk: MemDisk, is_read: bool) -> (Result<(), Fault>, (u64, u64)) {
     let clock = Seconds {
         asked: AtomicU64::new(0),
     };
@@ -69,9 +69,17 @@ fn told(alloc: Global, is_read: bool) -> Result<(u64, u64), Fail> {
         bytes: &bytes,
     };
     let teller = Teller::new(&clock, counter, is_read);
-    let mut disk = Followed::new(MemDisk::new(alloc, 8)?, teller);
-    read_and_write(&mut disk)?;
-    Ok((lines.load(Ordering::Relaxed), bytes.load(Ordering::Relaxed)))
+    let mut disk = Followed::new(disk, teller);
+    let done = read_and_write(&mut disk);
+    let told = (lines.load(Ordering::Relaxed), bytes.load(Ordering::Relaxed));
+    (done, told)
+}
+
+/// What is written so, of a disk in memory.
+fn told(alloc: Global, is_read: bool) -> Result<(u64, u64), Fail> {
+    let (done, told) = told_of(MemDisk::new(alloc, 8)?, is_read);
+    done?;
+    Ok(told)
 }
 
 // In seconds 1 to 8, 10, 12, 15 and 18.
