@@ -1,9 +1,9 @@
 -- Marks and bytes, one after another.
-use Rattle.std.proofs.Common.{◌≡◌, ℕ, ◌+◌, ◌≤◌, Bool, true, false, List, [], ◌∷◌, ◌++◌, length, take, drop, refl, sym, ap, suc, zero, ◌∙◌, arith, length-drop, inl, inr, ◌<◌}
+use Rattle.std.proofs.Common.{◌≡◌, ℕ, ◌+◌, ◌≤◌, Bool, true, false, List, [], ◌∷◌, ◌++◌, length, take, drop, refl, sym, ap, subst, suc, zero, ◌∙◌, arith, length-drop, inl, inr, ◌<◌}
 use Rattle.std.specs.Prelude.{◌==◌, Err, Ok, OnErr, OnOk, Result}
 use Rattle.std.specs.Result.{is_err}
 use Rattle.std.proofs.lemmas.Bool.{eqb-true}
-use Rattle.std.proofs.lemmas.List.{append-nil, take_all, take-append-drop, take-append-le, drop-append-le, length-take}
+use Rattle.std.proofs.lemmas.List.{append-nil, take_all, take_at, take-append-drop, take-append-le, drop-append-le, length-take}
 use Rattle.std.proofs.lemmas.Result.{on_err_weaker, on_ok_weaker}
 use Rattle.nbd_session.specs.declared.answer.TheConstants.{MAX_ANSWER}
 use Rattle.tp_hub.specs.declared.answers.TheConstants.{MOST_BYTES}
@@ -106,6 +106,45 @@ has_bytes now marks used bytes cap n view fits_in fits =
 
 pub still_fits : (marks more after : List Mark) (used used' : ℕ) (bytes bytes' : List ℕ) → Fits marks used bytes → after ≡ marks ++ more → used + total more ≡ used' → used' ≤ length bytes' → length bytes' ≤ MOST_BYTES → Fits after used' bytes'
 still_fits marks more after used used' bytes bytes' fits after_is sum le most = let t = total-append marks more in let e = ap total after_is in (omega (arith, t, e, sum, fits.0), le, most)
+
+-- what a buffer shows, by its used bytes and its length
+abbrev shown_as : List Mark → List ℕ → ℕ → ℕ → Told
+shown_as marks front len cap = record { list = told marks front; room = len; marks = cap }
+
+-- where its used bytes and its length are what they were, it shows the same
+pub still_shown : (now : Told) (marks : List Mark) (used : ℕ) (bytes bytes' : List ℕ) (cap : ℕ) → view_of marks used bytes cap ≡ now → take used bytes' ≡ take used bytes → length bytes' ≡ length bytes → view_of marks used bytes' cap ≡ now
+still_shown now marks used bytes bytes' cap view kept len =
+    ap (λ (l : List ℕ). shown_as marks l (length bytes') cap) kept ∙ (ap (λ (n : ℕ). shown_as marks (take used bytes) n cap) len ∙ view)
+
+pub still_inside : (marks : List Mark) (used : ℕ) (bytes bytes' : List ℕ) → Fits marks used bytes → length bytes' ≡ length bytes → Fits marks used bytes'
+still_inside marks used bytes bytes' fits len = (fits.0, omega (arith, len, fits.1), omega (arith, len, fits.2))
+
+-- A vector of n items was lent whole as a slice: what it has behind that loan.
+abbrev pub given_back : ℕ → List ℕ → List ℕ → List ℕ
+given_back n new old = take n (new ++ drop (length new) old)
+
+module _ (n : ℕ) (old lent new : List ℕ) (lent_is : lent ≡ old) (n_is : n ≡ length old) (len : length new ≡ length lent) where
+  same_length : length new ≡ length old
+  same_length = len ∙ ap (λ (l : List ℕ). length l) lent_is
+
+  back_is : given_back n new old ≡ new
+  back_is = take_at new (drop (length new) old) n (same_length ∙ sym n_is)
+
+  pub back_length : length (given_back n new old) ≡ length old
+  back_length = ap (λ (l : List ℕ). length l) back_is ∙ same_length
+
+  -- what was put behind the slice's front stands in the vector
+  pub back_put : (at k : ℕ) (more : List ℕ) → take k new ≡ take at lent ++ more → take k (given_back n new old) ≡ take at old ++ more
+  back_put at k more put = ap (λ (l : List ℕ). take k l) back_is ∙ (put ∙ ap (λ (l : List ℕ). take at l ++ more) lent_is)
+
+  pub back_kept : (k : ℕ) → take k new ≡ take k lent → take k (given_back n new old) ≡ take k old
+  back_kept k kept = ap (λ (l : List ℕ). take k l) back_is ∙ (kept ∙ ap (λ (l : List ℕ). take k l) lent_is)
+
+  pub back_fits : (k : ℕ) → k ≤ length new → k ≤ length (given_back n new old)
+  back_fits k fits = subst (λ (l : List ℕ). k ≤ length l) (sym back_is) fits
+
+  pub back_most : (m : ℕ) → length old ≤ m → length (given_back n new old) ≤ m
+  back_most m most = subst (λ (k : ℕ). k ≤ m) (sym back_length) most
 
 pub shown_marks : (now : Told) (marks : List Mark) (used : ℕ) (bytes : List ℕ) (cap : ℕ) → view_of marks used bytes cap ≡ now → length marks ≡ length now.list
 shown_marks now marks used bytes cap view = sym (told_length marks (take used bytes)) ∙ ap (λ (t : Told). length t.list) view

@@ -123,7 +123,8 @@ impl Answers {
         ensures { (sent : List ℕ) × Advances V.view session.old pool.old piece.now result.taken sent result.ended session.new pool.new
             × Grows self.old self.new (said number sent ++ closed_if number result.ended) }
     {
-        let step = step_in(session, pool, piece, &mut self.bytes, self.used);
+        let at = self.used;
+        let step = step_at(session, pool, piece, &mut self.bytes, at);
         self.used += step.sent;
         tell_sent(&mut self.marks, number, step.sent);
         tell_end(&mut self.marks, number, step.ended);
@@ -145,7 +146,8 @@ impl Answers {
             × Grows self.old self.new (said number sent ++ closed_if number false)) }
         ensures none { result ≡ None → self.new ≡ self.old }
     {
-        let Some(read) = read_in(session, pool, piece, &mut self.bytes, self.used) else {
+        let at = self.used;
+        let Some(read) = read_at(session, pool, piece, &mut self.bytes, at) else {
             return None;
         };
         self.used += read.sent;
@@ -243,24 +245,6 @@ fn step_at<V: Cloned>(
     session.step_into(pool, piece, &mut bytes[at..])
 }
 
-/// Takes a step as `step_at` does, over a vector.
-fn step_in<V: Cloned>(
-    session: &mut Session,
-    pool: &mut V,
-    piece: &[u8],
-    bytes: &mut Vec<u8>,
-    at: usize,
-) -> Answered
-    requires ready { IsReady session.old.phase (V.view.outline pool.old) (V.view.more pool.old) }
-    requires room { at + MAX_ANSWER ≤ length bytes.old.items }
-    ensures steps { (sent : List ℕ) × (length sent ≡ result.sent) × (take (at + result.sent) bytes.new.items ≡ take at bytes.old.items ++ sent)
-        × Advances V.view session.old pool.old piece.now result.taken sent result.ended session.new pool.new }
-    ensures fits { at + result.sent ≤ length bytes.new.items }
-    ensures len { length bytes.new.items ≡ length bytes.old.items }
-{
-    step_at(session, pool, piece, bytes, at)
-}
-
 /// Answers a READ by a shared read, or a BLOCK_STATUS by a shared walk, whose answer is put at a place.
 fn read_at<V: Volumes, S: SharedReads<V>>(
     session: &Session,
@@ -278,25 +262,6 @@ fn read_at<V: Volumes, S: SharedReads<V>>(
     ensures len { length bytes.new ≡ length bytes.old }
 {
     session.read_shared(pool, piece, &mut bytes[at..])
-}
-
-/// Answers as `read_at` does, over a vector.
-fn read_in<V: Volumes, S: SharedReads<V>>(
-    session: &Session,
-    pool: &S,
-    piece: &[u8],
-    bytes: &mut Vec<u8>,
-    at: usize,
-) -> Option<Answered>
-    requires ready { IsReady session.now.phase (V.view.outline (S.of pool.now)) (V.view.more (S.of pool.now)) }
-    requires room { at + MAX_ANSWER ≤ length bytes.old.items }
-    ensures reads { IfSome result (λ a. (sent : List ℕ) × (length sent ≡ a.sent) × (take (at + a.sent) bytes.new.items ≡ take at bytes.old.items ++ sent)
-        × IsRead V.view session.now (S.of pool.now) piece.now a.taken sent) }
-    ensures fits { IfSome result (λ a. at + a.sent ≤ length bytes.new.items) }
-    ensures kept { take at bytes.new.items ≡ take at bytes.old.items }
-    ensures len { length bytes.new.items ≡ length bytes.old.items }
-{
-    read_at(session, pool, piece, bytes, at)
 }
 
 /// Says that so many bytes are sent, if there are any.

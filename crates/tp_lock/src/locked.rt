@@ -1,6 +1,6 @@
 //! A hub that many clients ask.
 
-ghost use Rattle.std.specs.Prelude.{◌≡◌, ◌<◌, ◌∷◌, [], IfSome, List, None, Ok, false, length, ℕ};
+ghost use Rattle.std.specs.Prelude.{◌≡◌, ◌<◌, ◌∷◌, [], IfSome, List, None, Ok, false, length, true, ℕ};
 ghost use Rattle.tp_model.specs.Calls.{is_failed};
 ghost use Rattle.tp_msg.specs.Messages.{reading};
 ghost use Rattle.nbd_session.specs.Session.{keeps_apart};
@@ -17,7 +17,7 @@ ghost use Rattle.tp_lock.specs.Locked.{AsksInParts, IsFrom, MakesParts, SomeRun,
 ghost use Rattle.tp_lock.specs.declared.midway.Stage.TheVariants.{Whole};
 ghost use Rattle.tp_lock.specs.Ordered.{IsMessageTold};
 ghost use Rattle.tp_lock.specs.Pieces.{has_flush, hearer_in, purpose_if, purpose_of_kind};
-ghost use Rattle.tp_lock.specs.Stages.{IsEnded, slots_of};
+ghost use Rattle.tp_lock.specs.Stages.{is_whole, slots_of};
 
 use crate::midway::{Guarded, Stage};
 use crate::order::{HubUse, Order};
@@ -312,7 +312,7 @@ fn cause_of<V: Staged, A: Alarm<V>, K: Start<V>>(
     hub: &Guarded<V, K>,
 ) -> Option<A::Cause> {
     match &hub.stage {
-        Stage::Whole(since) => lock.cause(since, since.mode() == Mode::Failed),
+        Stage::Whole(since) => lock.cause(since, has_failed(since)),
         Stage::Midway(_) | Stage::Ordered(_) | Stage::Away => None,
     }
 }
@@ -354,6 +354,13 @@ struct Seen {
     is_at_work: bool,
     /// Nothing but a FLUSH is left of it.
     is_to_flush: bool,
+}
+
+/// Whether the pool of a hub has failed.
+fn has_failed<V: Volumes, K: Start<V>>(hub: &Since<V, K>) -> bool
+    ensures { result ≡ is_failed (V.view.outline hub.now.pool).mode }
+{
+    hub.mode() == Mode::Failed
 }
 
 /// Whether a session has parts of a request left behind an event that brings bytes.
@@ -399,52 +406,42 @@ fn hearer_of(event: &Event<'_>) -> Option<u8>
     }
 }
 
-/// Asks a hub once, and tells what is so behind it.
-fn ask_and_look<V: Managed, K: Start<V>>(
-    alloc: Global,
-    hub: &mut Since<V, K>,
-    event: Event<'_>,
-    out: &mut Answers,
-) -> Seen
-    requires { session_of event < 64 }
-    ensures asked { IsAsked (λ took answers. HubRuns V.view hub.old took answers hub.new) (incoming event.entry) result.ran.events result.ran.bytes out.old out.new }
-    ensures failed { result.is_failed ≡ is_failed (V.view.outline hub.new.pool).mode }
-    ensures work { result.is_at_work ≡ has_left (sessions_of hub.new.slots) (hearer_in (incoming event.entry)) }
-    ensures flush { result.is_to_flush ≡ has_flush (sessions_of hub.new.slots) (hearer_in (incoming event.entry)) }
-    ensures made { (n : ℕ) → is_parted_to n event.entry ≡ false → incoming event.entry ≡ Brings n [] → 0 < result.ran.events → result.is_at_work ≡ false }
-{
-    let hearer = hearer_of(&event);
-    let ran = hub.ask(alloc, event, out);
-    Seen {
-        ran,
-        is_failed: hub.mode() == Mode::Failed,
-        is_at_work: has_work(hub, hearer),
-        is_to_flush: has_flush(hub, hearer),
-    }
-}
-
-/// Ends the flush or the message that is under way, if any, and then asks the hub once. It also gives the cause for the alarm, where the pool has failed and the
-/// alarm has not sounded yet.
-fn ask_behind<V: Managed + Staged, A: Alarm<V>, K: Start<V>>(
+/// Asks a hub once that makes no flush and no message, and tells what is so behind it, and the cause for the alarm, where the pool has failed and the alarm has
+/// not sounded yet.
+fn ask_and_look<V: Managed + Staged, A: Alarm<V>, K: Start<V>>(
     alloc: Global,
     lock: &HubLock<'_, V, A, K>,
     hub: &mut Guarded<V, K>,
     event: Event<'_>,
     out: &mut Answers,
 ) -> (Seen, Option<A::Cause>)
-    requires { session_of event < 64 }
+    requires session { session_of event < 64 }
+    requires whole { is_whole hub.old.stage ≡ true }
     ensures asked { IsAsked (λ took answers. SomeRun V.view took answers) (incoming event.entry) result.0.ran.events result.0.ran.bytes out.old out.new }
-    ensures did { (old : HubState V) × (new : HubState V) × IsEnded V.view hub.old.stage (Whole old) × (hub.new.stage ≡ Whole new)
-        × IsAsked (λ took answers. HubRuns V.view old took answers new) (incoming event.entry) result.0.ran.events result.0.ran.bytes out.old out.new }
+    ensures did { (old : HubState V) × (new : HubState V) × (hub.old.stage ≡ Whole old) × (hub.new.stage ≡ Whole new)
+        × IsAsked (λ took answers. HubRuns V.view old took answers new) (incoming event.entry) result.0.ran.events result.0.ran.bytes out.old out.new
+        × (result.0.is_failed ≡ is_failed (V.view.outline new.pool).mode)
+        × (result.0.is_at_work ≡ has_left (sessions_of new.slots) (hearer_in (incoming event.entry)))
+        × (result.0.is_to_flush ≡ has_flush (sessions_of new.slots) (hearer_in (incoming event.entry))) }
     ensures told { IsAsked (λ took answers. SomeRunTo V.view (hearer_in (incoming event.entry)) result.0.is_at_work took answers) (incoming event.entry) result.0.ran.events result.0.ran.bytes
         out.old out.new }
     ensures made { (n : ℕ) → is_parted_to n event.entry ≡ false → incoming event.entry ≡ Brings n [] → 0 < result.0.ran.events → result.0.is_at_work ≡ false }
 {
-    hub.end_flush();
+    let hearer = hearer_of(&event);
     match &mut hub.stage {
         Stage::Whole(since) => {
-            let seen = ask_and_look(alloc, since, event, out);
-            (seen, lock.cause(since, seen.is_failed))
+            let ran = since.ask(alloc, event, out);
+            let is_failed = has_failed(since);
+            let is_at_work = has_work(since, hearer);
+            let is_to_flush = has_flush(since, hearer);
+            let cause = lock.cause(since, is_failed);
+            let seen = Seen {
+                ran,
+                is_failed,
+                is_at_work,
+                is_to_flush,
+            };
+            (seen, cause)
         }
         Stage::Midway(_) | Stage::Ordered(_) | Stage::Away => unreachable!(),
     }
@@ -487,7 +484,8 @@ fn purpose_of_piece<R: Wait, V: Staged, A: Alarm<V>, K: Start<V>>(
     }
 }
 
-/// Asks a hub behind a lock alone, for this. What was written before is kept already where that is to keep it. The alarm sounds when the lock is let go.
+/// Asks a hub behind a lock alone, for this. What was written before is kept already where that is to keep it, and what is left of a flush or of a message is made
+/// first. The alarm sounds when the lock is let go.
 fn ask_for<R: Wait, V: Managed + Staged, A: Alarm<V>, K: Start<V>>(
     rt: &R,
     alloc: Global,
@@ -504,7 +502,8 @@ fn ask_for<R: Wait, V: Managed + Staged, A: Alarm<V>, K: Start<V>>(
     let turn = hub.order.turn(rt, purpose);
     let device = hub.order.begin(rt, purpose, &turn);
     let mut guard = hub.alone_for(rt, device.is_some(), &turn);
-    let (seen, cause) = ask_behind(alloc, hub, &mut guard, event, out);
+    guard.end_flush();
+    let (seen, cause) = ask_and_look(alloc, hub, &mut guard, event, out);
     drop(guard);
     hub.order.end(purpose, &turn);
     drop(turn);
@@ -705,32 +704,6 @@ fn ask_once<R: Wait, V: Managed + Staged, A: Alarm<V>, K: Start<V>>(
     ask_parts(rt, alloc, hub, number, kind, piece, out)
 }
 
-/// Asks the first requests of a piece, and tells how many bytes these were where it has more.
-fn ask_turn<R: Wait, V: Managed + Staged, A: Alarm<V>, K: Start<V>>(
-    rt: &R,
-    alloc: Global,
-    hub: &HubLock<'_, V, A, K>,
-    number: u8,
-    piece: &[u8],
-    out: &mut Answers,
-) -> Ran
-    requires { number < 64 }
-    ensures { IsAsked (λ took answers. SomeRuns V.view took answers) (Brings number piece.now) result.events result.bytes out.old out.new }
-{
-    let count = turn_len(piece);
-    if count >= piece.len() {
-        return ask_once(rt, alloc, hub, number, piece, out);
-    }
-    let ran = ask_once(rt, alloc, hub, number, &piece[..count], out);
-    if ran.events == 0 {
-        return ran;
-    }
-    Ran {
-        events: 0,
-        bytes: count,
-    }
-}
-
 impl<'m, R, V, A, K> Desk for LockedDesk<'m, R, V, A, K>
 where
     R: Wait,
@@ -745,7 +718,19 @@ where
     fn ask(&mut self, event: Event<'_>, out: &mut Answers) -> Ran {
         match event {
             Event::Bytes(number, piece) => {
-                ask_turn(self.rt, self.alloc, self.hub, number, piece, out)
+                let count = turn_len(piece);
+                if count >= piece.len() {
+                    return ask_once(self.rt, self.alloc, self.hub, number, piece, out);
+                }
+                let ran = ask_once(self.rt, self.alloc, self.hub, number, &piece[..count], out);
+                if ran.events == 0 {
+                    return ran;
+                }
+                // Its first requests were taken whole, and it goes on behind them.
+                Ran {
+                    events: 0,
+                    bytes: count,
+                }
             }
             Event::Message(line) => ask_line(self.rt, self.alloc, self.hub, line, out),
             other => ask_alone(self.rt, self.alloc, self.hub, other, out).ran,

@@ -333,7 +333,7 @@ pub MayReopen-more : (S T P : PlainPool) (given : ℕ → ℕ → Sector → Typ
 MayReopen-more S T P given a b = MayReopen-weaken S P _ _ (λ id k x g. elim g [ inl h ↦ h | inr h ↦ h ]) (MayReopen-trans S T P given given a b)
 
 -- what is left of fewer is left of more
-During-map : (Older More : PlainPool → Type 0) (e : Event) (P : PlainPool) → ((S : PlainPool) → Older S → More S) → During Older e P → During More e P
+pub During-map : (Older More : PlainPool → Type 0) (e : Event) (P : PlainPool) → ((S : PlainPool) → Older S → More S) → During Older e P → During More e P
 During-map Older More e P f (inl (S, inl o, r)) = inl (S, inl (f S o), r)
 During-map Older More e P f (inl (S, inr s, r)) = inl (S, inr s, r)
 During-map Older More e P f (inr m) = inr m

@@ -35,19 +35,31 @@ pub met_geometry : {D : Type 0} {A : Type 0} (v : View D) (old new : D) (call : 
 met_geometry v old new call meant (Ok x) m = m.geometry
 met_geometry v old new call meant (Err reason) m = m.geometry
 
+-- The moment that a call was given is that of the cache which is taken out of its place for it.
+pub start_taken : {M : Type 0} (o : Option (Cached M)) (there : IsSome o) (i : Cached M) (start : tables.Held) → o ≡ Some i → start ≡ (got o there).cache → start ≡ i.cache
+start_taken {M} o there i start is begun = begun ∙ ap (λ (c : Cached M). c.cache) (sym (got_is o there i is))
+
+module _ {M : Type 0} (geometry : M → Geometry) where
+  -- What is known of the parts that are taken out of their place, and of the pool on them, is known of what stood there.
+  pub taken : (o : Option (Cached M)) (there : IsSome o) (i : Cached M) (p : Held M) → o ≡ Some i → IsKnown geometry i → p ≡ on_cache i → (IsKnown geometry (got o there)) × (p ≡ on_cache (got o there))
+  taken o there i p is known before =
+      let same : i ≡ got o there = got_is o there i is in
+      (subst (λ (c : Cached M). IsKnown geometry c) same known, before ∙ ap (λ (c : Cached M). on_cache c) same)
+
+  -- The cache was made for as many metadata blocks as a pool of the same sizes has.
+  pub blocks_same : (o : Option (Cached M)) (there : IsSome o) (i : Cached M) (p q : Held M) (start : tables.Held) → o ≡ Some i → IsKnown geometry i → start ≡ (got o there).cache → p ≡ on_cache i
+      → geometry q.metadata ≡ geometry p.metadata → length start.index ≤ (geometry q.metadata).metadata_blocks
+  blocks_same o there i p q start is known begun before same =
+      subst (λ (g : Geometry). length start.index ≤ g.metadata_blocks) (sym (same ∙ ap (λ (h : Held M). geometry h.metadata) before))
+      (subst (λ (c : tables.Held). length c.index ≤ (geometry i.besides.metadata).metadata_blocks) (sym (start_taken o there i start is begun)) known.blocks)
+
 module _ {M : Type 0} (geometry : M → Geometry) (stands : M → DiskState → Contents → Contents → Type 0) (marks : M → List Bool) (room : M → ℕ) (changed : M → Bool)
     (left : LeftLaw geometry stands marks room changed) where
   -- the number of metadata blocks of the pool that the cache was made for
-  pub blocks_stay : {A : Type 0} (old : Cached M) (p q : Held M) (start : tables.Held) (call : Call) (meant : A → Answer) (r : Result A Refusal) → IsKnown geometry old → start ≡ old.cache → p ≡ on_cache old
-      → MetBy (served geometry stands marks room changed) p q call meant r → length start.index ≤ (geometry q.metadata).metadata_blocks
-  blocks_stay old p q start call meant r known is before met =
-      let same = met_geometry (served geometry stands marks room changed) p q call meant r met in
-      subst (λ (g : Geometry). length start.index ≤ g.metadata_blocks) (sym (same ∙ ap (λ (h : Held M). geometry h.metadata) before))
-      (subst (λ (c : tables.Held). length c.index ≤ (geometry old.besides.metadata).metadata_blocks) (sym is) known.blocks)
-
-  -- where a range ends in a volume
-  pub ends_on : (c : Cached M) (p : Held M) (id end : ℕ) → p ≡ on_cache c → EndsInVolume (cached geometry stands marks room changed) c id end → EndsInVolume (view geometry stands) p id end
-  ends_on c p id end same ends = subst (λ (h : Held M). EndsInVolume (view geometry stands) h id end) (sym same) ends
+  pub blocks_stay : {A : Type 0} (o : Option (Cached M)) (there : IsSome o) (i : Cached M) (p q : Held M) (start : tables.Held) (call : Call) (meant : A → Answer) (r : Result A Refusal) → o ≡ Some i → IsKnown geometry i
+      → start ≡ (got o there).cache → p ≡ on_cache i → MetBy (served geometry stands marks room changed) p q call meant r → length start.index ≤ (geometry q.metadata).metadata_blocks
+  blocks_stay o there i p q start call meant r is known begun before met =
+      blocks_same geometry o there i p q start is known begun before (met_geometry (served geometry stands marks room changed) p q call meant r met)
 
   pub met_under : {A : Type 0} (old new : Cached M) (p q : Held M) (start : tables.Held) (call : Call) (meant : A → Answer) (r : Result A Refusal) → IsKnown geometry old → IsLine new.cache.line
       → start ≡ old.cache → p ≡ on_cache old → on_cache new ≡ q → tables.Since start new.cache → MetBy (served geometry stands marks room changed) p q call meant r
@@ -62,6 +74,20 @@ module _ {M : Type 0} (geometry : M → Geometry) (stands : M → DiskState → 
       by : (x : Result A Refusal) → MetBy (served geometry stands marks room changed) (on_cache old) (on_cache new) call meant x → MetBy (cached geometry stands marks room changed) old new call meant x
       by (Ok y) m = meets_under geometry stands marks room changed left old new was is went call (meant y) m
       by (Err reason) m = meets_under geometry stands marks room changed left old new was is went call (Refused reason) m
+
+  -- where a range ends in a volume
+  pub ends_lent : (o : Option (Cached M)) (there : IsSome o) (i : Cached M) (p : Held M) (id end : ℕ) → o ≡ Some i → p ≡ on_cache i → EndsInVolume (cached geometry stands marks room changed) (got o there) id end
+      → EndsInVolume (view geometry stands) p id end
+  ends_lent o there i p id end is before ends =
+      subst (λ (h : Held M). EndsInVolume (view geometry stands) h id end) (sym (before ∙ ap (λ (c : Cached M). on_cache c) (got_is o there i is))) ends
+
+  -- a call for which the parts are taken out of their place
+  pub met_lent : {A : Type 0} (o : Option (Cached M)) (there : IsSome o) (i new : Cached M) (p q : Held M) (start : tables.Held) (call : Call) (meant : A → Answer) (r : Result A Refusal) → o ≡ Some i → IsKnown geometry i
+      → IsLine new.cache.line → start ≡ (got o there).cache → p ≡ on_cache i → on_cache new ≡ q → tables.Since start new.cache → MetBy (served geometry stands marks room changed) p q call meant r
+      → MetBy (cached geometry stands marks room changed) (got o there) new call meant r
+  met_lent o there i new p q start call meant r is known line begun before after since met =
+      let was = taken geometry o there i p is known before in
+      met_under (got o there) new p q start call meant r was.0 line begun was.1 after since met
 
   -- a message that is answered, or made but for its commit
   pub begun_under : (old new : Cached M) (p q : Held M) (start : tables.Held) (message : Message) (r : Option (Result (Unit {0}) Refusal)) → IsKnown geometry old → IsLine new.cache.line

@@ -1,4 +1,4 @@
-//! The calls of a pool on a cache since a moment that the caller picks.
+//! The calls of a pool on a cache since a moment that the caller picks. Both are taken out of their place for a call, and put back behind it.
 ghost use Rattle.std.specs.Prelude.{◌≡◌, ◌≢◌, ◌/◌, ◌%◌, ◌+◌, ◌⊎◌, ◌<◌, ◌≤◌, length, IfErr, IfOk, MatchResult, OnOk, take};
 ghost use Rattle.tp_model.specs.Sectors.{sectors_of};
 ghost use Rattle.tp_model.specs.Pool.{PlainPool, copy_id, hold_count, hold_total};
@@ -11,274 +11,303 @@ ghost use Rattle.tp_model.specs.Disk.{IsSettled};
 ghost use Rattle.tp_pool.specs.AtMetadata.{shows};
 ghost use Rattle.tp_model.specs.Slots.{listed};
 ghost use Rattle.tp_served.specs.AtMetadata.{IsClosed, StaysInPlace, cached};
-ghost use Rattle.tp_served.specs.Served.{IsUnwritten, on_cache};
+ghost use Rattle.tp_served.specs.Served.{IsUnwritten, got, on_cache};
 
-use crate::inside::{Inside, end};
+use crate::inside::end;
+use crate::lent::Lent;
 use tp_cache::Start;
 use tp_disk::Disk;
 use tp_meta::Metadata;
 use tp_model::{DevId, Refusal, Slots, Vb, Volumes};
 use tp_msg::{LineBuffer, Message};
 
-pub(crate) fn flush_on<D: Disk, M: Metadata, K: Start>(
-    inside: Inside<D, M>,
-) -> (Inside<D, M>, Result<(), Refusal>)
-    requires { K.start ≡ inside.cache }
-    ensures { MetBy (cached M.Metadata) inside result.0 Flush (λ _. Done) result.1 }
+pub(crate) fn flush_on<D: Disk + Drop, M: Metadata + Drop, K: Start>(
+    lent: &mut Lent<D, M>,
+) -> Result<(), Refusal>
+    requires { K.start ≡ (got lent.old.inside lent.old.there).cache }
+    ensures { MetBy (cached M.Metadata) (got lent.old.inside lent.old.there) (got lent.new.inside lent.new.there) Flush (λ _. Done) result }
 {
+    let inside = lent.inside.take().unwrap();
     inside.facts();
     let mut pool = inside.begin::<K>();
     let answer = pool.flush();
     let after = end(pool);
     after.facts();
-    (after, answer)
+    lent.inside = Some(after);
+    answer
 }
 
-pub(crate) fn read_on<D: Disk, M: Metadata, K: Start>(
-    inside: Inside<D, M>,
+pub(crate) fn read_on<D: Disk + Drop, M: Metadata + Drop, K: Start>(
+    lent: &mut Lent<D, M>,
     id: DevId,
     sector: u64,
     out: &mut [u8],
-) -> (Inside<D, M>, Result<(), Refusal>)
-    requires now { K.start ≡ inside.cache }
+) -> Result<(), Refusal>
+    requires now { K.start ≡ (got lent.old.inside lent.old.there).cache }
     requires whole { length out.old % 512 ≡ 0 }
-    requires range { EndsInVolume (cached M.Metadata) inside id (sector + length out.old / 512) }
+    requires range { EndsInVolume (cached M.Metadata) (got lent.old.inside lent.old.there) id (sector + length out.old / 512) }
     requires most { length out.old / 512 ≤ 2048 }
     ensures length { length out.new ≡ length out.old }
-    ensures met { MetBy (cached M.Metadata) inside result.0 (Read id sector (length out.old / 512)) (λ _. Gave (sectors_of out.new)) result.1 }
+    ensures met { MetBy (cached M.Metadata) (got lent.old.inside lent.old.there) (got lent.new.inside lent.new.there) (Read id sector (length out.old / 512)) (λ _. Gave (sectors_of out.new)) result }
 {
+    let inside = lent.inside.take().unwrap();
     inside.facts();
     let mut pool = inside.begin::<K>();
     let answer = pool.read(id, sector, out);
     let after = end(pool);
     after.facts();
-    (after, answer)
+    lent.inside = Some(after);
+    answer
 }
 
-pub(crate) fn held_read_on<D: Disk, M: Metadata, K: Start>(
-    inside: Inside<D, M>,
+pub(crate) fn held_read_on<D: Disk + Drop, M: Metadata + Drop, K: Start>(
+    lent: &mut Lent<D, M>,
     id: DevId,
     sector: u64,
     out: &mut [u8],
-) -> (Inside<D, M>, Result<(), Refusal>)
-    requires now { K.start ≡ inside.cache }
+) -> Result<(), Refusal>
+    requires now { K.start ≡ (got lent.old.inside lent.old.there).cache }
     requires whole { length out.old % 512 ≡ 0 }
-    requires range { EndsInVolume (cached M.Metadata) inside (copy_id id) (sector + length out.old / 512) }
+    requires range { EndsInVolume (cached M.Metadata) (got lent.old.inside lent.old.there) (copy_id id) (sector + length out.old / 512) }
     ensures length { length out.new ≡ length out.old }
-    ensures met { MetBy (cached M.Metadata) inside result.0 (HeldRead id sector (length out.old / 512)) (λ _. Gave (sectors_of out.new)) result.1 }
+    ensures met { MetBy (cached M.Metadata) (got lent.old.inside lent.old.there) (got lent.new.inside lent.new.there) (HeldRead id sector (length out.old / 512)) (λ _. Gave (sectors_of out.new)) result }
 {
+    let inside = lent.inside.take().unwrap();
     inside.facts();
     let mut pool = inside.begin::<K>();
     let answer = pool.held_read(id, sector, out);
     let after = end(pool);
     after.facts();
-    (after, answer)
+    lent.inside = Some(after);
+    answer
 }
 
-pub(crate) fn write_on<D: Disk, M: Metadata, K: Start>(
-    inside: Inside<D, M>,
+pub(crate) fn write_on<D: Disk + Drop, M: Metadata + Drop, K: Start>(
+    lent: &mut Lent<D, M>,
     id: DevId,
     sector: u64,
     bytes: &[u8],
     fua: bool,
-) -> (Inside<D, M>, Result<(), Refusal>)
-    requires now { K.start ≡ inside.cache }
+) -> Result<(), Refusal>
+    requires now { K.start ≡ (got lent.old.inside lent.old.there).cache }
     requires whole { length bytes.now % 512 ≡ 0 }
-    requires range { EndsInVolume (cached M.Metadata) inside id (sector + length bytes.now / 512) }
+    requires range { EndsInVolume (cached M.Metadata) (got lent.old.inside lent.old.there) id (sector + length bytes.now / 512) }
     requires most { length bytes.now / 512 ≤ 2048 }
-    ensures met { MetBy (cached M.Metadata) inside result.0 (Write id sector (sectors_of bytes.now) fua) (λ _. Done) result.1 }
-    ensures in_place { OnOk result.1 (StaysInPlace M.Metadata inside result.0 (Write id sector (sectors_of bytes.now) fua)) }
-    ensures read_only { inside.besides.mode ≢ mode.Writable → IsUnwritten inside result.0 result.1 }
+    ensures met { MetBy (cached M.Metadata) (got lent.old.inside lent.old.there) (got lent.new.inside lent.new.there) (Write id sector (sectors_of bytes.now) fua) (λ _. Done) result }
+    ensures in_place { OnOk result (StaysInPlace M.Metadata (got lent.old.inside lent.old.there) (got lent.new.inside lent.new.there) (Write id sector (sectors_of bytes.now) fua)) }
+    ensures read_only { (got lent.old.inside lent.old.there).besides.mode ≢ mode.Writable → IsUnwritten (got lent.old.inside lent.old.there) (got lent.new.inside lent.new.there) result }
 {
+    let inside = lent.inside.take().unwrap();
     inside.facts();
     let mut pool = inside.begin::<K>();
     let answer = pool.write(id, sector, bytes, fua);
     let after = end(pool);
     after.facts();
-    (after, answer)
+    lent.inside = Some(after);
+    answer
 }
 
-pub(crate) fn trim_on<D: Disk, M: Metadata, K: Start>(
-    inside: Inside<D, M>,
+pub(crate) fn trim_on<D: Disk + Drop, M: Metadata + Drop, K: Start>(
+    lent: &mut Lent<D, M>,
     id: DevId,
     sector: u64,
     count: u64,
     fua: bool,
-) -> (Inside<D, M>, Result<(), Refusal>)
-    requires now { K.start ≡ inside.cache }
-    requires range { EndsInVolume (cached M.Metadata) inside id (sector + count) }
+) -> Result<(), Refusal>
+    requires now { K.start ≡ (got lent.old.inside lent.old.there).cache }
+    requires range { EndsInVolume (cached M.Metadata) (got lent.old.inside lent.old.there) id (sector + count) }
     requires most { count ≤ 2048 }
-    ensures met { MetBy (cached M.Metadata) inside result.0 (Trim id sector count fua) (λ _. Done) result.1 }
-    ensures read_only { inside.besides.mode ≢ mode.Writable → IsUnwritten inside result.0 result.1 }
+    ensures met { MetBy (cached M.Metadata) (got lent.old.inside lent.old.there) (got lent.new.inside lent.new.there) (Trim id sector count fua) (λ _. Done) result }
+    ensures read_only { (got lent.old.inside lent.old.there).besides.mode ≢ mode.Writable → IsUnwritten (got lent.old.inside lent.old.there) (got lent.new.inside lent.new.there) result }
 {
+    let inside = lent.inside.take().unwrap();
     inside.facts();
     let mut pool = inside.begin::<K>();
     let answer = pool.trim(id, sector, count, fua);
     let after = end(pool);
     after.facts();
-    (after, answer)
+    lent.inside = Some(after);
+    answer
 }
 
-pub(crate) fn write_zeroes_on<D: Disk, M: Metadata, K: Start>(
-    inside: Inside<D, M>,
+pub(crate) fn write_zeroes_on<D: Disk + Drop, M: Metadata + Drop, K: Start>(
+    lent: &mut Lent<D, M>,
     id: DevId,
     sector: u64,
     count: u64,
     no_hole: bool,
     fua: bool,
-) -> (Inside<D, M>, Result<(), Refusal>)
-    requires now { K.start ≡ inside.cache }
-    requires range { EndsInVolume (cached M.Metadata) inside id (sector + count) }
+) -> Result<(), Refusal>
+    requires now { K.start ≡ (got lent.old.inside lent.old.there).cache }
+    requires range { EndsInVolume (cached M.Metadata) (got lent.old.inside lent.old.there) id (sector + count) }
     requires most { count ≤ 2048 }
-    ensures { MetBy (cached M.Metadata) inside result.0 (WriteZeroes id sector count no_hole fua) (λ _. Done) result.1 }
+    ensures { MetBy (cached M.Metadata) (got lent.old.inside lent.old.there) (got lent.new.inside lent.new.there) (WriteZeroes id sector count no_hole fua) (λ _. Done) result }
 {
+    let inside = lent.inside.take().unwrap();
     inside.facts();
     let mut pool = inside.begin::<K>();
     let answer = Volumes::write_zeroes(&mut pool, id, sector, count, no_hole, fua);
     let after = end(pool);
     after.facts();
-    (after, answer)
+    lent.inside = Some(after);
+    answer
 }
 
-pub(crate) fn next_id_on<D: Disk, M: Metadata, K: Start>(
-    inside: Inside<D, M>,
+pub(crate) fn next_id_on<D: Disk + Drop, M: Metadata + Drop, K: Start>(
+    lent: &mut Lent<D, M>,
     from: DevId,
-) -> (Inside<D, M>, Result<Option<DevId>, Refusal>)
-    requires { K.start ≡ inside.cache }
-    ensures { MetBy (cached M.Metadata) inside result.0 (NextId from) (λ found. Found found) result.1 }
+) -> Result<Option<DevId>, Refusal>
+    requires { K.start ≡ (got lent.old.inside lent.old.there).cache }
+    ensures { MetBy (cached M.Metadata) (got lent.old.inside lent.old.there) (got lent.new.inside lent.new.there) (NextId from) (λ found. Found found) result }
 {
+    let inside = lent.inside.take().unwrap();
     inside.facts();
     let mut pool = inside.begin::<K>();
     let answer = Volumes::next_id(&mut pool, from);
     let after = end(pool);
     after.facts();
-    (after, answer)
+    lent.inside = Some(after);
+    answer
 }
 
-pub(crate) fn volume_blocks_on<D: Disk, M: Metadata, K: Start>(
-    inside: Inside<D, M>,
+pub(crate) fn volume_blocks_on<D: Disk + Drop, M: Metadata + Drop, K: Start>(
+    lent: &mut Lent<D, M>,
     id: DevId,
-) -> (Inside<D, M>, Result<u32, Refusal>)
-    requires { K.start ≡ inside.cache }
-    ensures told { MetBy (cached M.Metadata) inside result.0 (VolumeBlocks id) (λ blocks. Sized blocks) result.1 }
-    ensures most { IfOk result.1 (λ blocks. blocks ≤ 16777216) }
+) -> Result<u32, Refusal>
+    requires { K.start ≡ (got lent.old.inside lent.old.there).cache }
+    ensures told { MetBy (cached M.Metadata) (got lent.old.inside lent.old.there) (got lent.new.inside lent.new.there) (VolumeBlocks id) (λ blocks. Sized blocks) result }
+    ensures most { IfOk result (λ blocks. blocks ≤ 16777216) }
 {
+    let inside = lent.inside.take().unwrap();
     inside.facts();
     let mut pool = inside.begin::<K>();
     let answer = Volumes::volume_blocks(&mut pool, id);
     let after = end(pool);
     after.facts();
-    (after, answer)
+    lent.inside = Some(after);
+    answer
 }
 
-pub(crate) fn status_on<D: Disk, M: Metadata, K: Start>(
-    inside: Inside<D, M>,
+pub(crate) fn status_on<D: Disk + Drop, M: Metadata + Drop, K: Start>(
+    lent: &mut Lent<D, M>,
     out: &mut LineBuffer,
-) -> (Inside<D, M>, usize)
-    requires { K.start ≡ inside.cache }
-    ensures met { Meets (cached M.Metadata) inside result.0 Status (Line (take result.1 out.new)) }
-    ensures fits { result.1 ≤ 192 }
+) -> usize
+    requires { K.start ≡ (got lent.old.inside lent.old.there).cache }
+    ensures met { Meets (cached M.Metadata) (got lent.old.inside lent.old.there) (got lent.new.inside lent.new.there) Status (Line (take result out.new)) }
+    ensures fits { result ≤ 192 }
 {
+    let inside = lent.inside.take().unwrap();
     inside.facts();
     let pool = inside.begin::<K>();
     let length = pool.status(out);
     let after = end(pool);
     after.facts();
-    (after, length)
+    lent.inside = Some(after);
+    length
 }
 
-pub(crate) fn thin_status_on<D: Disk, M: Metadata, K: Start>(
-    inside: Inside<D, M>,
+pub(crate) fn thin_status_on<D: Disk + Drop, M: Metadata + Drop, K: Start>(
+    lent: &mut Lent<D, M>,
     id: DevId,
     out: &mut LineBuffer,
-) -> (Inside<D, M>, Result<usize, Refusal>)
-    requires { K.start ≡ inside.cache }
-    ensures met { MetBy (cached M.Metadata) inside result.0 (ThinStatus id) (λ length. Line (take length out.new)) result.1 }
-    ensures fits { IfOk result.1 (λ length. length ≤ 192) }
+) -> Result<usize, Refusal>
+    requires { K.start ≡ (got lent.old.inside lent.old.there).cache }
+    ensures met { MetBy (cached M.Metadata) (got lent.old.inside lent.old.there) (got lent.new.inside lent.new.there) (ThinStatus id) (λ length. Line (take length out.new)) result }
+    ensures fits { IfOk result (λ length. length ≤ 192) }
 {
+    let inside = lent.inside.take().unwrap();
     inside.facts();
     let mut pool = inside.begin::<K>();
     let answer = pool.thin_status(id, out);
     let after = end(pool);
     after.facts();
-    (after, answer)
+    lent.inside = Some(after);
+    answer
 }
 
-pub(crate) fn walk_on<D: Disk, M: Metadata, K: Start>(
-    inside: Inside<D, M>,
+pub(crate) fn walk_on<D: Disk + Drop, M: Metadata + Drop, K: Start>(
+    lent: &mut Lent<D, M>,
     id: DevId,
     from: Vb,
     slots: &mut Slots,
-) -> (Inside<D, M>, Result<(), Refusal>)
-    requires { K.start ≡ inside.cache }
-    ensures { MetBy (cached M.Metadata) inside result.0 (Walk id from) (λ _. Listed (listed slots.new.items)) result.1 }
+) -> Result<(), Refusal>
+    requires { K.start ≡ (got lent.old.inside lent.old.there).cache }
+    ensures { MetBy (cached M.Metadata) (got lent.old.inside lent.old.there) (got lent.new.inside lent.new.there) (Walk id from) (λ _. Listed (listed slots.new.items)) result }
 {
+    let inside = lent.inside.take().unwrap();
     inside.facts();
     let mut pool = inside.begin::<K>();
     let answer = pool.walk(id, from, slots);
     let after = end(pool);
     after.facts();
-    (after, answer)
+    lent.inside = Some(after);
+    answer
 }
 
-pub(crate) fn hold_on<D: Disk, M: Metadata, K: Start>(
-    inside: Inside<D, M>,
+pub(crate) fn hold_on<D: Disk + Drop, M: Metadata + Drop, K: Start>(
+    lent: &mut Lent<D, M>,
     id: DevId,
-) -> (Inside<D, M>, Result<(), Refusal>)
-    requires now { K.start ≡ inside.cache }
-    requires few { hold_total (holds_of inside.besides.holders) < 64 }
-    ensures { MetBy (cached M.Metadata) inside result.0 (Hold id) (λ _. Done) result.1 }
+) -> Result<(), Refusal>
+    requires now { K.start ≡ (got lent.old.inside lent.old.there).cache }
+    requires few { hold_total (holds_of (got lent.old.inside lent.old.there).besides.holders) < 64 }
+    ensures { MetBy (cached M.Metadata) (got lent.old.inside lent.old.there) (got lent.new.inside lent.new.there) (Hold id) (λ _. Done) result }
 {
+    let inside = lent.inside.take().unwrap();
     inside.facts();
     let mut pool = inside.begin::<K>();
     let answer = Volumes::hold(&mut pool, id);
     let after = end(pool);
     after.facts();
-    (after, answer)
+    lent.inside = Some(after);
+    answer
 }
 
-pub(crate) fn let_go_on<D: Disk, M: Metadata, K: Start>(
-    inside: Inside<D, M>,
+pub(crate) fn let_go_on<D: Disk + Drop, M: Metadata + Drop, K: Start>(
+    lent: &mut Lent<D, M>,
     id: DevId,
-) -> Inside<D, M>
-    requires now { K.start ≡ inside.cache }
-    requires held { 0 < hold_count (holds_of inside.besides.holders) id }
-    ensures { Meets (cached M.Metadata) inside result (LetGo id) Done }
+)
+    requires now { K.start ≡ (got lent.old.inside lent.old.there).cache }
+    requires held { 0 < hold_count (holds_of (got lent.old.inside lent.old.there).besides.holders) id }
+    ensures { Meets (cached M.Metadata) (got lent.old.inside lent.old.there) (got lent.new.inside lent.new.there) (LetGo id) Done }
 {
+    let inside = lent.inside.take().unwrap();
     inside.facts();
     let mut pool = inside.begin::<K>();
     Volumes::let_go(&mut pool, id);
     let after = end(pool);
     after.facts();
-    after
+    lent.inside = Some(after);
 }
 
 /// Makes what a message asks for, but for the commit behind it.
-pub(crate) fn change_on<D: Disk, M: Metadata, K: Start>(
-    inside: Inside<D, M>,
+pub(crate) fn change_on<D: Disk + Drop, M: Metadata + Drop, K: Start>(
+    lent: &mut Lent<D, M>,
     message: &Message,
-) -> (Inside<D, M>, Option<Result<(), Refusal>>)
-    requires { K.start ≡ inside.cache }
-    ensures { IsMessageBegun (cached M.Metadata) inside result.0 message.now result.1 }
+) -> Option<Result<(), Refusal>>
+    requires { K.start ≡ (got lent.old.inside lent.old.there).cache }
+    ensures { IsMessageBegun (cached M.Metadata) (got lent.old.inside lent.old.there) (got lent.new.inside lent.new.there) message.now result }
 {
+    let inside = lent.inside.take().unwrap();
     inside.facts();
     let mut pool = inside.begin::<K>();
     let answer = pool.change(message);
     let after = end(pool);
     after.facts();
-    (after, answer)
+    lent.inside = Some(after);
+    answer
 }
 
-pub(crate) fn close_on<D: Disk, M: Metadata + Drop, K: Start>(
-    inside: Inside<D, M>,
+pub(crate) fn close_on<D: Disk + Drop, M: Metadata + Drop, K: Start>(
+    lent: Lent<D, M>,
 ) -> (Result<(), Refusal>, D)
-    requires { K.start ≡ inside.cache }
+    requires { K.start ≡ (got lent.inside lent.there).cache }
     ensures closed { MatchResult result.0
-        (λ _. IsClosed M.Metadata inside (D.state result.1) Done)
-        (λ reason. IsClosed M.Metadata inside (D.state result.1) (Refused reason)) }
-    ensures settled { OnOk result.0 ((s : PlainPool) → shows M.Metadata (on_cache inside) s → IsSettled (D.state result.1).cells) }
+        (λ _. IsClosed M.Metadata (got lent.inside lent.there) (D.state result.1) Done)
+        (λ reason. IsClosed M.Metadata (got lent.inside lent.there) (D.state result.1) (Refused reason)) }
+    ensures settled { OnOk result.0 ((s : PlainPool) → shows M.Metadata (on_cache (got lent.inside lent.there)) s → IsSettled (D.state result.1).cells) }
     ensures only { IfErr result.0 (λ reason. (reason ≡ Refusal.Failed) ⊎ (reason ≡ Refusal.Fault)) }
 {
+    let inside = lent.into_inside();
     inside.facts();
     let pool = inside.begin::<K>();
     let (answer, life) = pool.close();

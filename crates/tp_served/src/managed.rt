@@ -5,7 +5,9 @@ ghost use Rattle.tp_model.specs.Clauses.{Meets, MetBy};
 ghost use Rattle.tp_msg.specs.Asked.{IsMessageBegun};
 ghost use Rattle.tp_served.specs.AtMetadata.{cached};
 
+use crate::calls::{change_on, status_on, thin_status_on};
 use crate::served::Served;
+use std::marker::Brand;
 use tp_disk::Disk;
 use tp_meta::Metadata;
 use tp_model::{Cloned, DevId, Refusal};
@@ -27,7 +29,7 @@ impl<D: Disk + Drop, M: Metadata + Drop> Managed for Served<D, M> {
     fn change(&mut self, message: &Message) -> Option<Result<(), Refusal>>
         ensures { IsMessageBegun (cached M.Metadata) self.old self.new message.now result }
     {
-        self.lent.change(message)
+        change_on::<D, M, Brand>(&mut self.lent, message)
     }
 
     /// Writes the pool's status line into a buffer and answers its length; the bytes behind it are of no meaning. No call of the disk is made.
@@ -37,7 +39,7 @@ impl<D: Disk + Drop, M: Metadata + Drop> Managed for Served<D, M> {
         ensures met { Meets (cached M.Metadata) self.old self.new Status (Line (take result out.new)) }
         ensures fits { result ≤ 192 }
     {
-        self.lent.status(out)
+        status_on::<D, M, Brand>(&mut self.lent, out)
     }
 
     /// Writes a volume's status line into a buffer and answers its length, the bytes behind it being of no meaning. It changes nothing, whatever it
@@ -51,6 +53,6 @@ impl<D: Disk + Drop, M: Metadata + Drop> Managed for Served<D, M> {
         ensures met { MetBy (cached M.Metadata) self.old self.new (ThinStatus id) (λ length. Line (take length out.new)) result }
         ensures fits { IfOk result (λ length. length ≤ 192) }
     {
-        self.lent.thin_status(id, out)
+        thin_status_on::<D, M, Brand>(&mut self.lent, id, out)
     }
 }

@@ -10,9 +10,10 @@ ghost use Rattle.tp_msg.specs.Asked.{call_of};
 ghost use Rattle.tp_served.specs.AtMetadata.{IsClosed, cached};
 ghost use Rattle.tp_served.specs.Served.{IsKnown, disk_of, on_cache};
 
+use crate::calls::{close_on, held_read_on};
 use crate::inside::Inside;
 use crate::lent::Lent;
-use std::marker::Model;
+use std::marker::{Brand, Model};
 use tp_disk::Disk;
 use tp_meta::Metadata;
 use tp_model::{DevId, Refusal, Volumes};
@@ -52,7 +53,7 @@ impl<D: Disk + Drop, M: Metadata + Drop> Served<D, M> {
         ensures length { length out.new ≡ length out.old }
         ensures met { MetBy (cached M.Metadata) self.old self.new (HeldRead id sector (length out.old / 512)) (λ _. Gave (sectors_of out.new)) result }
     {
-        self.lent.held_read(id, sector, out)
+        held_read_on::<D, M, Brand>(&mut self.lent, id, sector, out)
     }
 
     /// Makes the call that a message asks for, and keeps it: what it changes, and the flush behind that. What each message is refused for stands at `Message`.
@@ -75,7 +76,7 @@ impl<D: Disk + Drop, M: Metadata + Drop> Served<D, M> {
         ensures only { IfErr result.0 (λ reason. (reason ≡ Refusal.Failed) ⊎ (reason ≡ Refusal.Fault)) }
     {
         let Served { lent } = self;
-        lent.close()
+        close_on::<D, M, Brand>(lent)
     }
 
     /// The disk under the cache of changed blocks, as it is now.

@@ -11,8 +11,13 @@ ghost use Rattle.tp_served.specs.AtMetadata.{IsFlushing, StaysInPlace, cached};
 ghost use Rattle.tp_served.specs.Midway.{LeavesFewer};
 ghost use Rattle.tp_served.specs.Served.{IsUnwritten};
 
+use crate::calls::{
+    flush_on, hold_on, let_go_on, next_id_on, read_on, trim_on, volume_blocks_on, walk_on,
+    write_on, write_zeroes_on,
+};
 use crate::flushing::{MidServed, begin_parts};
 use crate::served::Served;
+use std::marker::Brand;
 use tp_disk::{Disk, SharedDisk};
 use tp_meta::Metadata;
 use tp_model::{
@@ -51,7 +56,7 @@ impl<D: Disk + Drop, M: Metadata + Drop> Volumes for Served<D, M> {
         ensures met { MetBy (cached M.Metadata) self.old self.new (Read id sector (length out.old / 512)) (λ _. Gave (sectors_of out.new)) result }
         ensures length { length out.new ≡ length out.old }
     {
-        self.lent.read(id, sector, out)
+        read_on::<D, M, Brand>(&mut self.lent, id, sector, out)
     }
 
     /// Writes at most 2048 sectors of a volume, and with `fua` keeps them. The range lies in the volume, as that of a read does. A write in place changes
@@ -68,7 +73,7 @@ impl<D: Disk + Drop, M: Metadata + Drop> Volumes for Served<D, M> {
         // A pool that is read-only or has failed refuses it, and its disk is only read.
         ensures read_only { self.old.besides.mode ≢ mode.Writable → IsUnwritten self.old self.new result }
     {
-        self.lent.write(id, sector, bytes, fua)
+        write_on::<D, M, Brand>(&mut self.lent, id, sector, bytes, fua)
     }
 
     /// Takes the data blocks of the blocks of a volume that lie wholly in a range of at most 2048 sectors, and with `fua` keeps that. Blocks that lie in
@@ -83,7 +88,7 @@ impl<D: Disk + Drop, M: Metadata + Drop> Volumes for Served<D, M> {
         // A pool that is read-only or has failed refuses it, and its disk is only read.
         ensures read_only { self.old.besides.mode ≢ mode.Writable → IsUnwritten self.old self.new result }
     {
-        self.lent.trim(id, sector, count, fua)
+        trim_on::<D, M, Brand>(&mut self.lent, id, sector, count, fua)
     }
 
     /// Makes at most 2048 sectors of a volume zero, and with `fua` keeps that. With `no_hole` each of them has a data block then. Else blocks that lie
@@ -103,7 +108,7 @@ impl<D: Disk + Drop, M: Metadata + Drop> Volumes for Served<D, M> {
         requires most { count ≤ 2048 }
         ensures { MetBy (cached M.Metadata) self.old self.new (WriteZeroes id sector count no_hole fua) (λ _. Done) result }
     {
-        self.lent.write_zeroes(id, sector, count, no_hole, fua)
+        write_zeroes_on::<D, M, Brand>(&mut self.lent, id, sector, count, no_hole, fua)
     }
 
     /// Keeps all that was done. In a read-only pool all is kept already.
@@ -112,7 +117,7 @@ impl<D: Disk + Drop, M: Metadata + Drop> Volumes for Served<D, M> {
     fn flush(&mut self) -> Result<(), Refusal>
         ensures { MetBy (cached M.Metadata) self.old self.new Flush (λ _. Done) result }
     {
-        self.lent.flush()
+        flush_on::<D, M, Brand>(&mut self.lent)
     }
 
     /// The least id of a volume that is `from` or more, if there is one. It writes nothing.
@@ -121,7 +126,7 @@ impl<D: Disk + Drop, M: Metadata + Drop> Volumes for Served<D, M> {
     fn next_id(&mut self, from: DevId) -> Result<Option<DevId>, Refusal>
         ensures { MetBy (cached M.Metadata) self.old self.new (NextId from) (λ found. Found found) result }
     {
-        self.lent.next_id(from)
+        next_id_on::<D, M, Brand>(&mut self.lent, from)
     }
 
     /// How many blocks a volume has. It writes nothing, and makes no call of the disk for a volume that is held.
@@ -131,7 +136,7 @@ impl<D: Disk + Drop, M: Metadata + Drop> Volumes for Served<D, M> {
         ensures told { MetBy (cached M.Metadata) self.old self.new (VolumeBlocks id) (λ blocks. Sized blocks) result }
         ensures most { IfOk result (λ blocks. blocks ≤ 16777216) }
     {
-        self.lent.volume_blocks(id)
+        volume_blocks_on::<D, M, Brand>(&mut self.lent, id)
     }
 
     /// Holds a volume, which is Busy then. At most 64 holds stand at once.
@@ -141,7 +146,7 @@ impl<D: Disk + Drop, M: Metadata + Drop> Volumes for Served<D, M> {
         requires { hold_total (holds_of self.old.besides.holders) < 64 }
         ensures { MetBy (cached M.Metadata) self.old self.new (Hold id) (λ _. Done) result }
     {
-        self.lent.hold(id)
+        hold_on::<D, M, Brand>(&mut self.lent, id)
     }
 
     /// Lets go of a volume that is held.
@@ -149,7 +154,7 @@ impl<D: Disk + Drop, M: Metadata + Drop> Volumes for Served<D, M> {
         requires { 0 < hold_count (holds_of self.old.besides.holders) id }
         ensures { Meets (cached M.Metadata) self.old self.new (LetGo id) Done }
     {
-        self.lent.let_go(id);
+        let_go_on::<D, M, Brand>(&mut self.lent, id);
     }
 
     ghost laws = { served.laws M.geometry M.stands M.marks M.room M.changed M.trees (λ m disk now kept st. ((M.within m disk now kept st).limits, (M.within m disk now kept st).volumes_now, (M.within m disk now kept st).copies)) M.bounded M.one };
@@ -164,7 +169,7 @@ impl<D: Disk + Drop, M: Metadata + Drop> Walked for Served<D, M> {
     fn walk(&mut self, id: DevId, from: Vb, slots: &mut Slots) -> Result<(), Refusal>
         ensures { MetBy (cached M.Metadata) self.old self.new (Walk id from) (λ _. Listed (listed slots.new.items)) result }
     {
-        self.lent.walk(id, from, slots)
+        walk_on::<D, M, Brand>(&mut self.lent, id, from, slots)
     }
 }
 

@@ -1,9 +1,17 @@
-use Rattle.std.proofs.Common.{ap, refl}
+use Rattle.std.proofs.Common.{◌∙◌, ap, refl, sym}
 use Rattle.tp_model.specs.Calls.{Listed, Walk}
 use Rattle.tp_pool.specs.Held.{Held}
 use Rattle.tp_model.specs.Slots.{listed}
-use Rattle.tp_served.proofs.Answered.{met_told, met_under}
+use Rattle.tp_served.proofs.Answered.{blocks_same, met_lent, met_told, start_taken}
 use Rattle.tp_served.proofs.calls.walk_on.Goals as goal
+
+pub begin-pool-requires : goal.begin-pool-requires
+begin-pool-requires g c = start_taken c.args.lent.now.inside c.args.lent.now.there c.unwrap-inside.result g.K.Start.start (sym c.take.ensures.value ∙ c.unwrap-inside.ensures) c.requires
+
+pub end-after-requires : goal.end-after-requires
+end-after-requires g c =
+    blocks_same g.M.Metadata.geometry c.args.lent.now.inside c.args.lent.now.there c.unwrap-inside.result c.begin-pool.result c.walk-answer.new.self g.K.Start.start
+    (sym c.take.ensures.value ∙ c.unwrap-inside.ensures) c.facts.ensures c.requires c.begin-pool.ensures (ap (λ (h : Held g.row.M.Denot). g.M.Metadata.geometry h.metadata) c.walk-answer.ensures.held)
 
 pub returns : goal.returns
 returns g c =
@@ -11,8 +19,8 @@ returns g c =
     let after = c.walk-answer.new.self in
     let said = c.walk-answer.ensures in
     let slots = listed c.walk-answer.new.slots.items in
-    met_under g.M.Metadata.geometry g.M.Metadata.stands g.M.Metadata.marks g.M.Metadata.room g.M.Metadata.changed g.met.M.Metadata.left
-    c.args.inside c.end-after.result before after g.K.Start.start (Walk c.args.id c.args.from) (λ (x : Unit {0}). Listed slots) c.walk-answer.result
-    c.facts.ensures c.facts-2.ensures.line c.requires c.begin-pool.ensures c.end-after.ensures.pool c.end-after.ensures.since
+    met_lent g.M.Metadata.geometry g.M.Metadata.stands g.M.Metadata.marks g.M.Metadata.room g.M.Metadata.changed g.met.M.Metadata.left
+    c.args.lent.now.inside c.args.lent.now.there c.unwrap-inside.result c.end-after.result before after g.K.Start.start (Walk c.args.id c.args.from) (λ (x : Unit {0}). Listed slots) c.walk-answer.result
+    (sym c.take.ensures.value ∙ c.unwrap-inside.ensures) c.facts.ensures c.facts-2.ensures.line c.requires c.begin-pool.ensures c.end-after.ensures.pool c.end-after.ensures.since
     (met_told g.M.Metadata.geometry g.M.Metadata.stands g.M.Metadata.marks g.M.Metadata.room g.M.Metadata.changed before after (Walk c.args.id c.args.from) (λ (x : Unit {0}). Listed slots) (ap (λ (h : Held g.row.M.Denot). g.M.Metadata.geometry h.metadata) said.held) (λ x. refl)
     (λ answer. refl) (ap (λ (h : Held g.row.M.Denot). h.holders) said.held) c.walk-answer.result said.called said.answered said.flushes)

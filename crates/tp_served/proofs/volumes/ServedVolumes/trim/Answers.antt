@@ -5,5 +5,5 @@ use Rattle.tp_served.proofs.volumes.ServedVolumes.trim.Goals as goal
 
 pub returns-clause-read_only : goal.returns-clause-read_only
 returns-clause-read_only g c =
-    subst (λ (i : Cached g.row.M.Denot). i.besides.mode ≢ mode.Writable → IsUnwritten i (got c.trim.new.self.inside c.trim.new.self.there) c.trim.result)
-    c.self.view_is c.trim.ensures.read_only
+    subst (λ (i : Cached g.row.M.Denot). i.besides.mode ≢ mode.Writable → IsUnwritten i (got c.trim_on.new.lent.inside c.trim_on.new.lent.there) c.trim_on.result)
+    c.self.view_is c.trim_on.ensures.read_only
