@@ -236,7 +236,8 @@ impl<V: Managed> Hub<V> {
         run_events(&mut self.sessions, &mut self.pool, alloc, events, out)
     }
 
-    /// Takes one event, as `run` takes a list of one: what stands there of an event holds here too.
+    /// Takes one event, as `run` takes a list of one, with the same answers. Of how much is taken its clauses say what a desk says of an ask (`asked`): something, where
+    /// one longest answer fits. For what cause the rest was left (`short` of `run`) they do not say.
     pub fn take(&mut self, alloc: Global, event: Event<'_>, out: &mut Answers) -> Ran
         requires { session_of event < 64 }
         ensures asked { IsAsked (λ took answers. RunsSo V.view (sessions_of self.old.slots) self.old.pool took answers (sessions_of self.new.slots) self.new.pool)

@@ -1,9 +1,11 @@
 -- An ask of a hub, where others may have asked it before.
-use Rattle.std.proofs.Common.{◌≡◌, ◌+◌, ◌<◌, ◌≤◌, ◌⊎◌, ◌++◌, ◌∙◌, ap, append_assoc, append-nil, inl, inr, ℕ, zero, suc, Bool, true, false, Option, Some, List, [], ◌∷◌, length, take, take-take, length-take-le, refl, sym, subst, arith}
+use Rattle.std.proofs.Common.{◌≡◌, ◌+◌, ◌<◌, ◌≤◌, ◌⊎◌, ◌++◌, ◌∙◌, ap, append_assoc, append-nil, inl, inr, ℕ, ⊎_elim, zero, suc, Bool, true, false, Option, Some, List, [], ◌∷◌, length, take, take-take, length-take-le, refl, sym, subst, arith}
 use Rattle.std.specs.Prelude.{not}
+use Rattle.std.proofs.lemmas.Bool.{cases_lt}
 use Rattle.tp_model.specs.Clauses.{View}
+use Rattle.nbd_session.specs.declared.answer.TheConstants.{MAX_ANSWER}
 use Rattle.nbd_session.specs.Turns.{Sessions}
-use Rattle.tp_hub.specs.Told.{Answer, Grows, Told}
+use Rattle.tp_hub.specs.Told.{Answer, Grows, IsFull, Told, all_sent}
 use Rattle.tp_hub.specs.Runs.{Brings, Incoming, taken_of}
 use Rattle.tp_hub.specs.Desks.{IsAsked, IsCut, RunsSo}
 use Rattle.tp_lock.specs.Locked.{AreAllMade, ArePartRuns, AsksInParts, MakesParts, SomeRun, SomeRunTo, SomeRuns, all_of, has_left}
@@ -75,14 +77,39 @@ grows_both a b c first rest g h = record {
   marks = omega (arith, g.marks, h.marks);
 }
 
+grows_none : (t : Told) → Grows t t []
+grows_none t = record { list = sym (append-nil t.list); room = omega arith; marks = omega arith }
+
+-- where not both fit, one of them does not
+one_lacks : (bytes room count marks : ℕ) → (bytes ≤ room → count ≤ marks → ⊥) → (room < bytes) ⊎ (marks < count)
+one_lacks bytes room count marks both = ⊎_elim (λ few. inl few) (λ fits. ⊎_elim (λ few. inr few) (λ has. absurd (both fits has)) (cases_lt marks count)) (cases_lt room bytes)
+
+-- what does not fit in some room does not fit in less
+full_in_less : (first now : Told) (answers : List Answer) → answers ≡ now.list → first.room ≤ now.room → first.marks ≤ now.marks → IsFull now → IsFull (record { list = answers; room = first.room; marks = first.marks })
+full_in_less first now answers same room marks (inl few) =
+    let sent : length (all_sent answers) ≡ length (all_sent now.list) = ap (λ (l : List Answer). length (all_sent l)) same in
+    inl (omega (arith, sent, room, few))
+full_in_less first now answers same room marks (inr few) =
+    let count : length answers ≡ length now.list = ap (λ (l : List Answer). length l) same in
+    inr (omega (arith, count, marks, few))
+
 -- a piece of which nothing was taken wanted room
-wants_room : (Did : List Incoming → List Answer → Type 0) (session : ℕ) (piece : List ℕ) (last : Bool) (events bytes : ℕ) (before after : Told) → events ≡ 0 → bytes ≡ 0 → IsAsked Did (Brings session piece) events bytes before after
-    → AreAllMade last after
-wants_room Did session piece last events bytes before after none nothing asked = inr (
-  before,
-  subst (λ (l : List Answer). Grows before after l) (asked.silent none nothing) asked.adds,
-  λ room. let some : 0 < events + bytes = asked.begun room in absurd (omega (arith, some, none, nothing)),
-)
+wants_room : (Did : List Incoming → List Answer → Type 0) (session : ℕ) (piece : List ℕ) (events bytes : ℕ) (before after : Told) → events ≡ 0 → bytes ≡ 0 → IsAsked Did (Brings session piece) events bytes before after → IsFull before
+wants_room Did session piece events bytes before after none nothing asked =
+    one_lacks (length (all_sent before.list) + MAX_ANSWER) before.room (length before.list + 2) before.marks
+    (λ fits has. let some : 0 < events + bytes = asked.begun (record { bytes = fits; marks = has }) in absurd (omega (arith, some, none, nothing)))
+
+-- parts were made, and then nothing was taken
+made_to_full : (Did : List Incoming → List Answer → Type 0) (session : ℕ) (piece : List ℕ) (last : Bool) (events bytes : ℕ) (first before after : Told) (made : List Answer) → events ≡ 0 → bytes ≡ 0 → Grows first before made
+    → IsAsked Did (Brings session piece) events bytes before after → AreAllMade first last after
+made_to_full Did session piece last events bytes first before after made none nothing grows asked =
+    let adds : Grows before after [] = subst (λ (l : List Answer). Grows before after l) (asked.silent none nothing) asked.adds in
+    inr (full_in_less first before after.list (adds.list ∙ append-nil before.list) grows.room grows.marks (wants_room Did session piece events bytes before after none nothing asked))
+
+-- answers were given before the parts
+made_from : (first before after : Told) (last : Bool) (answers : List Answer) → Grows first before answers → AreAllMade before last after → AreAllMade first last after
+made_from first before after last answers grows (inl none) = inl none
+made_from first before after last answers grows (inr full) = inr (full_in_less first (record { list = after.list; room = before.room; marks = before.marks }) after.list refl grows.room grows.marks full)
 
 module _ {D : Type 0} (view : View D) (session : ℕ) (left : Bool) where
   -- one ask, and whether parts are left behind it
@@ -94,7 +121,7 @@ module _ {D : Type 0} (view : View D) (session : ℕ) (left : Bool) where
   MadeSoFar more before after = (parts : List (List Answer)) × ArePartRuns view session left parts more × Grows before after (all_of parts)
 
   pub parts_none : (t : Told) → MadeSoFar left t t
-  parts_none t = ([], refl, record { list = sym (append-nil t.list); room = omega arith; marks = omega arith })
+  parts_none t = ([], refl, grows_none t)
 
   are_behind : (first : Bool) (xs : List (List Answer)) (more : Bool) (a : List Answer) (last : Bool) → ArePartRuns view session first xs more → more ≡ true → SomeRunTo view (Some session) last (Brings session [] ∷ []) a
       → ArePartRuns view session first (xs ++ a ∷ []) last
@@ -117,7 +144,7 @@ module _ {D : Type 0} (view : View D) (session : ℕ) (left : Bool) where
       (made.0, made.1, subst (λ (l : List Answer). Grows before after l) (append-nil (all_of made.0)) (grows_both before mid after (all_of made.0) [] made.2 adds))
 
   -- no part is left, or there is no room
-  parts_end : (more : Bool) (before after : Told) → MadeSoFar more before after → AreAllMade more after → MakesParts view session left before after
+  parts_end : (more : Bool) (before after : Told) → MadeSoFar more before after → AreAllMade before more after → MakesParts view session left before after
   parts_end more before after made ends = (made.0, more, made.1, made.2, ends)
 
   -- no part is left
@@ -130,7 +157,7 @@ module _ {D : Type 0} (view : View D) (session : ℕ) (left : Bool) where
   parts_stop more last zero bytes before mid after nothing made asked =
       let none : bytes ≡ 0 = no_bytes_cut bytes asked.cut in
       parts_end more before after (parts_still more last bytes before mid after none made asked)
-      (wants_room (λ (took : List Incoming) (answers : List Answer). SomeRunTo view (Some session) last took answers) session [] more 0 bytes mid after refl none asked)
+      (made_to_full (λ (took : List Incoming) (answers : List Answer). SomeRunTo view (Some session) last took answers) session [] more 0 bytes before mid after (all_of made.0) refl none made.2 asked)
 
   -- the last ask was one of all that is left
   pub parts_all : (more last : Bool) (events bytes : ℕ) (before mid after : Told) → more ≡ true → (0 < events → last ≡ false) → MadeSoFar more before mid → AskedTo last [] events bytes mid after → MakesParts view session left before after
@@ -149,7 +176,7 @@ module _ {D : Type 0} (view : View D) (session : ℕ) (left : Bool) where
       silent = λ none nothing. absurd (omega (arith, some, none, nothing));
       begun = asked.begun;
     },
-    made.4,
+    made_from before mid after made.1 asked.answers asked.adds made.4,
   )
 
   -- nothing was taken
@@ -164,7 +191,7 @@ module _ {D : Type 0} (view : View D) (session : ℕ) (left : Bool) where
       silent = asked.silent;
       begun = asked.begun;
     },
-    wants_room (λ (took : List Incoming) (answers : List Answer). SomeRunTo view (Some session) left took answers) session piece left events bytes before after none nothing asked,
+    made_to_full (λ (took : List Incoming) (answers : List Answer). SomeRunTo view (Some session) left took answers) session piece left events bytes before before after [] none nothing (grows_none before) asked,
   )
 
 -- what is known of an ask of a piece up to the last part

@@ -58,16 +58,20 @@ module _ {D : Type 0} (view : View D) (IsStart : HubState D → Type 0) where
   pub told_kept : (was mid now hub : HubState D) (answer : Result (Unit {0}) Refusal) (message : Message) → mid ≡ was → now ≡ hub → Ends mid hub answer → IsInOrderOf view IsStart message was → IsBehindMessage view message answer now
   told_kept was mid now hub answer message same is ends w =
       let o = w.0 in
-      let ran = ends o.old o.message (subst (λ (h : HubState D). IsUnkept view o.old o.message h) (sym same) o.unkept) in
-      (o.old, subst (λ (h : HubState D). IsHubOrdered view o.old message h answer) (sym is) (subst (λ (m : Message). IsHubOrdered view o.old m hub answer) w.1 ran))
+      let ran = ends o.old o.message (subst (λ (h : HubState D). IsUnkept view o.old o.message h) (sym same) o.unkept) in (
+        o.line,
+        subst (λ (m : Message). reading o.line ≡ Ok m) w.1 o.reads,
+        o.old,
+        subst (λ (h : HubState D). IsHubOrdered view o.old message h answer) (sym is) (subst (λ (m : Message). IsHubOrdered view o.old m hub answer) w.1 ran),
+      )
 
   pub order_begun : (old : HubState D) (f : Flushing (HubState D) (HubState D)) (message : Message) (line : List ℕ) → reading line ≡ Ok message → IsFrom view IsStart old → IsOrdering view old message f → IsOrderGone view IsStart message f
-  order_begun old (flushing.Done new answer) message line is from ran = (came_of old new message line answer is from ran, (old, ran))
+  order_begun old (flushing.Done new answer) message line is from ran = (came_of old new message line answer is from ran, (line, is, old, ran))
   order_begun old (flushing.Midway mid) message line is from u = (record { old = old; from = from; message = message; line = line; reads = is; unkept = u }, refl)
 
   gone : (old : HubState D) (f : Flushing (HubState D) (HubState D)) (its message : Message) (line : List ℕ) → its ≡ message → reading line ≡ Ok its → IsFrom view IsStart old → IsOrdering view old its f → IsOrderGone view IsStart message f
   gone old (flushing.Done new answer) its message line same is from ran =
-      (came_of old new its line answer is from ran, (old, subst (λ (m : Message). IsHubOrdered view old m new answer) same ran))
+      (came_of old new its line answer is from ran, (line, subst (λ (m : Message). reading line ≡ Ok m) same is, old, subst (λ (m : Message). IsHubOrdered view old m new answer) same ran))
   gone old (flushing.Midway mid) its message line same is from u = (record { old = old; from = from; message = its; line = line; reads = is; unkept = u }, same)
 
   pub order_gone : (mid : HubState D) (f : Flushing (HubState D) (HubState D)) (message : Message) → IsInOrderOf view IsStart message mid → ((old : HubState D) (m : Message) → IsUnkept view old m mid → IsOrdering view old m f)
@@ -80,10 +84,10 @@ pub ordered_asked : {D : Type 0} (view : View D) (message : Message) (line : Lis
     → IsAsked (λ took answers. SomeRun view took answers) (Orders line) 1 0 before after
 ordered_asked view message line answer before after told is grows =
     let hub = told.0 in
-    let old = told.1.0 in
+    let old = told.1.2 in
     record {
       answers = flush_told answer ∷ [];
-      did = (sessions_of old.slots, old.pool, sessions_of hub.slots, hub.pool, told.1.1 line is);
+      did = (sessions_of old.slots, old.pool, sessions_of hub.slots, hub.pool, told.1.3 line is);
       adds = grows;
       cut = (refl, refl);
       silent = λ none nothing. absurd (omega (arith, none));

@@ -3,7 +3,7 @@ use Rattle.std.specs.Prelude.{◌≡◌, ℕ, Bool, true, false, List, [], ◌�
 use Rattle.tp_model.specs.Clauses.{View}
 use Rattle.nbd_session.specs.Session.{is_at_work}
 use Rattle.nbd_session.specs.Turns.{Sessions}
-use Rattle.tp_hub.specs.Told.{Answer, Grows, HasRoom, Told}
+use Rattle.tp_hub.specs.Told.{Answer, Grows, IsFull, Told}
 use Rattle.tp_hub.specs.Runs.{Brings, Incoming}
 use Rattle.tp_hub.specs.Serving.{HubState}
 use Rattle.tp_hub.specs.Desks.{AreAsked, Exchange, IsAsked, RunsSo}
@@ -44,13 +44,13 @@ abbrev pub ArePartRuns : {D : Type 0} → View D → ℕ → Bool → List (List
 ArePartRuns view n left [] last = last ≡ left
 ArePartRuns view n left (answers ∷ later) last = (left ≡ true) × (more : Bool) × SomeRunTo view (Some n) more (Brings n [] ∷ []) answers × ArePartRuns view n more later last
 
--- No part is left, or the last ask took nothing, since one longest answer did not fit. last: whether parts are left.
-abbrev pub AreAllMade : Bool → Told → Type 0
-AreAllMade last after = (last ≡ false) ⊎ ((before : Told) × Grows before after [] × (HasRoom before → ⊥))
+-- No part is left, or one longest answer more does not fit in the room that there was first. last: whether parts are left.
+abbrev pub AreAllMade : Told → Bool → Told → Type 0
+AreAllMade first last after = (last ≡ false) ⊎ IsFull (record { list = after.list; room = first.room; marks = first.marks })
 
 -- Parts are made so, and their answers were added. left: whether there were any.
 abbrev pub MakesParts : {D : Type 0} → View D → ℕ → Bool → Told → Told → Type 0
-MakesParts view n left before after = (parts : List (List Answer)) × (last : Bool) × ArePartRuns view n left parts last × Grows before after (all_of parts) × AreAllMade last after
+MakesParts view n left before after = (parts : List (List Answer)) × (last : Bool) × ArePartRuns view n left parts last × Grows before after (all_of parts) × AreAllMade before last after
 
 -- Some sessions over some pool take these events, and behind them the parts are made of a long request that they end with, between which others may ask. The
 -- answers are those of all. last: whether parts are left behind the last ask.
@@ -67,7 +67,7 @@ pub record RunsInParts {D : Type 0} (view : View D) (last : Bool) (took : List I
 -- A piece is asked so, up to the last part.
 abbrev pub AsksInParts : {D : Type 0} → View D → ℕ → List ℕ → ℕ → ℕ → Told → Told → Type 0
 AsksInParts view n piece events bytes before after =
-    (last : Bool) × IsAsked (λ took answers. RunsInParts view last took answers) (Brings n piece) events bytes before after × AreAllMade last after
+    (last : Bool) × IsAsked (λ took answers. RunsInParts view last took answers) (Brings n piece) events bytes before after × AreAllMade before last after
 
 -- What is known of one ask.
 abbrev pub SomeRuns : {D : Type 0} → View D → List Incoming → List Answer → Type 0

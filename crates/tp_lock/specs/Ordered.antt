@@ -41,9 +41,9 @@ second_of orders.ReserveMetadataSnap = 0
 second_of orders.ReleaseMetadataSnap = 0
 
 module _ {D : Type 0} (view : View D) where
-  -- A hub is behind this message, with this answer: it was one run of some hub, by any line that is the message.
+  -- A hub is behind this message, with this answer: some line is the message, and by any such line it was one run of some hub.
   abbrev pub IsBehindMessage : Message → Result (Unit {0}) Refusal → HubState D → Type 0
-  IsBehindMessage message answer new = (old : HubState D) × IsHubOrdered view old message new answer
+  IsBehindMessage message answer new = (line : List ℕ) × (reading line ≡ Ok message) × (old : HubState D) × IsHubOrdered view old message new answer
 
   -- what is known of an answer to it
   abbrev pub IsMessageTold : Message → Result (Unit {0}) Refusal → Type 0

@@ -112,7 +112,7 @@ impl<'a, V: Staged, A: Alarm<V>, K: Start<V>> HubLock<'a, V, A, K> {
         self.alarm
     }
 
-    /// Why the pool of a hub that one has alone has failed, where it has, and the alarm has not sounded: it is to be told.
+    /// Why the pool of a hub that nobody changes meanwhile has failed, where it has, and the alarm has not sounded: it is to be told.
     fn cause(&self, hub: &Since<V, K>, is_failed: bool) -> Option<A::Cause>
         ensures { IfSome result (λ cause. is_failed ≡ true) }
     {
@@ -349,7 +349,6 @@ fn seats_of<V: Staged, K: Start<V>>(hub: &Guarded<V, K>) -> [Seat; SESSIONS]
 #[derive(Clone, Copy)]
 struct Seen {
     ran: Ran,
-    is_failed: bool,
     /// Parts of a request of its session are left.
     is_at_work: bool,
     /// Nothing but a FLUSH is left of it.
@@ -420,7 +419,6 @@ fn ask_and_look<V: Managed + Staged, A: Alarm<V>, K: Start<V>>(
     ensures asked { IsAsked (λ took answers. SomeRun V.view took answers) (incoming event.entry) result.0.ran.events result.0.ran.bytes out.old out.new }
     ensures did { (old : HubState V) × (new : HubState V) × (hub.old.stage ≡ Whole old) × (hub.new.stage ≡ Whole new)
         × IsAsked (λ took answers. HubRuns V.view old took answers new) (incoming event.entry) result.0.ran.events result.0.ran.bytes out.old out.new
-        × (result.0.is_failed ≡ is_failed (V.view.outline new.pool).mode)
         × (result.0.is_at_work ≡ has_left (sessions_of new.slots) (hearer_in (incoming event.entry)))
         × (result.0.is_to_flush ≡ has_flush (sessions_of new.slots) (hearer_in (incoming event.entry))) }
     ensures told { IsAsked (λ took answers. SomeRunTo V.view (hearer_in (incoming event.entry)) result.0.is_at_work took answers) (incoming event.entry) result.0.ran.events result.0.ran.bytes
@@ -431,13 +429,12 @@ fn ask_and_look<V: Managed + Staged, A: Alarm<V>, K: Start<V>>(
     match &mut hub.stage {
         Stage::Whole(since) => {
             let ran = since.ask(alloc, event, out);
-            let is_failed = has_failed(since);
             let is_at_work = has_work(since, hearer);
             let is_to_flush = has_flush(since, hearer);
+            let is_failed = has_failed(since);
             let cause = lock.cause(since, is_failed);
             let seen = Seen {
                 ran,
-                is_failed,
                 is_at_work,
                 is_to_flush,
             };
@@ -455,7 +452,7 @@ fn purpose_of(event: &Event<'_>) -> HubUse {
     }
 }
 
-/// `Keep` for what is to keep what was written, as a FLUSH that is left of a WRITE is, and else `Change`.
+/// `Keep` for what is to keep what was written, as a FLUSH that is left of a request is, and else `Change`.
 fn purpose_if(is_to_keep: bool) -> HubUse
     ensures { result ≡ purpose_if is_to_keep }
 {
@@ -538,7 +535,8 @@ fn tell(answer: Result<(), Refusal>, out: &mut Answers)
     }
 }
 
-/// Has a hub behind a lock make a message, while READs go on where the device brings what it wrote. None where it is to be asked for as any other event.
+/// Has a hub behind a lock make a message, while READs go on where the device brings what it wrote. None would be a hub in the midst of another message, of which this
+/// one was not made: the turn is held up to the end, so there is none.
 fn order<R: Wait, V: Managed + Staged, A: Alarm<V>, K: Start<V>>(
     rt: &R,
     hub: &HubLock<'_, V, A, K>,

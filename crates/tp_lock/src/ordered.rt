@@ -74,7 +74,8 @@ fn are_same(
     kind == its_kind && (first == its_first && second == its_second)
 }
 
-/// A hub in the middle of a message, which three numbers tell. The hub before the message came of such a start.
+/// A hub in the middle of a message, which three numbers tell: the message itself would have a `DevId` two enums down in `Stage`, which the borrow checker does not
+/// cover. The hub before the message came of such a start.
 #[derive(Drop)]
 pub(crate) struct MidOrdered<V: Staged, K: Start<V>> {
     mid: MidMessage<V>,

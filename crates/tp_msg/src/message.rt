@@ -18,11 +18,14 @@ pub enum Message {
     Delete { id: DevId },
     /// `set_transaction_id <current id> <new id>`: the pool's transaction id becomes the new one, where it is the current one. Refused by `StaleTransactionId`.
     SetTransactionId { current: u64, next: u64 },
-    /// `grow <dev id> <blocks>`: the volume, which nobody holds, gets so many blocks of its pool's block size; those behind its old end have no data block. At its
-    /// present size nothing changes. Refused by `NoSuchDevice`, `Busy`, `BadSize` (fewer blocks than it has, or more than 16777216) or `NoMetadataSpace`.
+    /// `grow <dev id> <blocks>`: the volume, which nobody holds, gets so many blocks of its pool's block size; those behind its old end have no data block, so they
+    /// read zero. A snapshot keeps its own size. At its present size nothing changes. Refused by `NoSuchDevice`, `Busy`,
+    /// `BadSize` (fewer blocks than it has, or more than 16777216) or `NoMetadataSpace`.
     Grow { id: DevId, blocks: u64 },
-    /// `reserve_metadata_snap`: the mapping of all volumes is held as it is now. Refused by `HeldRootExists` or `NoMetadataSpace`.
+    /// `reserve_metadata_snap`: the mapping of all volumes is held as it is now. Until it is given up, what the volumes have now can be read, whatever becomes of them.
+    /// Refused by `HeldRootExists` or `NoMetadataSpace`.
     ReserveMetadataSnap,
-    /// `release_metadata_snap`: what is held is given up. Refused by `NoHeldRoot`.
+    /// `release_metadata_snap`: what is held is given up. Data blocks that only it had are free again. It is never refused for want of room.
+    /// Refused by `NoHeldRoot`.
     ReleaseMetadataSnap,
 }

@@ -20,16 +20,16 @@ use tp_disk::{Disk, Fault};
 use tp_meta::{Home, Metadata};
 use tp_model::{DevId, Geometry, Refusal, Vb};
 
-/// A call that may change metadata wants so many free metadata blocks.
+/// How many metadata blocks must be free before a call that may change metadata.
 pub(crate) const METADATA_ROOM: u32 = 512;
 
-/// The removal of a volume takes at most so many.
+/// The most metadata blocks that the removal of a volume takes.
 const DELETE_ROOM: u32 = 16;
 
-/// A trim wants so many.
+/// How many metadata blocks must be free before a TRIM.
 pub(crate) const TRIM_ROOM: u32 = 256;
 
-/// The removal of a volume wants so many while a metadata root is held, since it copies nodes that the held one shares.
+/// How many must be free before a volume is removed while a metadata root is held: nodes that the held root shares are copied then.
 const REMOVAL_ROOM: u32 = 256;
 
 /// How many of the blocks of a request have no data block of their own, and how many are to be written to a new one.
@@ -39,7 +39,7 @@ pub(crate) struct Demand {
     pub(crate) taken: u32,
 }
 
-/// Whether fewer metadata blocks are not in use than that.
+/// Whether fewer metadata blocks than `least` are free.
 pub(crate) fn lacks<M: Metadata>(metadata: &M, least: u32) -> bool
     ensures { (disk : DiskState) (now kept : Contents) → M.stands metadata.now disk now kept
         → IsTrue result ↔ LacksBlocks least (M.geometry metadata.now) now }
@@ -51,7 +51,7 @@ pub(crate) fn lacks<M: Metadata>(metadata: &M, least: u32) -> bool
         < least
 }
 
-/// Whether fewer metadata blocks are not in use than a call wants.
+/// Whether fewer metadata blocks are free than a call that may change metadata wants.
 pub(crate) fn lacks_metadata<M: Metadata>(metadata: &M) -> bool
     ensures { (disk : DiskState) (now kept : Contents) → M.stands metadata.now disk now kept
         → IsTrue result ↔ LacksMetadata (M.geometry metadata.now) now }
@@ -66,7 +66,7 @@ pub(crate) fn holds_root<M: Metadata>(metadata: &M) -> bool
     metadata.held_root() != 0
 }
 
-/// Whether a metadata root is held, and fewer metadata blocks are not in use than the removal of a volume wants then.
+/// Whether a metadata root is held, and fewer metadata blocks are free than the removal of a volume wants then.
 pub(crate) fn lacks_for_removal<M: Metadata>(metadata: &M) -> bool
     ensures { (disk : DiskState) (now kept : Contents) → M.stands metadata.now disk now kept
         → IsTrue result ↔ LacksForRemoval (M.geometry metadata.now) now }
@@ -146,7 +146,7 @@ fn is_among(first: u64, count: u64, block: u64) -> bool
     first <= block && block - first < count
 }
 
-/// What a request asks for one block, if it leaves that with a data block of its own.
+/// What one block of a request adds to its demand: nothing, unless the block is to have a data block of its own behind it.
 fn demand_of(is_owned: bool, home: &Option<Home>) -> Demand
     ensures wanted { result.wanted ≡ (if is_owned && told_wanted home.now then 1 else 0) }
     ensures taken { result.taken ≡ (if is_owned && told_taken home.now then 1 else 0) }

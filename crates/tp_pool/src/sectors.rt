@@ -9,10 +9,10 @@ use tp_model::{Geometry, Vb};
 /// Bytes of a sector.
 pub(crate) const SECTOR: u64 = 512;
 
-/// No volume has more blocks.
+/// The most blocks that a volume may have.
 const MOST_VOLUME: u32 = 16_777_216;
 
-/// As many blocks as 2048 sectors may touch.
+/// The most blocks that a request touches: 2048 sectors, of blocks of 128.
 pub(crate) const MOST_BLOCKS: usize = 17;
 
 /// The blocks of a volume for which whoever holds it was told so many: no fewer than the pool's own size has, and no more than a volume may have.

@@ -98,7 +98,7 @@ pub(crate) fn together(purpose: Purpose, homes: &[Option<Home>], index: usize) -
     }
 }
 
-/// How many blocks from this one on, so many at most but one at least, have no data block that may be written in place.
+/// How many blocks from this one on cannot be written in place: at least one, since this one cannot, and else at most `most`.
 fn new_together(homes: &[Option<Home>], index: usize, most: u64) -> u32
     requires few { length homes.now ≤ 17 }
     requires inside { index < length homes.now }

@@ -11,7 +11,9 @@ use tp_served::Served;
 
 /// Volumes of which is known whether a mapping of them is held.
 pub trait HoldsMapping: Walked {
-    /// Whether a mapping is held: Ok, or 21, 5, 2. It writes nothing.
+    /// Whether a mapping is held. It writes nothing.
+    ///
+    /// Refused by `Failed`, `Fault` or `Damaged`.
     fn is_held(&mut self) -> Result<bool, Refusal>
         ensures looks { LooksOver Self.view self.old self.new result }
         ensures still { ShowsStill Self.view self.old self.new }

@@ -122,8 +122,10 @@ fn tell_free<V: HoldsMapping, S: Stream>(
     }
 }
 
-/// Looks a pool over and prints what was found, as lines or as one line of JSON: Ok, or 21, 15 (there is no such volume), 26 (free blocks, while a mapping is held), 10, 5, 2. It writes nothing to the pool.
-/// Nothing is printed where it is refused, but for a stream that fails.
+/// Looks a pool over and prints what was found, as lines or as one line of JSON. It writes nothing to the pool. Nothing is printed where it is refused, but for a
+/// stream that fails.
+///
+/// Refused by `Failed`, `NoSuchDevice` (there is no such volume), `HeldRootExists` (free blocks, while a mapping is held), `Memory`, `Fault` or `Damaged`.
 pub fn tell<V: HoldsMapping, S: Stream>(
     alloc: Global,
     pool: &mut V,

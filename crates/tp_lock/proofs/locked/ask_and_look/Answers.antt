@@ -16,7 +16,6 @@ returns-clause-did g c = (
   c.in-Whole.is,
   refl,
   c.ask-ran.ensures.asked,
-  c.has_failed-is_failed.ensures,
   c.has_work-is_at_work.ensures ∙ ap (has_left (sessions_of c.ask-ran.new.self.slots)) c.hearer_of-hearer.ensures.its,
   c.has_flush-is_to_flush.ensures ∙ ap (has_flush (sessions_of c.ask-ran.new.self.slots)) c.hearer_of-hearer.ensures.its,
 )
