@@ -63,7 +63,7 @@ def try_all(groups, program, folder, counts):
 
 
 def main(groups, program, folder=None):
-    """Tries groups of cases, and gives the exit status: 0 where none failed."""
+    """Tries groups of cases, and gives the exit status: 0 where a case passed and none failed."""
     # So that all is cleared away where it is told to stop.
     signal.signal(signal.SIGTERM, lambda *_: sys.exit(1))
     counts = dict.fromkeys(("ok", "FAILED", "skipped"), 0)
@@ -74,5 +74,7 @@ def main(groups, program, folder=None):
         print(f"FAILED  an image to begin from: {why}")
     finally:
         end_all()
-    print(f"{counts['ok']} ok, {counts['FAILED']} failed, {counts['skipped']} skipped")
-    return 1 if counts["FAILED"] else 0
+    if not counts["ok"] and not counts["FAILED"]:
+        print("no case was tried")
+    print(f"{counts['ok']} passed, {counts['FAILED']} failed, {counts['skipped']} skipped")
+    return 1 if counts["FAILED"] or not counts["ok"] else 0

@@ -50,11 +50,14 @@ def without_comment(line):
 
 
 def uses_in(text):
-    """The names in a text, each with the name behind a dot that follows it at once. Fields, labels of fields and texts are no names."""
+    """The names in a text, each with the name that follows it after a dot.
+
+    Fields, labels of fields, names that are given a type (`order: Order`) and texts are no uses."""
     for it in TOKEN.finditer(text):
         before, behind = text[:it.start()], text[it.end():it.end() + 80]
         is_field = re.search(r"\S\.$", before[-2:])
         is_label = re.match(r"\s*=[^=]", behind) and LABEL.search(before[-40:])
+        is_label = is_label or re.match(r"\s*:(?!:)", behind)
         if not is_field and not is_label and not it.group().startswith('"'):
             member = re.match(r"(?:\.|::)(\w[^\s(){}.;,λ]*)", behind)
             yield it.group(), member and member.group(1)

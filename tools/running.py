@@ -18,8 +18,12 @@ BLOCK = 65536
 MIB = 1 << 20
 # The most seconds of each wait.
 LIMIT = int(os.environ.get("LIMIT", "120"))
-READ, WRITE, DISC, FLUSH, TRIM, ZEROES = 0, 1, 2, 3, 4, 6
+READ, WRITE, DISC, FLUSH, TRIM, ZEROES, BLOCK_STATUS = 0, 1, 2, 3, 4, 6, 7
 FUA = 1
+# Options, and the replies to one that others follow.
+LIST, INFO, GO, STRUCTURED_REPLY, LIST_CONTEXTS, SET_CONTEXTS = 3, 6, 7, 8, 9, 10
+NOT_LAST = (2, 3, 4)
+CLIENT_FLAGS = struct.pack(">I", 3)
 CALL = re.compile(r"^(?:\d+ +)?(\w+)\((?:AT_FDCWD<[^>]*>, )?(\d+)<([^>]*)>.* = (-?\d+)")
 STARTED = []
 
@@ -208,9 +212,17 @@ def request(kind, offset=0, length=0, data=b"", flags=0, cookie=1):
 
 def go(export="0"):
     """The client flags, and GO of a volume."""
-    name = export.encode()
-    data = struct.pack(">I", len(name)) + name + struct.pack(">H", 0)
-    return struct.pack(">I", 3) + option(7, data)
+    return CLIENT_FLAGS + option(GO, with_length(export) + struct.pack(">H", 0))
+
+
+def with_length(text):
+    """A text after its length."""
+    return struct.pack(">I", len(text)) + text.encode()
+
+
+def contexts(export, *queries):
+    """The data of LIST_META_CONTEXT and SET_META_CONTEXT."""
+    return with_length(export) + struct.pack(">I", len(queries)) + b"".join(map(with_length, queries))
 
 
 def option(kind, data=b""):
@@ -274,6 +286,21 @@ class Client:
                 self.size = struct.unpack(">Q", data[2:10])[0]
         want((kind == 1, f"GO of {export} is answered {kind:x}"))
         return self
+
+    def replies(self):
+        """The replies to an option: the type and the data of each. The last one is ACK or an error."""
+        found = []
+        while not found or found[-1][0] in NOT_LAST:
+            _, _, kind, length = struct.unpack(">QIII", self.receive(20))
+            found.append((kind, self.receive(length)))
+        return found
+
+    def choose(self, kind, data=b""):
+        """The replies to an option that must be accepted."""
+        self.send(option(kind, data))
+        found = self.replies()
+        want((found[-1][0] == 1, f"option {kind} is answered {found[-1][0]:x}"))
+        return found
 
     def ask(self, kind, offset=0, length=0, data=b"", flags=0):
         """The error that a request is answered, and the bytes that are read."""

@@ -317,67 +317,129 @@ def left_folder(host):
     want((not os.path.exists(folder), "the folder is left"))
 
 
-# ---- peers that are gone without a word
+# ---- peers that are gone without a word, and one that lives
 
 NAMESPACE = f"thinpool-{os.getpid()}"
-# The system asks a silent peer behind a minute, and gives up a minute later.
+NEAR, FAR = "10.213.77.1/30", "10.213.77.2/30"
+# The system asks a silent peer after a minute, and gives up a minute later.
 GONE = 150
+# How often the system sends in vain what a peer does not acknowledge. Five times take 12.6 s at
+# least; 15 times, where nobody has set it, 924.6 s.
+RETRIES = 5
+# Seconds for which a peer that lives receives nothing.
+PATIENT = int(os.environ.get("PATIENT", "150"))
+DEAD = "a silent peer loses its place two minutes after its packets are dropped, and one with " \
+    f"answers unacknowledged after {RETRIES} retransmissions"
 
 
 def dead_peers(ground):
-    """peers of `run` at a TCP address whose packets are dropped from some moment on, in a network namespace of their own; some two minutes"""
-    yield "one that is silent, and one that takes no answers, lose their places within two minutes or so", partial(lose_their_places, Host(ground, "tcp"))
+    """peers of `run` at a TCP address: two whose packets are dropped from some moment on, and one
+    that lives and receives nothing; some five minutes"""
+    yield DEAD, partial(lose_their_places, Host(ground, "unix"))
+    yield f"a peer that receives nothing for {PATIENT} s loses nothing", partial(
+        receives_nothing, Host(ground, "tcp")
+    )
+
+
+def setup_of(name, ours, theirs):
+    """The commands of ip that link a network namespace, and have it give up early."""
+    retries = "/proc/sys/net/ipv4/tcp_retries2"
+    return [
+        ["link", "add", ours, "type", "veth", "peer", "name", theirs, "netns", name],
+        ["addr", "add", NEAR, "dev", ours],
+        ["link", "set", ours, "up"],
+        ["-n", name, "addr", "add", FAR, "dev", theirs],
+        ["-n", name, "link", "set", theirs, "up"],
+        ["netns", "exec", name, "sh", "-c", f"echo {RETRIES} > {retries}"],
+    ]
 
 
 @contextlib.contextmanager
 def network():
-    """A link to another network namespace: the address on this side, and the words before a program of the other one."""
+    """A link to another network namespace: its name, and the device on this side."""
     as_root()
     name, ours, theirs = NAMESPACE, f"tp{os.getpid() % 10000}a", f"tp{os.getpid() % 10000}b"
     if run(["ip", "netns", "add", name]).status:
         raise Skipped("no network namespace can be made")
     try:
-        for words in (["link", "add", ours, "type", "veth", "peer", "name", theirs, "netns", name], ["addr", "add", "10.213.77.1/30", "dev", ours], ["link", "set", ours, "up"],
-                      ["-n", name, "addr", "add", "10.213.77.2/30", "dev", theirs], ["-n", name, "link", "set", theirs, "up"]):
+        for words in setup_of(name, ours, theirs):
             ran = run(["ip", *words])
             if ran.status:
                 raise Skipped(f"ip {' '.join(words)}: {ran.err.decode(errors='replace').strip()}")
-        yield "10.213.77.1", name, theirs
+        yield name, ours
     finally:
         run(["ip", "link", "del", ours])
         run(["ip", "netns", "del", name])
 
 
 def lose_their_places(host):
-    image = host.pool()
-    with network() as (address, name, theirs), host.killed(image, "--listen", f"{address}:0") as server:
-        port = int(re.search(rf"listening on {re.escape(address)}:(\d+)\n", server.told())[1])
-        peers = [start(["ip", "netns", "exec", name, *peer(address, port, kind)], stdin=subprocess.DEVNULL, stdout=subprocess.PIPE) for kind in ("silent", "deaf")]
+    address = FAR.split("/")[0]
+    with network() as (name, ours):
+        how = {"before": ["ip", "netns", "exec", name], "more": ["--listen", f"{address}:0"]}
+        server = host.ground.stays(host.pool(), is_controlled=True, over="unix", **how)
         try:
-            for it in peers:
-                want((it.stdout.readline() == b"there\n", "a client does not come through"))
-            server.waits_for("2 of 64: 0 0")
-            run(["ip", "-n", name, "link", "set", theirs, "down"])
-            took = [until_gone(server, "1 of 64: 0"), until_gone(server, "0 of 64:")]
+            took = without_packets(server, address, ours)
+            written_and_flushed(server).leave()
+            server.finish()
         finally:
-            for it in peers:
-                kill(it)
-        written_and_flushed(server).leave()
-        server.finish()
-    return f"gone behind {took[0]:.0f} and {took[1]:.0f} s"
+            server.kill()
+    want((took[0] < 60, f"what the system does not get rid of is left for {took[0]:.0f} s"))
+    return f"one was gone after {took[0]:.0f} s, and the other one {took[1]:.0f} s later"
+
+
+def without_packets(server, address, ours):
+    """The seconds until two peers are gone, one after the other, whose packets are dropped."""
+    port = int(re.search(rf"listening on {re.escape(address)}:(\d+)\n", server.told())[1])
+    how = {"stdin": subprocess.DEVNULL, "stdout": subprocess.PIPE}
+    peers = [start(peer(address, port, kind), **how) for kind in ("silent", "deaf")]
+    try:
+        for it in peers:
+            want((it.stdout.readline() == b"there\n", "a client does not come through"))
+        server.waits_for("2 of 64: 0 0")
+        run(["ip", "link", "set", ours, "down"])
+        return until_gone(server, "1 of 64: 0"), until_gone(server, "0 of 64:")
+    finally:
+        for it in peers:
+            kill(it)
+
+
+PEER = """
+import socket, sys, time
+from running import *
+it = socket.create_connection((sys.argv[1], int(sys.argv[2])))
+it = Client(it.fileno(), it.fileno(), [it]).go("0")
+if sys.argv[3] == "deaf":
+    it.send(b"".join(request(READ, 0, MIB) for _ in range(64)))
+print("there", flush=True)
+time.sleep(3600)
+"""
 
 
 def peer(address, port, kind):
-    """A client that stays, and says that it is there: silent, or one that has asked for 64 MiB of which it takes none."""
-    code = "import os, socket, sys, time; from running import *; it = socket.create_connection((sys.argv[1], int(sys.argv[2]))); it = Client(it.fileno(), it.fileno(), [it]).go('0'); " \
-        "sys.argv[3] == 'deaf' and it.send(b''.join(request(READ, 0, MIB) for _ in range(64))); print('there', flush=True); time.sleep(3600)"
-    return ["env", f"PYTHONPATH={os.path.dirname(os.path.dirname(os.path.realpath(__file__)))}", "python3", "-B", "-c", code, address, str(port), kind]
+    """A client that stays and prints "there": silent, or deaf, which has asked for 64 MiB and
+    receives none of it."""
+    tools = os.path.dirname(os.path.dirname(os.path.realpath(__file__)))
+    words = ["python3", "-B", "-c", PEER, address, str(port), kind]
+    return ["env", f"PYTHONPATH={tools}", *words]
 
 
 def until_gone(server, answer):
     """The seconds until this is told of clients."""
     began = time.monotonic()
-    while server.control("clients") not in (answer, "0 of 64:"):
-        want((time.monotonic() - began < GONE, f"clients is still answered {server.control('clients')!r}"))
+    while (told := server.control("clients")) not in (answer, "0 of 64:"):
+        want((time.monotonic() - began < GONE, f"clients is still answered {told!r}"))
         time.sleep(0.5)
     return time.monotonic() - began
+
+
+def receives_nothing(host):
+    """It has asked for 64 MiB, receives nothing for some minutes, and then everything."""
+    with host.up(host.pool()) as server:
+        client, data = server.client(), os.urandom(MIB)
+        client.do(WRITE, 0, data=data)
+        client.send(b"".join(request(READ, 0, MIB) for _ in range(64)))
+        time.sleep(PATIENT)
+        for at in range(64):
+            client.receive(16)
+            want((client.receive(MIB) == data, f"answer {at} has other bytes"))
+        client.leave()

@@ -10,6 +10,7 @@ import threading
 import time
 from functools import partial
 
+from client_cases import ending
 from client_cases.hosts import BLOCKS, VOLUME, Files, Host, done, refused, want_same, wants
 from running import BLOCK, DISC, FLUSH, LIMIT, MIB, READ, WRITE
 from running import Client, Failed, Stuck, end_of, go, kill, request, start, want
@@ -34,7 +35,7 @@ def staying_tcp(ground):
 
 def staying(ground, over):
     host = Host(ground, over)
-    for name, case in CASES:
+    for name, case in (*CASES, *ending.CASES):
         yield f"{over}: {name}", partial(case, host)
 
 
@@ -328,8 +329,8 @@ def control_lines(host):
         busy = server.ask("delete 1")
         want((busy.status == 1 and busy.out == b"refused 16\n", busy.told()))
         client.leave()
-        # A place is told as the words name it, which leave the port to the system here.
-        where = re.escape(str(server.place)) if host.over == "unix" else r"127\.0\.0\.1:0 from 127\.0\.0\.1:\d+"
+        # The words leave the port to the system, which is told as it is.
+        where = re.escape(str(server.place)) + ("" if host.over == "unix" else r" from 127\.0\.0\.1:\d+")
         number = server.tells(rf"{TIME}client (\d+) came to {where}\n")[1]
         want_bytes(server.tells(rf"{TIME}client {number} went: volume 1, (\d+) requests, (\d+) bytes in, (\d+) bytes out\n"))
         said = server.told()

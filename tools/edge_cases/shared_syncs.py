@@ -225,11 +225,11 @@ def during_a_sync(ground, image, moment):
 
 
 @contextlib.contextmanager
-def attached(ground, process, injected):
-    """strace on all threads of a process that runs, until what stands in this is done."""
+def attached(ground, process, injected, calls=ALL_SYNCS, trace=os.devnull):
+    """strace on all threads of a running process until the block ends. These calls of it are injected, and traced to a file."""
     told = ground.path("strace.err")
     with open(told, "wb") as err:
-        words = ["strace", "-f", "-o", os.devnull, "-e", f"trace={ALL_SYNCS}", "-e", f"inject={ALL_SYNCS}:{injected}", "-p", str(process.pid)]
+        words = [*strace(trace, calls, ["-e", f"inject={calls}:{injected}"]), "-p", str(process.pid)]
         tracer = start(words, stdin=subprocess.DEVNULL, stdout=subprocess.DEVNULL, stderr=err)
     for _ in range(50 * LIMIT):
         if b"attached" in held(told):

@@ -10,10 +10,13 @@ from running import BLOCK, FLUSH, FUA, READ, TRIM, WRITE, ZEROES
 from running import Client, Failed, Ground, Skipped, calls_in, end_of, held, kill, start, strace, want
 
 SYNCS = ("fsync", "fdatasync")
+# What drops the cached pages.
+ADVICE = ("fadvise64",)
 READS = ("read", "pread64", "readv", "preadv", "preadv2")
 WRITES = ("write", "pwrite64", "writev", "pwritev", "pwritev2")
-TRACED = ",".join([*SYNCS, *READS, *WRITES])
+TRACED = ",".join([*SYNCS, *ADVICE, *READS, *WRITES])
 FAILING = f"inject={','.join(SYNCS)}:error=EIO"
+NOT_DROPPING = f"inject={','.join(ADVICE)}:error=EIO"
 
 # What a client asks, each answered before the next: a name, the requests, and between how many syncs the answer to the last one stands.
 STEPS = [
@@ -40,9 +43,10 @@ def syncs(ground):
         raise Skipped("strace is not installed")
     for command in commands(ground):
         if command.has_image and command.name not in ("check", "status", "status of a volume"):
-            yield f"{command.name} syncs the image before it reads or writes it", partial(opens_settled, ground, command)
+            yield f"{command.name} syncs the image and drops its cached pages before it reads or writes it", partial(opens_settled, ground, command)
             if command.words:
-                yield f"{command.name} is refused where that sync fails, and has written nothing", partial(opens_unsettled, ground, command)
+                yield f"{command.name} is refused where that sync fails, and has written nothing", partial(opens_unsettled, ground, command, FAILING)
+                yield f"{command.name} is refused where no page can be dropped, and has written nothing", partial(opens_unsettled, ground, command, NOT_DROPPING)
     for name in ("new.img", "./new.img", "below/new.img", ground.path("new.img")):
         yield f"format of the absent {name} syncs its folder", partial(syncs_folder, ground, name)
     yield "format of an absent file is refused where the sync of its folder fails", partial(fails_to_sync_folder, ground)
@@ -66,9 +70,9 @@ def opens_settled(ground, command):
         ran, calls = ground.traced(TRACED, *command.words_for(image), given=command.given)
     else:
         ran, calls = visited(ground, image, strace(trace, TRACED)), calls_in(trace)
-    sync, touch = first(calls, SYNCS, image), first(calls, READS + WRITES, image)
+    sync, advice, touch = (first(calls, it, image) for it in (SYNCS, ADVICE, READS + WRITES))
     want((ran.status == 0, ran.told()), (touch < len(calls), "the image is neither read nor written"))
-    want((sync < touch, "the image is read or written before it is synced"))
+    want((sync < advice < touch, "the image is read or written before it is synced and its cached pages are dropped"))
 
 
 def visited(ground, image, before):
@@ -81,11 +85,11 @@ def visited(ground, image, before):
         server.kill()
 
 
-def opens_unsettled(ground, command):
-    """Each sync fails, the first one too."""
+def opens_unsettled(ground, command, fault):
+    """Each of these calls fails, the first one too."""
     image = command.image(ground, "unsynced.img")
     before = held(image)
-    ran, calls = ground.traced(TRACED, *command.words_for(image), more=["-e", FAILING], given=command.given)
+    ran, calls = ground.traced(TRACED, *command.words_for(image), more=["-e", fault], given=command.given)
     writes = sum(name in WRITES and path == image for name, _, path, _ in calls)
     # `format` sets the length before.
     same = command.name == "format" or held(image) == before

@@ -1,16 +1,18 @@
 -- A step over a pool is, from each state that the pool may have, a step over the plain pool.
-use Rattle.std.proofs.Common.{◌≡◌, ℕ, zero, suc, ◌+◌, ◌-◌, ◌*◌, ◌/◌, ◌<◌, ◌≤◌, ◌⊎◌, Bool, true, false, List, [], ◌∷◌, ◌++◌, length, take, Option, Some, None, refl, sym, ap, subst, ◌∙◌, arith, inl, inr, true≢false}
+use Rattle.std.proofs.Common.{◌≡◌, ◌≢◌, ℕ, zero, suc, ◌+◌, ◌-◌, ◌*◌, ◌/◌, ◌<◌, ◌≤◌, ◌⊎◌, Bool, true, false, List, [], ◌∷◌, ◌++◌, length, take, Option, Some, None, refl, sym, ap, subst, ◌∙◌, append_assoc, length-append, arith, inl, inr, true≢false}
 use Rattle.std.specs.Prelude.{IfSome, MatchOption, MatchBool, ◌==◌, if◌then◌else◌, nat_le, nat_lt}
 use Rattle.std.specs.List.{concat}
 use Rattle.std.specs.Ordering.{nat_cmp}
 use Rattle.std.specs.FinMap.{FinMap}
 use Rattle.std.specs.Option.{option_map_or}
+use Rattle.std.proofs.lemmas.Bool.{cases_eq, eq-eqb, eqb-false, eqb-true, lt-ltb}
 use Rattle.tp_model.specs.declared.refusal.NbdError.{NbdError}
 use Rattle.tp_model.specs.Requests.{form_error, is_flush, is_read, is_trim, is_write}
 use Rattle.tp_model.specs.Geometry.{Geometry, sectors_of_volume}
 use Rattle.tp_model.specs.Sectors.{sectors_of}
 use Rattle.tp_model.specs.Pool.{PlainPool, Outline, hold_count, hold_total}
 use Rattle.tp_model.specs.Calls.{Call, Answer, CreateSnap, Delete, Done, Gave, Line, Found, Refused, Sized, Listed, Hold, LetGo, NextId, Read, Trim, VolumeBlocks, Walk, Write, WriteZeroes, is_failed, holds_after}
+use Rattle.tp_holders.specs.Holders.{counts_of}
 use Rattle.nbd_wire.specs.declared.Kind.{Kind}
 use Rattle.nbd_wire.specs.declared.Request.{Request}
 use Rattle.nbd_wire.specs.declared.TheConstants.{COMMAND_DISC, OPTION_ABORT, OPTION_EXPORT_NAME, OPTION_GO, OPTION_INFO, OPTION_LIST, OPTION_LIST_META_CONTEXT, OPTION_SET_META_CONTEXT, OPTION_STRUCTURED_REPLY}
@@ -22,7 +24,6 @@ use Rattle.nbd_session.specs.declared.phase.ContextOf.{ContextOf}
 use Rattle.nbd_session.specs.declared.phase.ContextOf.TheVariants as contexts
 use Rattle.nbd_session.specs.declared.phase.Course.{Course}
 use Rattle.nbd_session.specs.declared.phase.Course.TheVariants.{Listens, Works}
-use Rattle.nbd_session.specs.declared.phase.Profile.{Profile}
 use Rattle.nbd_session.specs.declared.phase.Terms.{Terms}
 use Rattle.nbd_session.specs.declared.phase.Manner.{Manner}
 use Rattle.nbd_session.specs.declared.phase.Phase.{Phase}
@@ -36,11 +37,11 @@ use Rattle.nbd_session.specs.Buffers.{IsSound, wanted_in}
 use Rattle.nbd_session.specs.Held.{Gathers}
 use Rattle.nbd_session.specs.Holes.{has_blank}
 use Rattle.nbd_session.specs.Status.{IsAllocation, first_block, unit_of}
-use Rattle.nbd_session.specs.Session.{State, state, has_ended, Outcome, outcome, option_error, VolumeOption, clone_manner, export_name, go, has_clones, info, in_chunks, in_context, is_of_failure, is_of_none, is_there, is_at_work, is_extended, kind_of, left_in, limit_of, list_context, manner_in, manner_of, of_clone, uncloned, set_context, structures, terms_of, transmission_flags, without_context, chunk_to, reply_to, Clones, FindsNone, GivesUp, IsCloneHeld, IsCloneSized, IsCloned, Passes, Snaps, LetsGo, Begins, Ends, Tells, Serves, IsMade, MakesPart, IsDeaf, IsSized, Sizes, IsHeld, Holds, Enters, Finds, AsksFor, LooksFor, IsInvalid, IsValid, Informs, Exports, Finding, IsEnough, IsLast, IsRefused, Lists, NamesAll, NamesNone, Answers, Waits, TakesFrame, Steps, Compares, Extends, IsDescribed, IsNoQuery, IsQueried, Queries, Seeks, SeeksFor, Walks, Chooses, IsGiven, Performs, ReadsLong, SeeksHoles}
+use Rattle.nbd_session.specs.Session.{State, state, has_ended, Outcome, outcome, option_error, VolumeOption, clone_manner, export_name, go, has_clones, info, in_chunks, in_context, is_of_failure, is_of_none, is_there, is_at_work, is_extended, kind_of, left_in, ids_of, is_told_of, is_told_of_clone, limit_of, list_context, manner_by, manner_in, manner_of, older_in, own_in, volumes_in, of_clone, uncloned, set_context, structures, terms_of, transmission_flags, without_context, chunk_to, reply_to, Clones, FindsNone, GivesUp, IsCloneHeld, IsCloneSized, IsCloned, Passes, Snaps, AnswersOption, HoldsOlder, IsOlderHeld, LetsGo, LetsOlderGo, LetsOwnGo, Trades, Begins, Ends, Tells, Serves, IsMade, MakesPart, IsDeaf, IsSized, Sizes, IsHeld, Holds, Enters, Finds, AsksFor, LooksFor, IsInvalid, IsValid, Informs, Exports, Finding, IsEnough, IsLast, IsRefused, Lists, NamesAll, NamesNone, Answers, Waits, TakesFrame, Steps, Compares, Extends, IsDescribed, IsNoQuery, IsQueried, Queries, Seeks, SeeksFor, Walks, Chooses, IsGiven, Performs, ReadsLong, SeeksHoles}
 use Rattle.tp_model.specs.Clauses.{Continues, HasTrace, PoolCall, Traced, TracedCall, View, ViewLaws, outline_of_traced}
 use Rattle.tp_model.proofs.Running.{call_traced, goes_on, stays}
-use Rattle.nbd_session.specs.Clauses.{IsReady, Follows, GoesBeyond, HoldsFollow, KeepsSizes, PlainCall, Advances, Leaves, IsCalm, holds_between}
-use Rattle.nbd_session.proofs.Counting.{one_more, still_held}
+use Rattle.nbd_session.specs.Clauses.{IsReady, Follows, GoesBeyond, HoldsBeside, HoldsFollow, KeepsSizes, PlainCall, Advances, Leaves, IsCalm}
+use Rattle.nbd_session.proofs.Counting.{few_older, held_again, held_before, held_here, held_less, held_more, less_other, more_other, older_gone, older_held, older_here, one_more, still_held, total_is}
 use Rattle.nbd_session.proofs.Following.{steps_likewise, lets_go_likewise}
 use Rattle.nbd_session.proofs.Stepping.{calm_gathered, calm_state, deaf_holds, sound_few, steps_deaf, steps_wait, wanted_at_start}
 
@@ -54,31 +55,113 @@ size_stays : (p p' : Outline) (more more' : ℕ → ℕ) (v n : ℕ) → p'.geom
 size_stays p p' more more' v n g m is =
     is ∙ (ap (λ (x : Geometry). known_bytes x more v) (sym g) ∙ ap (λ (x : ℕ). 512 * (sectors_of_volume p'.geometry + x)) (sym m))
 
-ready_after : (p p' : Outline) (more more' : ℕ → ℕ) (phase next : Phase) → Follows phase next → p'.geometry ≡ p.geometry → HoldsFollow phase next p.holds p'.holds
-    → ((i : ℕ) → 0 < hold_count p.holds i → 0 < hold_count p'.holds i → more' i ≡ more i) → Knows phase next p' more' → IsReady phase p more → IsReady next p' more'
-ready_after p p' more more' (Flags a) (Options z) f g e m k h = let P : FinMap nat_cmp ℕ → Type 0 = λ x. hold_total x < 64 in subst P (sym e) h
-ready_after p p' more more' (Options y) (Options z) f g e m k h = let P : FinMap nat_cmp ℕ → Type 0 = λ x. hold_total x < 64 in subst P (sym e) h
-ready_after p p' more more' (Options z) (Transmission v n c) f g e m k h =
-    let here : hold_count p'.holds v ≡ hold_count p.holds v + 1 = ap (λ (x : FinMap nat_cmp ℕ). hold_count x v) e ∙ one_more p.holds v in
-    (omega (arith, here), k)
-ready_after p p' more more' (Transmission v n c) (Transmission w o d) f g e m k h =
-    let P : FinMap nat_cmp ℕ → Type 0 = λ x. 0 < hold_count x v in
-    let Q : ℕ → Type 0 = λ i. 0 < hold_count p'.holds i in
-    let R : ℕ → Type 0 = λ i. o ≡ known_bytes p'.geometry more' i in
-    let held : 0 < hold_count p'.holds v = subst P (sym e) h.0 in
-    (subst Q f.0 held, subst R f.0 (sym f.1 ∙ size_stays p p' more more' v n g (m v h.0 held) h.1))
-ready_after p p' more more' (Flags a) Ended f g e m k h = tt
-ready_after p p' more more' (Options z) Ended f g e m k h = tt
-ready_after p p' more more' (Transmission v n c) Ended f g e m k h = tt
-ready_after p p' more more' Ended Ended f g e m k h = tt
-ready_after p p' more more' (Flags a) (Flags b) f g e m k h = let P : FinMap nat_cmp ℕ → Type 0 = λ x. hold_total x < 64 in subst P (sym e) h
-ready_after p p' more more' (Flags a) (Transmission v n c) f g e m k h = absurd f
-ready_after p p' more more' (Options z) (Flags a) f g e m k h = absurd f
-ready_after p p' more more' (Transmission v n c) (Flags a) f g e m k h = absurd f
-ready_after p p' more more' (Transmission v n c) (Options z) f g e m k h = absurd f
-ready_after p p' more more' Ended (Flags a) f g e m k h = absurd f
-ready_after p p' more more' Ended (Options z) f g e m k h = absurd f
-ready_after p p' more more' Ended (Transmission v n c) f g e m k h = absurd f
+-- what a session knows of its size, where it has a volume
+abbrev KnowsSize : Phase → Outline → (ℕ → ℕ) → Type 0
+KnowsSize (Flags a) p more = Unit {0}
+KnowsSize (Options z) p more = Unit {0}
+KnowsSize (Transmission v n c) p more = n ≡ known_bytes p.geometry more v
+KnowsSize Ended p more = Unit {0}
+
+ready_by : (phase : Phase) (p : Outline) (more : ℕ → ℕ) → HoldsBeside (volumes_in phase) p.holds → KnowsSize phase p more → IsReady phase p more
+ready_by (Flags a) p more h k = h
+ready_by (Options z) p more h k = h
+ready_by (Transmission v n c) p more h k = (h, k)
+ready_by Ended p more h k = tt
+
+-- what others hold beside a session that has not ended
+holds_of : (phase : Phase) (p : Outline) (more : ℕ → ℕ) → has_ended phase ≡ false → IsReady phase p more → HoldsBeside (volumes_in phase) p.holds
+holds_of (Flags a) p more e h = h
+holds_of (Options z) p more e h = h
+holds_of (Transmission v n c) p more e h = h.0
+holds_of Ended p more e h = absurd (true≢false e)
+
+beside_next : (phase next : Phase) (h h' : FinMap nat_cmp ℕ) → HoldsFollow phase next h h' → HoldsBeside (volumes_in phase) h → HoldsBeside (volumes_in next) h'
+beside_next phase next h h' f w = record { others = w.others; few = w.few; all = f w.others w.all }
+
+few_own : (phase : Phase) → length (own_in phase) ≤ 1
+few_own (Flags a) = omega arith
+few_own (Options z) = omega arith
+few_own (Transmission v n c) = omega arith
+few_own Ended = omega arith
+
+-- there is room for the volume of a session that has none
+pub room_for_own : (id : ℕ) (h : FinMap nat_cmp ℕ) → HoldsBeside (ids_of id) h → hold_total h < 128
+room_for_own id h w = omega (arith, total_is (ids_of id ++ w.others) h w.all, length-append (ids_of id) w.others, few_older (nat_lt id 16777216) id, w.few)
+
+-- an older volume is held by its session
+pub older_beside : (own : List ℕ) (id : ℕ) (h : FinMap nat_cmp ℕ) → HoldsBeside (own ++ ids_of id) h → id < 16777216 → 0 < hold_count h id
+older_beside own id h w low = older_here (nat_lt id 16777216) id own w.others h (lt-ltb id 16777216 low) w.all
+
+pub older_is_held : (phase : Phase) (p : Outline) (more : ℕ → ℕ) → IsReady phase p more → older_in phase < 16777216 → 0 < hold_count p.holds (older_in phase)
+older_is_held (Flags a) p more ready low = absurd (omega (arith, low))
+older_is_held (Options z) p more ready low = older_beside [] z.since p.holds ready low
+older_is_held (Transmission v n c) p more ready low = older_beside (v ∷ []) (manner_in c).since p.holds ready.0 low
+older_is_held Ended p more ready low = absurd (omega (arith, low))
+
+-- the row of a session whose volume and older volume are these
+row : (phase : Phase) (others : List ℕ) (h : FinMap nat_cmp ℕ) → h ≡ counts_of (volumes_in phase ++ others) → h ≡ counts_of (own_in phase ++ (ids_of (older_in phase) ++ others))
+row phase others h is = is ∙ ap counts_of (append_assoc (own_in phase) (ids_of (older_in phase)) others)
+
+row_back : (phase : Phase) (others : List ℕ) (h : FinMap nat_cmp ℕ) → h ≡ counts_of (own_in phase ++ (ids_of (older_in phase) ++ others)) → h ≡ counts_of (volumes_in phase ++ others)
+row_back phase others h is = is ∙ sym (ap counts_of (append_assoc (own_in phase) (ids_of (older_in phase)) others))
+
+-- What a frame makes of who holds what, aside from the older volume of a session. An option that ends the session may have held a volume before, whose size was refused: it was let go.
+abbrev Moved : Phase → Phase → FinMap nat_cmp ℕ → FinMap nat_cmp ℕ → Type 0
+Moved (Options z) (Transmission v n c) h h' = h' ≡ holds_after h (Hold v) Done
+Moved (Options z) Ended h h' = (h' ≡ h) ⊎ ((v : ℕ) × (h' ≡ holds_after (holds_after h (Hold v) Done) (LetGo v) Done))
+Moved (Transmission v n c) Ended h h' = ⊥
+Moved phase next h h' = h' ≡ h
+
+-- the volume that an option leads to comes to those that are held
+own_moved : (z : Terms) (next : Phase) (h h' : FinMap nat_cmp ℕ) (rows : List ℕ) → Follows (Options z) next → Moved (Options z) next h h' → h ≡ counts_of rows → h' ≡ counts_of (own_in next ++ rows)
+own_moved z (Flags a) h h' rows f e is = absurd f
+own_moved z (Options y) h h' rows f e is = e ∙ is
+own_moved z (Transmission v n c) h h' rows f e is = e ∙ held_more v rows h is
+own_moved z Ended h h' rows f (inl e) is = e ∙ is
+own_moved z Ended h h' rows f (inr (v, e)) is = e ∙ held_less v rows (holds_after h (Hold v) Done) (held_more v rows h is)
+
+-- and what was held stays so
+moved_keeps : (z : Terms) (next : Phase) (h h' : FinMap nat_cmp ℕ) (i : ℕ) → Follows (Options z) next → Moved (Options z) next h h' → 0 < hold_count h i → 0 < hold_count h' i
+moved_keeps z (Flags a) h h' i f e some = absurd f
+moved_keeps z (Options y) h h' i f e some = let same : hold_count h' i ≡ hold_count h i = ap (λ (m : FinMap nat_cmp ℕ). hold_count m i) e in omega (arith, same, some)
+moved_keeps z (Transmission v n c) h h' i f e some = let P : FinMap nat_cmp ℕ → Type 0 = λ m. 0 < hold_count m i in subst P (sym e) (still_held h v i some)
+moved_keeps z Ended h h' i f (inl e) some = let same : hold_count h' i ≡ hold_count h i = ap (λ (m : FinMap nat_cmp ℕ). hold_count m i) e in omega (arith, same, some)
+moved_keeps z Ended h h' i f (inr (v, e)) some =
+    let same : hold_count h' i ≡ hold_count h i = ap (λ (m : FinMap nat_cmp ℕ). hold_count m i) e ∙ held_again h v i in
+    omega (arith, same, some)
+
+-- a session that stays in transmission holds what it held
+row_stays : (v n w o : ℕ) (c d : Course) (others : List ℕ) → v ≡ w → manner_in c ≡ manner_in d
+    → counts_of (volumes_in (Transmission v n c) ++ others) ≡ counts_of (volumes_in (Transmission w o d) ++ others)
+row_stays v n w o c d others e f =
+    ap (λ (x : ℕ). counts_of ((x ∷ ids_of (manner_in c).since) ++ others)) e ∙ ap (λ (m : Manner). counts_of ((w ∷ ids_of m.since) ++ others)) f
+
+works_held : (v n : ℕ) (c : Course) (next : Phase) (h h' : FinMap nat_cmp ℕ) → Follows (Transmission v n c) next → Moved (Transmission v n c) next h h' → HoldsFollow (Transmission v n c) next h h'
+works_held v n c (Flags a) h h' f e = absurd f
+works_held v n c (Options z) h h' f e = absurd f
+works_held v n c (Transmission w o d) h h' f e = λ others is. e ∙ (is ∙ row_stays v n w o c d others f.0 f.2)
+works_held v n c Ended h h' f e = absurd e
+
+-- transmission begins with the older volume of the options, or with none
+begins_with : (b : Bool) (since : ℕ) → (since == (if b then since else 16777216)) ≡ false → nat_lt (if b then since else 16777216) 16777216 ≡ true → ⊥
+begins_with true since other low = true≢false (sym (eq-eqb since since refl) ∙ other)
+begins_with false since other low = true≢false (sym low)
+
+since_of_course : (z : Terms) (b clone : Bool) (c : Course) → c ≡ Listens (manner_by z b clone) → (manner_in c).since ≡ (if b then z.since else 16777216)
+since_of_course z b clone c e = ap (λ (d : Course). (manner_in d).since) e
+
+no_other : (z : Terms) (b clone : Bool) (c : Course) → c ≡ Listens (manner_by z b clone) → (z.since == (manner_in c).since) ≡ false → nat_lt (manner_in c).since 16777216 ≡ true → ⊥
+no_other z b clone c e other low =
+    let is = since_of_course z b clone c e in
+    begins_with b z.since (ap (λ (n : ℕ). z.since == n) (sym is) ∙ other) (ap (λ (n : ℕ). nat_lt n 16777216) (sym is) ∙ low)
+
+-- an option that asks for another older volume does not begin transmission
+own_none : (z : Terms) (became : Phase) → Follows (Options z) became → (z.since == older_in became) ≡ false → nat_lt (older_in became) 16777216 ≡ true → own_in became ≡ []
+own_none z (Flags a) f other low = absurd f
+own_none z (Options y) f other low = refl
+own_none z (Transmission v n c) (inl e) other low = absurd (no_other z (is_told_of z v) false c e other low)
+own_none z (Transmission v n c) (inr (origin, on, least, most, e)) other low = absurd (no_other z (is_told_of_clone z origin) true c e other low)
+own_none z Ended f other low = refl
 
 -- ---- no request is long whose length is tested
 
@@ -138,7 +221,7 @@ module _ {D : Type 0} (view : View D) (laws : ViewLaws view) where
 
   record Moves (old new : D) (phase next : Phase) : Type 0 where
     geometry : (view.outline new).geometry ≡ (view.outline old).geometry
-    holds : HoldsFollow phase next (view.outline old).holds (view.outline new).holds
+    holds : Moved phase next (view.outline old).holds (view.outline new).holds
     follows : Follows phase next
     more : KeepsSizes view old new
     knows : Knows phase next (view.outline new) (view.more new)
@@ -150,20 +233,20 @@ module _ {D : Type 0} (view : View D) (laws : ViewLaws view) where
   same_sizes old new e i before after = ap (λ (d : D). view.more d i) e
 
   -- the pool is not called, and is called
-  rests : (old new : D) (phase to : Phase) → new ≡ old → HoldsFollow phase to (view.outline old).holds (view.outline old).holds → Follows phase to → Knows phase to (view.outline new) (view.more new) → Moves old new phase to
+  rests : (old new : D) (phase to : Phase) → new ≡ old → Moved phase to (view.outline old).holds (view.outline old).holds → Follows phase to → Knows phase to (view.outline new) (view.more new) → Moves old new phase to
   rests old new phase to e holds f knows = record {
     geometry = ap (λ (d : D). (view.outline d).geometry) e;
-    holds = let P : D → Type 0 = λ d. HoldsFollow phase to (view.outline old).holds (view.outline d).holds in subst P (sym e) holds;
+    holds = let P : D → Type 0 = λ d. Moved phase to (view.outline old).holds (view.outline d).holds in subst P (sym e) holds;
     follows = f;
     more = same_sizes old new e;
     knows = knows;
   }
 
-  called : (old new : D) (phase to : Phase) (call : Call) (answer : Answer) → PoolCall view old call answer new → HoldsFollow phase to (view.outline old).holds (holds_after (view.outline old).holds call answer)
+  called : (old new : D) (phase to : Phase) (call : Call) (answer : Answer) → PoolCall view old call answer new → Moved phase to (view.outline old).holds (holds_after (view.outline old).holds call answer)
       → Follows phase to → Knows phase to (view.outline new) (view.more new) → Moves old new phase to
   called old new phase to call answer h holds f knows = record {
     geometry = h.geometry;
-    holds = let P : FinMap nat_cmp ℕ → Type 0 = λ m. HoldsFollow phase to (view.outline old).holds m in subst P (sym h.holds) holds;
+    holds = let P : FinMap nat_cmp ℕ → Type 0 = λ m. Moved phase to (view.outline old).holds m in subst P (sym h.holds) holds;
     follows = f;
     more = h.more;
     knows = knows;
@@ -201,30 +284,51 @@ module _ {D : Type 0} (view : View D) (laws : ViewLaws view) where
   given_up old new v h =
       (h.deletes.geometry ∙ h.lets_go.geometry, h.deletes.holds ∙ h.lets_go.holds, over_back old h.let_go new h.lets_go.more h.deletes.more (back h.let_go new h.deletes.holds))
 
-  let_go_moves : (b : Bool) (old new : D) (v n : ℕ) (c : Course) → MatchBool b (GivesUp view.outline (PoolCall view) v old new) (PoolCall view old (LetGo v) Done new) → Moves old new (Transmission v n c) Ended
-  let_go_moves true old new v n c h = let m = given_up old new v h in record { geometry = m.0; holds = m.1; follows = tt; more = m.2; knows = tt }
-  let_go_moves false old new v n c h = called old new (Transmission v n c) Ended (LetGo v) Done h refl tt tt
+  -- an older volume is let go, where there is one
+  gone_so : (b : Bool) (id : ℕ) (old new : D) → MatchBool b (PoolCall view old (LetGo id) Done new) (new ≡ old)
+      → ((view.outline new).geometry ≡ (view.outline old).geometry)
+      × MatchBool b ((view.outline new).holds ≡ holds_after (view.outline old).holds (LetGo id) Done) ((view.outline new).holds ≡ (view.outline old).holds) × KeepsSizes view old new
+  gone_so true id old new h = (h.geometry, h.holds, h.more)
+  gone_so false id old new h = (ap (λ (d : D). (view.outline d).geometry) h, ap (λ (d : D). (view.outline d).holds) h, same_sizes old new h)
 
-  let_go_holds : (b : Bool) (old new : D) (v : ℕ) → MatchBool b (GivesUp view.outline (PoolCall view) v old new) (PoolCall view old (LetGo v) Done new)
-      → (view.outline new).holds ≡ holds_after (view.outline old).holds (LetGo v) Done
-  let_go_holds true old new v h = (given_up old new v h).1
-  let_go_holds false old new v h = h.holds
+  -- and so is the volume that a session serves
+  abbrev IsLetGo : List ℕ → D → D → Type 0
+  IsLetGo own old new =
+      ((view.outline new).geometry ≡ (view.outline old).geometry)
+      × ((others : List ℕ) → (view.outline old).holds ≡ counts_of (own ++ others) → (view.outline new).holds ≡ counts_of others)
+      × KeepsSizes view old new × ((i : ℕ) → 0 < hold_count (view.outline new).holds i → 0 < hold_count (view.outline old).holds i)
 
-  lets_go_moves : (old new : D) (phase : Phase) → LetsGo view.outline (PoolCall view) phase old new → Moves old new phase Ended
-  lets_go_moves old new (Flags a) h = rests old new (Flags a) Ended h refl tt tt
-  lets_go_moves old new (Options z) h = to_end old new z h
-  lets_go_moves old new (Transmission v n c) h = let_go_moves (manner_in c).is_clone old new v n c h
-  lets_go_moves old new Ended h = rests old new Ended Ended h refl tt tt
+  fewer_held : (old new : D) (v i : ℕ) → (view.outline new).holds ≡ holds_after (view.outline old).holds (LetGo v) Done → 0 < hold_count (view.outline new).holds i → 0 < hold_count (view.outline old).holds i
+  fewer_held old new v i e some = let P : FinMap nat_cmp ℕ → Type 0 = λ m. 0 < hold_count m i in held_before (view.outline old).holds v i (subst P e some)
 
-  -- an end alone holds nothing before it
-  lets_go_holds : (old new : D) (phase : Phase) → LetsGo view.outline (PoolCall view) phase old new → (view.outline new).holds ≡ holds_between phase Ended (view.outline old).holds
-  lets_go_holds old new (Flags a) h = ap (λ (d : D). (view.outline d).holds) h
-  lets_go_holds old new (Options z) h = ap (λ (d : D). (view.outline d).holds) h
-  lets_go_holds old new (Transmission v n c) h = let_go_holds (manner_in c).is_clone old new v h
-  lets_go_holds old new Ended h = ap (λ (d : D). (view.outline d).holds) h
+  own_gone_by : (b : Bool) (v : ℕ) (old new : D) → MatchBool b (GivesUp view.outline (PoolCall view) v old new) (PoolCall view old (LetGo v) Done new) → IsLetGo (v ∷ []) old new
+  own_gone_by true v old new h =
+      let m = given_up old new v h in
+      (m.0, λ others is. m.1 ∙ held_less v others (view.outline old).holds is, m.2, λ i some. fewer_held old new v i m.1 some)
+  own_gone_by false v old new h = (h.geometry, λ others is. h.holds ∙ held_less v others (view.outline old).holds is, h.more, λ i some. fewer_held old new v i h.holds some)
 
-  ends_move : (old new : D) (last : List ℕ) (phase next : Phase) (sent : List ℕ) → Ends view.outline (PoolCall view) last phase old sent next new → Moves old new phase next
-  ends_move old new last phase next sent h = moves_to old new phase next Ended h.1 (lets_go_moves old new phase h.2)
+  own_still : (old new : D) → new ≡ old → IsLetGo [] old new
+  own_still old new e =
+      let same : (view.outline new).holds ≡ (view.outline old).holds = ap (λ (d : D). (view.outline d).holds) e in
+      (ap (λ (d : D). (view.outline d).geometry) e, λ others is. same ∙ is, same_sizes old new e, back old new same)
+
+  own_gone : (phase : Phase) (old new : D) → LetsOwnGo view.outline (PoolCall view) phase old new → IsLetGo (own_in phase) old new
+  own_gone (Flags a) old new h = own_still old new h
+  own_gone (Options z) old new h = own_still old new h
+  own_gone (Transmission v n c) old new h = own_gone_by (manner_in c).is_clone v old new h
+  own_gone Ended old new h = own_still old new h
+
+  -- all that a session holds is let go
+  lets_go_all : (phase : Phase) (old new : D) → LetsGo view.outline (PoolCall view) phase old new
+      → ((view.outline new).geometry ≡ (view.outline old).geometry) × HoldsFollow phase Ended (view.outline old).holds (view.outline new).holds × KeepsSizes view old new
+  lets_go_all phase old new h =
+      let low = nat_lt (older_in phase) 16777216 in
+      let g = gone_so low (older_in phase) old h.without_older h.lets_older_go in
+      let o = own_gone phase h.without_older new h.lets_own_go in (
+        o.0 ∙ g.0,
+        λ others is. o.1 others (older_gone low (older_in phase) (own_in phase) others (view.outline old).holds (view.outline h.without_older).holds (row phase others (view.outline old).holds is) g.1),
+        over_back old h.without_older new g.2 o.2 o.3,
+      )
 
   tells_move : (old new : D) (phase : Phase) (o : Outcome) (sent : List ℕ) (next : Phase) → Tells view.outline (PoolCall view) o old sent next new
       → Moves old new phase o.next → Moves old new phase next
@@ -286,7 +390,7 @@ module _ {D : Type 0} (view : View D) (laws : ViewLaws view) where
   behind_call : (old mid new : D) (phase next : Phase) → Stays old mid → Moves mid new phase next → Moves old new phase next
   behind_call old mid new phase next before m = record {
     geometry = m.geometry ∙ before.geometry;
-    holds = let P : FinMap nat_cmp ℕ → Type 0 = λ x. HoldsFollow phase next x (view.outline new).holds in subst P before.holds m.holds;
+    holds = let P : FinMap nat_cmp ℕ → Type 0 = λ x. Moved phase next x (view.outline new).holds in subst P before.holds m.holds;
     follows = m.follows;
     more = over old mid new before.more m.more (as_held old mid before.holds);
     knows = m.knows;
@@ -364,26 +468,6 @@ module _ {D : Type 0} (view : View D) (laws : ViewLaws view) where
   written_moves old new true apart call v n x r sent next h first second = begun_moves old new apart v n x r sent next h first
   written_moves old new false apart call v n x r sent next h first second =
       stays_in old new v n (Listens x) (Listens x) call h.0.answer next h.1 refl h.0.calls (second h.0.answer (view.outline old).holds)
-
-  serves_move : (old new : D) (d : Verdict) (v n : ℕ) (x : Manner) (r : Request) (payload sent : List ℕ) (next : Phase)
-      → Serves view.outline (PoolCall view) d v n x r payload old sent next new → Moves old new (Transmission v n (Listens x)) next
-  serves_move old new verdicts.Disconnect v n x r payload sent next h = ends_move old new [] (Transmission v n (Listens x)) next sent h
-  serves_move old new (verdicts.Refuse e) v n x r payload sent next h = tells_move old new (Transmission v n (Listens x)) _ sent next h (not_asked old new v n x h.2)
-  serves_move old new verdicts.Nothing v n x r payload sent next h = tells_move old new (Transmission v n (Listens x)) _ sent next h (not_asked old new v n x h.2)
-  serves_move old new verdicts.Read v n x r payload sent next h = reads_move old new x.is_structured (nat_le 65536 r.len) v n x r sent next h.1 h.0
-  serves_move old new verdicts.Write v n x r payload sent next h =
-      written_moves old new (is_kept_apart x r) (Write v (r.offset / 512) (sectors_of payload) false) (Write v (r.offset / 512) (sectors_of payload) (has_fua r)) v n x r sent next h
-      (λ answer holds. refl) (λ answer holds. refl)
-  serves_move old new verdicts.Trim v n x r payload sent next h =
-      written_moves old new (is_kept_apart x r) (Trim v (r.offset / 512) (r.len / 512) false) (Trim v (r.offset / 512) (r.len / 512) (has_fua r)) v n x r sent next h
-      (λ answer holds. refl) (λ answer holds. refl)
-  serves_move old new verdicts.WriteZeroes v n x r payload sent next h =
-      written_moves old new (is_kept_apart x r) (WriteZeroes v (r.offset / 512) (r.len / 512) (has_no_hole r) false) (WriteZeroes v (r.offset / 512) (r.len / 512) (has_no_hole r) (has_fua r)) v n x r sent next h
-      (λ answer holds. refl) (λ answer holds. refl)
-  serves_move old new verdicts.Flush v n x r payload sent next h = stays_in old new v n (Listens x) (Listens x) _ h.0.answer next h.1 refl h.0.calls refl
-  serves_move old new verdicts.Status v n x r payload sent next h = described_moves old new (nat_lt (first_block (unit_of (view.outline old).geometry) r) 16777216) v n x r sent _ next h.1 h.0
-  serves_move old new verdicts.Long v n x r payload sent next h =
-      moves_to old new (Transmission v n (Listens x)) next (Transmission v n (Works x r)) h.1 (rests old new (Transmission v n (Listens x)) (Transmission v n (Works x r)) h.2 refl (refl, refl, refl) tt)
 
   part_holds : (a b : Bool) (keep trim zeroes : Call) (answer : Answer) (holds : FinMap nat_cmp ℕ) → holds_after holds keep answer ≡ holds → holds_after holds trim answer ≡ holds → holds_after holds zeroes answer ≡ holds
       → holds_after holds (if a then keep else (if b then trim else zeroes)) answer ≡ holds
@@ -679,17 +763,17 @@ module _ {D : Type 0} (view : View D) (laws : ViewLaws view) where
     looks_move name sent next (inr (inr h)) = clone_moves o.holds old new z o lands h.origin sent next refl h.name_is.0 h.asks
 
     informs_move : (b : Bool) (option : ℕ) (payload sent : List ℕ) (next : Phase)
-        → MatchBool b (Ends view.outline (PoolCall view) [] (Options z) old sent next new)
+        → MatchBool b (Tells view.outline (PoolCall view) (outcome [] Ended) old sent next new)
         (IsInvalid view.outline (PoolCall view) option z payload old sent next new ⊎ IsValid view.outline (PoolCall view) o payload old sent next new)
         → Moves old new (Options z) next
-    informs_move true option payload sent next h = ends_move old new [] (Options z) next sent h
+    informs_move true option payload sent next h = tells_move old new (Options z) (outcome [] Ended) sent next h (to_end old new z h.2)
     informs_move false option payload sent next (inl h) = tells_move old new (Options z) _ sent next h.tells (to_options old new z h.tells.2)
     informs_move false option payload sent next (inr h) = looks_move h.name sent next h.looks
 
     exports_move : (b : Bool) (name sent : List ℕ) (next : Phase)
-        → MatchBool b (Ends view.outline (PoolCall view) [] (Options z) old sent next new) (LooksFor view.outline (PoolCall view) o name old sent next new)
+        → MatchBool b (Tells view.outline (PoolCall view) (outcome [] Ended) old sent next new) (LooksFor view.outline (PoolCall view) o name old sent next new)
         → Moves old new (Options z) next
-    exports_move true name sent next h = ends_move old new [] (Options z) next sent h
+    exports_move true name sent next h = tells_move old new (Options z) (outcome [] Ended) sent next h (to_end old new z h.2)
     exports_move false name sent next h = looks_move name sent next h
 
   -- an older volume is looked for first
@@ -743,10 +827,10 @@ module _ {D : Type 0} (view : View D) (laws : ViewLaws view) where
   names_move old new false z sent next h = tells_move old new (Options z) (option_error OPTION_LIST Invalid z) sent next h (to_options old new z h.2)
 
   lists_move : (old new : D) (b : Bool) (z : Terms) (payload sent : List ℕ) (next : Phase)
-      → MatchBool b (Ends view.outline (PoolCall view) [] (Options z) old sent next new)
+      → MatchBool b (Tells view.outline (PoolCall view) (outcome [] Ended) old sent next new)
       (MatchBool (length payload == 0) (NamesAll view.outline (PoolCall view) z old sent next new ⊎ NamesNone view.outline (PoolCall view) old sent next new) (Tells view.outline (PoolCall view) (option_error OPTION_LIST Invalid z) old sent next new))
       → Moves old new (Options z) next
-  lists_move old new true z payload sent next h = ends_move old new [] (Options z) next sent h
+  lists_move old new true z payload sent next h = tells_move old new (Options z) (outcome [] Ended) sent next h (to_end old new z h.2)
   lists_move old new false z payload sent next h = names_move old new (length payload == 0) z sent next h
 
   structured_moves : (old new : D) (b : Bool) (z : Terms) (sent : List ℕ) (next : Phase) → is_extended z.profile ≡ true
@@ -758,11 +842,11 @@ module _ {D : Type 0} (view : View D) (laws : ViewLaws view) where
 
   queries_move : (old new : D) (b c : Bool) (option : ℕ) (asks : List (List ℕ) → Bool) (o : Bool → ℕ → VolumeOption) (z y : Terms) (payload sent : List ℕ) (next : Phase)
       → ((x : Bool) (since : ℕ) → Lands z (o x since)) → GoesBeyond z y
-      → MatchBool b (Ends view.outline (PoolCall view) [] (Options z) old sent next new)
+      → MatchBool b (Tells view.outline (PoolCall view) (outcome [] Ended) old sent next new)
       (MatchBool c (IsNoQuery view.outline (PoolCall view) option y payload old sent next new ⊎ IsQueried view.outline (PoolCall view) asks o payload old sent next new)
       (Tells view.outline (PoolCall view) (option_error option Invalid y) old sent next new))
       → Moves old new (Options z) next
-  queries_move old new true c option asks o z y payload sent next lands f h = ends_move old new [] (Options z) next sent h
+  queries_move old new true c option asks o z y payload sent next lands f h = tells_move old new (Options z) (outcome [] Ended) sent next h (to_end old new z h.2)
   queries_move old new false true option asks o z y payload sent next lands f (inl h) = tells_move old new (Options z) (option_error option Invalid y) sent next h.tells (to_terms old new z y f h.tells.2)
   queries_move old new false true option asks o z y payload sent next lands f (inr h) =
       seeks_move old new z (o (asks h.queries)) (lands (asks h.queries)) (since_of h.queries) h.name sent next h.seeks
@@ -787,37 +871,18 @@ module _ {D : Type 0} (view : View D) (laws : ViewLaws view) where
       (MatchBool is_info (Informs view.outline (PoolCall view) OPTION_INFO (info z) z payload old sent next new)
       (MatchBool is_export (Exports view.outline (PoolCall view) (export_name z) z payload old sent next new)
       (MatchBool is_list (Lists view.outline (PoolCall view) z payload old sent next new)
-      (MatchBool is_abort (Ends view.outline (PoolCall view) (option_reply OPTION_ABORT Acknowledged []) (Options z) old sent next new)
+      (MatchBool is_abort (Tells view.outline (PoolCall view) (outcome (option_reply OPTION_ABORT Acknowledged []) Ended) old sent next new)
       (MatchBool is_long (Extends view.outline (PoolCall view) z option payload old sent next new) (Tells view.outline (PoolCall view) (option_error option Unsupported z) old sent next new))))))
       → Moves old new (Options z) next
   chosen_moves old new true is_info is_export is_list is_abort is_long z option payload sent next ext h = informs_move old new z (go z) (go_lands z) (is_failed (view.outline old).mode) OPTION_GO payload sent next h
   chosen_moves old new false true is_export is_list is_abort is_long z option payload sent next ext h = informs_move old new z (info z) (info_lands z) (is_failed (view.outline old).mode) OPTION_INFO payload sent next h
   chosen_moves old new false false true is_list is_abort is_long z option payload sent next ext h = exports_move old new z (export_name z) (export_lands z) (is_failed (view.outline old).mode) payload sent next h
   chosen_moves old new false false false true is_abort is_long z option payload sent next ext h = lists_move old new (is_failed (view.outline old).mode) z payload sent next h
-  chosen_moves old new false false false false true is_long z option payload sent next ext h = ends_move old new (option_reply OPTION_ABORT Acknowledged []) (Options z) next sent h
+  chosen_moves old new false false false false true is_long z option payload sent next ext h =
+      tells_move old new (Options z) (outcome (option_reply OPTION_ABORT Acknowledged []) Ended) sent next h (to_end old new z h.2)
   chosen_moves old new false false false false false true z option payload sent next ext h =
       extended_moves old new (option == OPTION_STRUCTURED_REPLY) (option == OPTION_LIST_META_CONTEXT) (option == OPTION_SET_META_CONTEXT) z option payload sent next ext h
   chosen_moves old new false false false false false false z option payload sent next ext h = tells_move old new (Options z) (option_error option Unsupported z) sent next h (to_options old new z h.2)
-
-  answers_move : (old new : D) (phase next : Phase) (m : Message) (sent : List ℕ) → Answers view.outline (PoolCall view) phase m old sent next new → Moves old new phase next
-  answers_move old new (Flags a) next (client_flags z) sent h =
-      tells_move old new (Flags a) (outcome [] (Options (terms_of a z))) sent next h (rests old new (Flags a) (Options (terms_of a z)) h.2 refl refl tt)
-  answers_move old new (Flags a) next (client_option o q) sent h = absurd h
-  answers_move old new (Flags a) next (command r q) sent h = absurd h
-  answers_move old new (Flags a) next malformed sent h = ends_move old new [] (Flags a) next sent h
-  answers_move old new (Options z) next (client_flags y) sent h = absurd h
-  answers_move old new (Options z) next (client_option o q) sent h = chosen_moves old new (o == OPTION_GO) (o == OPTION_INFO) (o == OPTION_EXPORT_NAME) (o == OPTION_LIST) (o == OPTION_ABORT) (is_extended z.profile) z o q sent next refl h
-  answers_move old new (Options z) next (command r q) sent h = absurd h
-  answers_move old new (Options z) next malformed sent h = ends_move old new [] (Options z) next sent h
-  answers_move old new (Transmission v n (Listens x)) next (client_flags y) sent h = absurd h
-  answers_move old new (Transmission v n (Listens x)) next (client_option o q) sent h = absurd h
-  answers_move old new (Transmission v n (Listens x)) next (command r q) sent h = serves_move old new (verdict_in x n r) v n x r q sent next h
-  answers_move old new (Transmission v n (Listens x)) next malformed sent h = ends_move old new [] (Transmission v n (Listens x)) next sent h
-  answers_move old new (Transmission v n (Works x r)) next m sent h = absurd h
-  answers_move old new Ended next (client_flags y) sent h = absurd h
-  answers_move old new Ended next (client_option o q) sent h = absurd h
-  answers_move old new Ended next (command r q) sent h = absurd h
-  answers_move old new Ended next malformed sent h = ends_move old new [] Ended next sent h
 
   sound_by : (z : Terms) (next : Phase) → Follows (Options z) next → IsSound next
   sound_by z (Flags a) f = tt
@@ -827,11 +892,7 @@ module _ {D : Type 0} (view : View D) (laws : ViewLaws view) where
   sound_by z (Transmission v n (Works x r)) (inr (origin, on, low, high, e)) = absurd cc
   sound_by z Ended f = tt
 
-  -- no option begins a long request
-  pub chosen_sound : (old new : D) (z : Terms) (option : ℕ) (payload sent : List ℕ) (next : Phase) → Chooses view.outline (PoolCall view) z option payload old sent next new → IsSound next
-  chosen_sound old new z option payload sent next h = sound_by z next (answers_move old new (Options z) next (client_option option payload) sent h).follows
-
-  -- the same of a step
+  -- what a step leaves
   record Stands (old new : D) (phase next : Phase) : Type 0 where
     geometry : (view.outline new).geometry ≡ (view.outline old).geometry
     holds : HoldsFollow phase next (view.outline old).holds (view.outline new).holds
@@ -839,37 +900,319 @@ module _ {D : Type 0} (view : View D) (laws : ViewLaws view) where
     follows : Follows phase next
     more : KeepsSizes view old new
 
+  -- a session that goes on, where the pool is not called
+  at_once : (old new : D) (phase next to : Phase) → next ≡ to → new ≡ old → Stands old old phase to → Stands old new phase next
+  at_once old new phase next to at e h =
+      let P : Phase → Type 0 = λ n. Stands old new phase n in
+      let Q : D → Type 0 = λ d. Stands old d phase to in
+      subst P (sym at) (subst Q (sym e) h)
+
   same_phase : (phase : Phase) → Follows phase phase
   same_phase (Flags a) = refl
   same_phase (Options z) = stays_so z
   same_phase (Transmission v n c) = (refl, refl, refl)
   same_phase Ended = tt
 
-  same_between : (phase : Phase) (holds : FinMap nat_cmp ℕ) → HoldsFollow phase phase holds holds
-  same_between (Flags a) holds = refl
-  same_between (Options z) holds = refl
-  same_between (Transmission v n c) holds = refl
-  same_between Ended holds = refl
-
-  -- a session that stays where it is
+  -- one that stays where it is
   stays_there : (old new : D) (phase next : Phase) → next ≡ phase → new ≡ old → IsReady phase (view.outline old) (view.more old) → Stands old new phase next
   stays_there old new phase next at e ready =
-      let P : Phase → Type 0 = λ n. Stands old new phase n in
-      let Q : D → Type 0 = λ d. Stands old d phase phase in
-      subst P (sym at) (subst Q (sym e) (record { geometry = refl; holds = same_between phase (view.outline old).holds; ready = ready; follows = same_phase phase; more = same_sizes old old refl }))
+      at_once old new phase next phase at e (record { geometry = refl; holds = λ others is. is; ready = ready; follows = same_phase phase; more = same_sizes old old refl })
 
-  moves_stand : (old new : D) (phase next : Phase) → Moves old new phase next → IsReady phase (view.outline old) (view.more old) → Stands old new phase next
-  moves_stand old new phase next m ready = record {
-    geometry = m.geometry;
-    holds = m.holds;
-    ready = ready_after (view.outline old) (view.outline new) (view.more old) (view.more new) phase next m.follows m.geometry m.holds m.more m.knows ready;
-    follows = m.follows;
-    more = m.more;
+  -- one that ends
+  ends_follow : (phase : Phase) → Follows phase Ended
+  ends_follow (Flags a) = tt
+  ends_follow (Options z) = tt
+  ends_follow (Transmission v n c) = tt
+  ends_follow Ended = tt
+
+  ends_stand : (old new : D) (last : List ℕ) (phase next : Phase) (sent : List ℕ) → Ends view.outline (PoolCall view) last phase old sent next new → Stands old new phase next
+  ends_stand old new last phase next sent h =
+      let all = lets_go_all phase old new h.2 in
+      let P : Phase → Type 0 = λ n. Stands old new phase n in
+      subst P (sym h.1) (record { geometry = all.0; holds = all.1; ready = tt; follows = ends_follow phase; more = all.2 })
+
+  -- one that goes on in transmission
+  size_next : (old new : D) (v n : ℕ) (c : Course) (next : Phase) → IsReady (Transmission v n c) (view.outline old) (view.more old) → Moves old new (Transmission v n c) next → Follows (Transmission v n c) next
+      → Moved (Transmission v n c) next (view.outline old).holds (view.outline new).holds → KnowsSize next (view.outline new) (view.more new)
+  size_next old new v n c (Flags a) ready m f e = tt
+  size_next old new v n c (Options z) ready m f e = tt
+  size_next old new v n c (Transmission w o d) ready m f e =
+      let R : ℕ → Type 0 = λ i. o ≡ known_bytes (view.outline new).geometry (view.more new) i in
+      let before : 0 < hold_count (view.outline old).holds v = held_here v (ids_of (manner_in c).since ++ ready.0.others) (view.outline old).holds ready.0.all in
+      let P : FinMap nat_cmp ℕ → Type 0 = λ x. 0 < hold_count x v in
+      subst R f.0 (sym f.1 ∙ size_stays (view.outline old) (view.outline new) (view.more old) (view.more new) v n m.geometry (m.more v before (subst P (sym e) before)) ready.1)
+  size_next old new v n c Ended ready m f e = tt
+
+  works_on : (old new : D) (v n : ℕ) (c : Course) (next : Phase) → IsReady (Transmission v n c) (view.outline old) (view.more old) → Moves old new (Transmission v n c) next → Stands old new (Transmission v n c) next
+  works_on old new v n c next ready m =
+      let holds : HoldsFollow (Transmission v n c) next (view.outline old).holds (view.outline new).holds = works_held v n c next (view.outline old).holds (view.outline new).holds m.follows m.holds in
+      record {
+        geometry = m.geometry;
+        holds = holds;
+        ready = ready_by next (view.outline new) (view.more new) (beside_next (Transmission v n c) next (view.outline old).holds (view.outline new).holds holds ready.0) (size_next old new v n c next ready m m.follows m.holds);
+        follows = m.follows;
+        more = m.more;
+      }
+
+  serves_stand : (old new : D) (d : Verdict) (v n : ℕ) (x : Manner) (r : Request) (payload sent : List ℕ) (next : Phase) → IsReady (Transmission v n (Listens x)) (view.outline old) (view.more old)
+      → Serves view.outline (PoolCall view) d v n x r payload old sent next new → Stands old new (Transmission v n (Listens x)) next
+  serves_stand old new verdicts.Disconnect v n x r payload sent next ready h = ends_stand old new [] (Transmission v n (Listens x)) next sent h
+  serves_stand old new (verdicts.Refuse e) v n x r payload sent next ready h =
+      works_on old new v n (Listens x) next ready (tells_move old new (Transmission v n (Listens x)) _ sent next h (not_asked old new v n x h.2))
+  serves_stand old new verdicts.Nothing v n x r payload sent next ready h =
+      works_on old new v n (Listens x) next ready (tells_move old new (Transmission v n (Listens x)) _ sent next h (not_asked old new v n x h.2))
+  serves_stand old new verdicts.Read v n x r payload sent next ready h =
+      works_on old new v n (Listens x) next ready (reads_move old new x.is_structured (nat_le 65536 r.len) v n x r sent next h.1 h.0)
+  serves_stand old new verdicts.Write v n x r payload sent next ready h =
+      works_on old new v n (Listens x) next ready (
+      written_moves old new (is_kept_apart x r) (Write v (r.offset / 512) (sectors_of payload) false) (Write v (r.offset / 512) (sectors_of payload) (has_fua r)) v n x r sent next h
+      (λ answer holds. refl) (λ answer holds. refl))
+  serves_stand old new verdicts.Trim v n x r payload sent next ready h =
+      works_on old new v n (Listens x) next ready (
+      written_moves old new (is_kept_apart x r) (Trim v (r.offset / 512) (r.len / 512) false) (Trim v (r.offset / 512) (r.len / 512) (has_fua r)) v n x r sent next h
+      (λ answer holds. refl) (λ answer holds. refl))
+  serves_stand old new verdicts.WriteZeroes v n x r payload sent next ready h =
+      works_on old new v n (Listens x) next ready (
+      written_moves old new (is_kept_apart x r) (WriteZeroes v (r.offset / 512) (r.len / 512) (has_no_hole r) false) (WriteZeroes v (r.offset / 512) (r.len / 512) (has_no_hole r) (has_fua r)) v n x r sent next h
+      (λ answer holds. refl) (λ answer holds. refl))
+  serves_stand old new verdicts.Flush v n x r payload sent next ready h =
+      works_on old new v n (Listens x) next ready (stays_in old new v n (Listens x) (Listens x) _ h.0.answer next h.1 refl h.0.calls refl)
+  serves_stand old new verdicts.Status v n x r payload sent next ready h =
+      works_on old new v n (Listens x) next ready (described_moves old new (nat_lt (first_block (unit_of (view.outline old).geometry) r) 16777216) v n x r sent _ next h.1 h.0)
+  serves_stand old new verdicts.Long v n x r payload sent next ready h =
+      works_on old new v n (Listens x) next ready (
+      moves_to old new (Transmission v n (Listens x)) next (Transmission v n (Works x r)) h.1 (rests old new (Transmission v n (Listens x)) (Transmission v n (Works x r)) h.2 refl (refl, refl, refl) tt))
+
+  -- ---- an option, and the older volume that is held behind it
+
+  -- what is known of the size of a volume on which transmission begins
+  knows_size : (z : Terms) (became : Phase) (p : Outline) (more : ℕ → ℕ) → Knows (Options z) became p more → KnowsSize became p more
+  knows_size z (Flags a) p more k = tt
+  knows_size z (Options y) p more k = tt
+  knows_size z (Transmission v n c) p more k = k
+  knows_size z Ended p more k = tt
+
+  knows_on : (became : Phase) (old new : D) → KnowsSize became (view.outline old) (view.more old) → (view.outline new).geometry ≡ (view.outline old).geometry
+      → ((v : ℕ) → own_in became ≡ v ∷ [] → view.more new v ≡ view.more old v) → KnowsSize became (view.outline new) (view.more new)
+  knows_on (Flags a) old new k g e = tt
+  knows_on (Options y) old new k g e = tt
+  knows_on (Transmission v n c) old new k g e = size_stays (view.outline old) (view.outline new) (view.more old) (view.more new) v n g (e v refl) k
+  knows_on Ended old new k g e = tt
+
+  -- the session goes where the option led it, or it ends
+  held_next : (o : Outcome) (answer : Answer) (sent : List ℕ) (next : Phase) → IsOlderHeld view.outline (PoolCall view) o answer sent next → (next ≡ o.next) ⊎ (next ≡ Ended)
+  held_next o Done sent next h = inl h.1
+  held_next o (Refused reason) sent next h = inr h.1
+  held_next o (Gave sectors) sent next h = absurd h
+  held_next o (Line bytes) sent next h = absurd h
+  held_next o (Found least) sent next h = absurd h
+  held_next o (Sized blocks) sent next h = absurd h
+  held_next o (Listed slots) sent next h = absurd h
+
+  holds_next : (b : Bool) (other : ℕ) (o : Outcome) (old new : D) (sent : List ℕ) (next : Phase)
+      → MatchBool b (HoldsOlder view.outline (PoolCall view) other o old sent next new) (Tells view.outline (PoolCall view) o old sent next new) → (next ≡ o.next) ⊎ (next ≡ Ended)
+  holds_next true other o old new sent next h = held_next o h.answer sent next h.is_held
+  holds_next false other o old new sent next h = inl h.1
+
+  settled_next : (b : Bool) (id : ℕ) (o : Outcome) (old new : D) (sent : List ℕ) (next : Phase)
+      → MatchBool b (Tells view.outline (PoolCall view) o old sent next new) (Trades view.outline (PoolCall view) id (older_in o.next) o old sent next new) → (next ≡ o.next) ⊎ (next ≡ Ended)
+  settled_next true id o old new sent next h = inl h.1
+  settled_next false id o old new sent next h = holds_next (nat_lt (older_in o.next) 16777216) (older_in o.next) o h.without_older new sent next h.holds
+
+  chooses_move : (old new : D) (z : Terms) (option : ℕ) (payload sent : List ℕ) (next : Phase) → Chooses view.outline (PoolCall view) z option payload old sent next new → Moves old new (Options z) next
+  chooses_move old new z o q sent next h = chosen_moves old new (o == OPTION_GO) (o == OPTION_INFO) (o == OPTION_EXPORT_NAME) (o == OPTION_LIST) (o == OPTION_ABORT) (is_extended z.profile) z o q sent next refl h
+
+  option_follows : (old new : D) (z : Terms) (option : ℕ) (payload sent : List ℕ) (next : Phase) → AnswersOption view.outline (PoolCall view) z option payload old sent next new → Follows (Options z) next
+  option_follows old new z option payload sent next h =
+      let P : Phase → Type 0 = λ n. Follows (Options z) n in
+      elim (settled_next (z.since == older_in h.chosen.next) z.since h.chosen h.answered new sent next h.settles) [
+        | inl e ↦ subst P (sym e) (chooses_move old h.answered z option payload h.chosen.sent h.chosen.next h.chooses).follows
+        | inr e ↦ subst P (sym e) tt
+      ]
+
+  -- no option begins a long request
+  pub option_sound : (old new : D) (z : Terms) (option : ℕ) (payload sent : List ℕ) (next : Phase) → AnswersOption view.outline (PoolCall view) z option payload old sent next new → IsSound next
+  option_sound old new z option payload sent next h = sound_by z next (option_follows old new z option payload sent next h)
+
+  -- behind an option all that is held is held by others, by the older volume of the session, and by the volume that it is to serve
+  pub chosen_row : (old mid : D) (z : Terms) (option : ℕ) (payload sent : List ℕ) (became : Phase) → Chooses view.outline (PoolCall view) z option payload old sent became mid
+      → (w : HoldsBeside (ids_of z.since) (view.outline old).holds) → (view.outline mid).holds ≡ counts_of (own_in became ++ (ids_of z.since ++ w.others))
+  chosen_row old mid z option payload sent became h w =
+      let m = chooses_move old mid z option payload sent became h in
+      own_moved z became (view.outline old).holds (view.outline mid).holds (ids_of z.since ++ w.others) m.follows m.holds w.all
+
+  pub chosen_beside : (old mid : D) (z : Terms) (option : ℕ) (payload sent : List ℕ) (became : Phase) → Chooses view.outline (PoolCall view) z option payload old sent became mid
+      → HoldsBeside (ids_of z.since) (view.outline old).holds → HoldsBeside (own_in became ++ ids_of z.since) (view.outline mid).holds
+  chosen_beside old mid z option payload sent became h w = record {
+    others = w.others;
+    few = w.few;
+    all = chosen_row old mid z option payload sent became h w ∙ sym (ap counts_of (append_assoc (own_in became) (ids_of z.since) w.others));
   }
+
+  -- there is room for another one where an older volume was let go
+  pub room_left : (old mid : D) (id : ℕ) (phase : Phase) → HoldsBeside (own_in phase ++ ids_of id) (view.outline old).holds → LetsOlderGo view.outline (PoolCall view) id old mid → hold_total (view.outline mid).holds < 128
+  room_left old mid id phase w gone =
+      let low = nat_lt id 16777216 in
+      let rows : (view.outline mid).holds ≡ counts_of (own_in phase ++ w.others) =
+      older_gone low id (own_in phase) w.others (view.outline old).holds (view.outline mid).holds (w.all ∙ ap counts_of (append_assoc (own_in phase) (ids_of id) w.others)) (gone_so low id old mid gone).1 in
+      omega (arith, total_is (own_in phase ++ w.others) (view.outline mid).holds rows, length-append (own_in phase) w.others, few_own phase, w.few)
+
+  -- the volume that a session serves is held still where its older one was let go
+  pub own_held : (phase : Phase) (old mid : D) (v : ℕ) → IsReady phase (view.outline old) (view.more old) → LetsOlderGo view.outline (PoolCall view) (older_in phase) old mid → own_in phase ≡ v ∷ []
+      → 0 < hold_count (view.outline mid).holds v
+  own_held (Flags a) old mid v ready gone own = absurd cc
+  own_held (Options z) old mid v ready gone own = absurd cc
+  own_held (Transmission u n c) old mid v ready gone own =
+      let low = nat_lt (manner_in c).since 16777216 in
+      let rows : (view.outline mid).holds ≡ counts_of ((u ∷ []) ++ ready.0.others) =
+      older_gone low (manner_in c).since (u ∷ []) ready.0.others (view.outline old).holds (view.outline mid).holds ready.0.all (gone_so low (manner_in c).since old mid gone).1 in
+      held_here v ready.0.others (view.outline mid).holds (rows ∙ ap (λ (l : List ℕ). counts_of (l ++ ready.0.others)) own)
+  own_held Ended old mid v ready gone own = absurd cc
+
+  module _ (old mid new : D) (z : Terms) (o : Outcome) (sent : List ℕ) (next : Phase) (m : Moves old mid (Options z) o.next) (w : HoldsBeside (ids_of z.since) (view.outline old).holds) where
+    abbrev other : ℕ
+    other = older_in o.next
+
+    mid_row : (others : List ℕ) → (view.outline old).holds ≡ counts_of (ids_of z.since ++ others) → (view.outline mid).holds ≡ counts_of (own_in o.next ++ (ids_of z.since ++ others))
+    mid_row others is = own_moved z o.next (view.outline old).holds (view.outline mid).holds (ids_of z.since ++ others) m.follows m.holds is
+
+    mid_keeps : (i : ℕ) → 0 < hold_count (view.outline old).holds i → 0 < hold_count (view.outline mid).holds i
+    mid_keeps i some = moved_keeps z o.next (view.outline old).holds (view.outline mid).holds i m.follows m.holds some
+
+    settled : (to : Phase) → next ≡ to → Follows (Options z) to → (view.outline new).geometry ≡ (view.outline old).geometry → HoldsFollow (Options z) to (view.outline old).holds (view.outline new).holds
+        → KeepsSizes view old new → KnowsSize to (view.outline new) (view.more new) → Stands old new (Options z) next
+    settled to at f g holds more knows =
+        let P : Phase → Type 0 = λ n. Stands old new (Options z) n in
+        subst P (sym at) (record {
+          geometry = g;
+          holds = holds;
+          ready = ready_by to (view.outline new) (view.more new) (beside_next (Options z) to (view.outline old).holds (view.outline new).holds holds w) knows;
+          follows = f;
+          more = more;
+        })
+
+    -- the same older volume is held
+    as_before : (z.since == other) ≡ true → Tells view.outline (PoolCall view) o mid sent next new → Stands old new (Options z) next
+    as_before same h =
+        let is : z.since ≡ other = eqb-true z.since other same in
+        let kept : (view.outline new).holds ≡ (view.outline mid).holds = ap (λ (d : D). (view.outline d).holds) h.2 in
+        let geometry : (view.outline new).geometry ≡ (view.outline mid).geometry = ap (λ (d : D). (view.outline d).geometry) h.2 in
+        settled o.next h.1 m.follows (geometry ∙ m.geometry)
+        (λ others all. row_back o.next others (view.outline new).holds (kept ∙ (mid_row others all ∙ ap (λ (n : ℕ). counts_of (own_in o.next ++ (ids_of n ++ others))) is)))
+        (λ i before after. ap (λ (d : D). view.more d i) h.2 ∙ m.more i before (mid_keeps i before))
+        (knows_on o.next mid new (knows_size z o.next (view.outline mid) (view.more mid) m.knows) geometry (λ v own. ap (λ (d : D). view.more d v) h.2))
+
+    -- another one, or none
+    module _ (left : D) (apart : (z.since == other) ≡ false) (gone : LetsOlderGo view.outline (PoolCall view) z.since mid left) where
+      g : ((view.outline left).geometry ≡ (view.outline mid).geometry)
+          × MatchBool (nat_lt z.since 16777216) ((view.outline left).holds ≡ holds_after (view.outline mid).holds (LetGo z.since) Done) ((view.outline left).holds ≡ (view.outline mid).holds) × KeepsSizes view mid left
+      g = gone_so (nat_lt z.since 16777216) z.since mid left gone
+
+      left_row : (others : List ℕ) → (view.outline old).holds ≡ counts_of (ids_of z.since ++ others) → (view.outline left).holds ≡ counts_of (own_in o.next ++ others)
+      left_row others is = older_gone (nat_lt z.since 16777216) z.since (own_in o.next) others (view.outline mid).holds (view.outline left).holds (mid_row others is) g.1
+
+      still_left : (b : Bool) (i : ℕ) → MatchBool b ((view.outline left).holds ≡ holds_after (view.outline mid).holds (LetGo z.since) Done) ((view.outline left).holds ≡ (view.outline mid).holds) → i ≢ z.since
+          → 0 < hold_count (view.outline mid).holds i → 0 < hold_count (view.outline left).holds i
+      still_left true i e ne some =
+          let same : hold_count (view.outline left).holds i ≡ hold_count (view.outline mid).holds i = ap (λ (x : FinMap nat_cmp ℕ). hold_count x i) e ∙ less_other (view.outline mid).holds z.since i ne in
+          omega (arith, same, some)
+      still_left false i e ne some =
+          let same : hold_count (view.outline left).holds i ≡ hold_count (view.outline mid).holds i = ap (λ (x : FinMap nat_cmp ℕ). hold_count x i) e in
+          omega (arith, same, some)
+
+      -- what is held before and behind both is held in between
+      between : (b : Bool) (i : ℕ) → MatchBool b ((view.outline new).holds ≡ holds_after (view.outline left).holds (Hold other) Done) ((view.outline new).holds ≡ (view.outline left).holds)
+          → 0 < hold_count (view.outline mid).holds i → 0 < hold_count (view.outline new).holds i → 0 < hold_count (view.outline left).holds i
+      between true i e before after = elim (cases_eq i other) [
+        | inl is ↦ still_left (nat_lt z.since 16777216) i g.1 (λ own. eqb-false z.since other apart (sym own ∙ is)) before
+        | inr ne ↦
+            let same : hold_count (view.outline new).holds i ≡ hold_count (view.outline left).holds i = ap (λ (x : FinMap nat_cmp ℕ). hold_count x i) e ∙ more_other (view.outline left).holds other i ne in
+            omega (arith, same, after)
+      ]
+      between false i e before after =
+          let same : hold_count (view.outline new).holds i ≡ hold_count (view.outline left).holds i = ap (λ (x : FinMap nat_cmp ℕ). hold_count x i) e in
+          omega (arith, same, after)
+
+      sizes : (b : Bool) → MatchBool b ((view.outline new).holds ≡ holds_after (view.outline left).holds (Hold other) Done) ((view.outline new).holds ≡ (view.outline left).holds) → KeepsSizes view left new
+          → KeepsSizes view mid new
+      sizes b e more i before after = let there = between b i e before after in more i there after ∙ g.2 i before there
+
+      own_here : (v : ℕ) (rows : List ℕ) (h : FinMap nat_cmp ℕ) → own_in o.next ≡ v ∷ [] → h ≡ counts_of (own_in o.next ++ rows) → 0 < hold_count h v
+      own_here v rows h own is = held_here v rows h (is ∙ ap (λ (l : List ℕ). counts_of (l ++ rows)) own)
+
+      -- it is held, where there is one
+      goes_there : next ≡ o.next → (view.outline new).geometry ≡ (view.outline left).geometry
+          → MatchBool (nat_lt other 16777216) ((view.outline new).holds ≡ holds_after (view.outline left).holds (Hold other) Done) ((view.outline new).holds ≡ (view.outline left).holds) → KeepsSizes view left new
+          → Stands old new (Options z) next
+      goes_there at geometry e more =
+          let low = nat_lt other 16777216 in
+          let new_row : (others : List ℕ) → (view.outline old).holds ≡ counts_of (ids_of z.since ++ others) → (view.outline new).holds ≡ counts_of (own_in o.next ++ (ids_of other ++ others)) =
+          λ others is. older_held low other (own_in o.next) others (view.outline left).holds (view.outline new).holds (left_row others is) e in
+          settled o.next at m.follows (geometry ∙ (g.0 ∙ m.geometry)) (λ others is. row_back o.next others (view.outline new).holds (new_row others is))
+          (λ i before after. sizes low e more i (mid_keeps i before) after ∙ m.more i before (mid_keeps i before))
+          (knows_on o.next mid new (knows_size z o.next (view.outline mid) (view.more mid) m.knows) (geometry ∙ g.0) (λ v own.
+          sizes low e more v (own_here v (ids_of z.since ++ w.others) (view.outline mid).holds own (mid_row w.others w.all)) (own_here v (ids_of other ++ w.others) (view.outline new).holds own (new_row w.others w.all))))
+
+      -- it cannot be held, and the session ends
+      goes_nowhere : next ≡ Ended → nat_lt other 16777216 ≡ true → (view.outline new).geometry ≡ (view.outline left).geometry → (view.outline new).holds ≡ (view.outline left).holds → KeepsSizes view left new
+          → Stands old new (Options z) next
+      goes_nowhere at low geometry e more =
+          settled Ended at tt (geometry ∙ (g.0 ∙ m.geometry))
+          (λ others is. e ∙ (left_row others is ∙ ap (λ (l : List ℕ). counts_of (l ++ others)) (own_none z o.next m.follows apart low)))
+          (λ i before after. sizes false e more i (mid_keeps i before) after ∙ m.more i before (mid_keeps i before)) tt
+
+      held_stands : (answer : Answer) → nat_lt other 16777216 ≡ true → PoolCall view left (Hold other) answer new → IsOlderHeld view.outline (PoolCall view) o answer sent next → Stands old new (Options z) next
+      held_stands Done low call h =
+          goes_there h.1 call.geometry
+          (subst (λ (b : Bool). MatchBool b ((view.outline new).holds ≡ holds_after (view.outline left).holds (Hold other) Done) ((view.outline new).holds ≡ (view.outline left).holds)) (sym low) call.holds) call.more
+      held_stands (Refused reason) low call h = goes_nowhere h.1 low call.geometry call.holds call.more
+      held_stands (Gave sectors) low call h = absurd h
+      held_stands (Line bytes) low call h = absurd h
+      held_stands (Found least) low call h = absurd h
+      held_stands (Sized blocks) low call h = absurd h
+      held_stands (Listed slots) low call h = absurd h
+
+      holds_stand : (b : Bool) → nat_lt other 16777216 ≡ b → MatchBool b (HoldsOlder view.outline (PoolCall view) other o left sent next new) (Tells view.outline (PoolCall view) o left sent next new)
+          → Stands old new (Options z) next
+      holds_stand true low h = held_stands h.answer low h.calls h.is_held
+      holds_stand false low h =
+          goes_there h.1 (ap (λ (d : D). (view.outline d).geometry) h.2)
+          (subst (λ (b : Bool). MatchBool b ((view.outline new).holds ≡ holds_after (view.outline left).holds (Hold other) Done) ((view.outline new).holds ≡ (view.outline left).holds)) (sym low)
+          (ap (λ (d : D). (view.outline d).holds) h.2)) (same_sizes left new h.2)
+
+    settles_stand : (b : Bool) → (z.since == other) ≡ b → MatchBool b (Tells view.outline (PoolCall view) o mid sent next new) (Trades view.outline (PoolCall view) z.since other o mid sent next new)
+        → Stands old new (Options z) next
+    settles_stand true same h = as_before same h
+    settles_stand false apart h = holds_stand h.without_older apart h.lets_older_go (nat_lt other 16777216) refl h.holds
+
+  option_stands : (old new : D) (z : Terms) (option : ℕ) (payload sent : List ℕ) (next : Phase) → IsReady (Options z) (view.outline old) (view.more old)
+      → AnswersOption view.outline (PoolCall view) z option payload old sent next new → Stands old new (Options z) next
+  option_stands old new z option payload sent next ready h =
+      settles_stand old h.answered new z h.chosen sent next (chooses_move old h.answered z option payload h.chosen.sent h.chosen.next h.chooses) ready (z.since == older_in h.chosen.next) refl h.settles
+
+  answers_stand : (old new : D) (phase next : Phase) (m : Message) (sent : List ℕ) → IsReady phase (view.outline old) (view.more old) → Answers view.outline (PoolCall view) phase m old sent next new → Stands old new phase next
+  answers_stand old new (Flags a) next (client_flags y) sent ready h =
+      at_once old new (Flags a) next (Options (terms_of a y)) h.1 h.2 (record { geometry = refl; holds = λ others is. is; ready = ready; follows = refl; more = same_sizes old old refl })
+  answers_stand old new (Flags a) next (client_option o q) sent ready h = absurd h
+  answers_stand old new (Flags a) next (command r q) sent ready h = absurd h
+  answers_stand old new (Flags a) next malformed sent ready h = ends_stand old new [] (Flags a) next sent h
+  answers_stand old new (Options z) next (client_flags y) sent ready h = absurd h
+  answers_stand old new (Options z) next (client_option o q) sent ready h = option_stands old new z o q sent next ready h
+  answers_stand old new (Options z) next (command r q) sent ready h = absurd h
+  answers_stand old new (Options z) next malformed sent ready h = ends_stand old new [] (Options z) next sent h
+  answers_stand old new (Transmission v n (Listens x)) next (client_flags y) sent ready h = absurd h
+  answers_stand old new (Transmission v n (Listens x)) next (client_option o q) sent ready h = absurd h
+  answers_stand old new (Transmission v n (Listens x)) next (command r q) sent ready h = serves_stand old new (verdict_in x n r) v n x r q sent next ready h
+  answers_stand old new (Transmission v n (Listens x)) next malformed sent ready h = ends_stand old new [] (Transmission v n (Listens x)) next sent h
+  answers_stand old new (Transmission v n (Works x r)) next m sent ready h = absurd h
+  answers_stand old new Ended next (client_flags y) sent ready h = absurd h
+  answers_stand old new Ended next (client_option o q) sent ready h = absurd h
+  answers_stand old new Ended next (command r q) sent ready h = absurd h
+  answers_stand old new Ended next malformed sent ready h = ends_stand old new [] Ended next sent h
 
   deaf_stands : (phase : Phase) (old new : D) (from to : State) (piece sent : List ℕ) (taken : ℕ) (ended : Bool) → from.phase ≡ phase
       → IsDeaf view.outline (PoolCall view) phase from old piece taken sent ended to new → IsReady phase (view.outline old) (view.more old) → Stands old new phase to.phase
-  deaf_stands (Transmission v n (Works m r)) old new from to piece sent taken ended e h ready = moves_stand old new (Transmission v n (Works m r)) to.phase (part_moves old new v n m r sent to.phase h.part) ready
+  deaf_stands (Transmission v n (Works m r)) old new from to piece sent taken ended e h ready = works_on old new v n (Works m r) to.phase ready (part_moves old new v n m r sent to.phase h.part)
   deaf_stands Ended old new from to piece sent taken ended e h ready = stays_there old new Ended to.phase (h.phase_is ∙ e) h.pool_is ready
   deaf_stands (Flags a) old new from to piece sent taken ended e h ready = absurd h
   deaf_stands (Options z) old new from to piece sent taken ended e h ready = absurd h
@@ -881,7 +1224,7 @@ module _ {D : Type 0} (view : View D) (laws : ViewLaws view) where
       → IsReady from.phase (view.outline old) (view.more old) → Stands old new from.phase to.phase
   stands_by None old new from to piece sent taken ended h ready = deaf_stands from.phase old new from to piece sent taken ended refl h ready
   stands_by (Some kind) old new from to piece sent taken ended (inl h) ready = stays_there old new from.phase to.phase h.phase_is h.pool_is ready
-  stands_by (Some kind) old new from to piece sent taken ended (inr h) ready = moves_stand old new from.phase to.phase (answers_move old new from.phase to.phase h.message sent h.answer) ready
+  stands_by (Some kind) old new from to piece sent taken ended (inr h) ready = answers_stand old new from.phase to.phase h.message sent ready h.answer
 
   -- how much is taken
   deaf_taken : (phase : Phase) (old new : D) (from to : State) (piece sent : List ℕ) (taken : ℕ) (ended : Bool)
@@ -934,12 +1277,6 @@ module _ {D : Type 0} (view : View D) (laws : ViewLaws view) where
   serves_quiet old new verdicts.Status v n x r payload sent next h w = absurd (elsewhere next (Transmission v n (Listens x)) h.1 refl w)
   serves_quiet old new verdicts.Long v n x r payload sent next h w = h.0
 
-  flags_idle : (a : Profile) (next : Phase) → Follows (Flags a) next → is_at_work next ≡ true → ⊥
-  flags_idle a (Flags b) f w = absurd cc
-  flags_idle a (Options z) f w = absurd cc
-  flags_idle a (Transmission v n c) f w = f
-  flags_idle a Ended f w = absurd cc
-
   options_idle : (z : Terms) (next : Phase) → Follows (Options z) next → is_at_work next ≡ true → ⊥
   options_idle z (Flags a) f w = f
   options_idle z (Options y) f w = absurd cc
@@ -949,8 +1286,14 @@ module _ {D : Type 0} (view : View D) (laws : ViewLaws view) where
   options_idle z Ended f w = absurd cc
 
   answers_quiet : (old new : D) (phase next : Phase) (m : Message) (sent : List ℕ) → Answers view.outline (PoolCall view) phase m old sent next new → is_at_work next ≡ true → sent ≡ []
-  answers_quiet old new (Flags a) next m sent h w = absurd (flags_idle a next (answers_move old new (Flags a) next m sent h).follows w)
-  answers_quiet old new (Options z) next m sent h w = absurd (options_idle z next (answers_move old new (Options z) next m sent h).follows w)
+  answers_quiet old new (Flags a) next (client_flags y) sent h w = absurd (elsewhere next (Options (terms_of a y)) h.1 refl w)
+  answers_quiet old new (Flags a) next (client_option o q) sent h w = absurd h
+  answers_quiet old new (Flags a) next (command r q) sent h w = absurd h
+  answers_quiet old new (Flags a) next malformed sent h w = h.0
+  answers_quiet old new (Options z) next (client_flags y) sent h w = absurd h
+  answers_quiet old new (Options z) next (client_option o q) sent h w = absurd (options_idle z next (option_follows old new z o q sent next h) w)
+  answers_quiet old new (Options z) next (command r q) sent h w = absurd h
+  answers_quiet old new (Options z) next malformed sent h w = h.0
   answers_quiet old new (Transmission v n (Listens x)) next (client_flags y) sent h w = absurd h
   answers_quiet old new (Transmission v n (Listens x)) next (client_option o q) sent h w = absurd h
   answers_quiet old new (Transmission v n (Listens x)) next (command r q) sent h w = serves_quiet old new (verdict_in x n r) v n x r q sent next h w
@@ -1064,13 +1407,13 @@ module _ {D : Type 0} (view : View D) (laws : ViewLaws view) where
 
   pub leaves : (phase : Phase) (old new : D) → LetsGo view.outline (PoolCall view) phase old new → Leaves view phase old new
   leaves phase old new h =
-      let m = lets_go_moves old new phase h in
+      let all = lets_go_all phase old new h in
       record {
         lets_go = h;
         traced = λ root s t has.
             let x = lets_go_likewise view.outline (PoolCall view) outline_of_traced (TracedCall view.has_use) (GoesFrom root s old t) (traced_outline root s old t) (traced_call root s old t) old new t (from_here root s old t has) phase h in
             (x.0, x.1, x.2.0, x.2.1);
-        holds = lets_go_holds old new phase h;
-        geometry = m.geometry;
-        more = m.more;
+        holds = all.1;
+        geometry = all.0;
+        more = all.2;
       }

@@ -1,19 +1,17 @@
 -- How often a volume is held, before and after a session begins to hold one, or ends.
-use Rattle.std.proofs.Common.{◌≡◌, ◌≢◌, ℕ, ◌+◌, ◌-◌, ◌<◌, ◌≤◌, ◌==◌, Bool, cond, Option, Some, None, inl, inr, refl, sym, ap, subst, ◌∙◌, arith}
-use Rattle.std.specs.Prelude.{if◌then◌else◌}
+use Rattle.std.proofs.Common.{◌≡◌, ◌≢◌, ℕ, ◌+◌, ◌-◌, ◌<◌, ◌≤◌, Bool, true, false, true≢false, cond, List, [], ◌∷◌, ◌++◌, length, Option, Some, None, inl, inr, refl, sym, ap, subst, ◌∙◌, append_assoc, arith}
+use Rattle.std.specs.Prelude.{MatchBool, if◌then◌else◌}
 use Rattle.std.specs.Option.{unwrap_or}
 use Rattle.std.specs.Ordering.{nat_cmp}
-use Rattle.std.specs.FinMap.{FinMap, get, insert, remove}
+use Rattle.std.specs.FinMap.{FinMap, empty, get, insert, remove}
 use Rattle.std.proofs.lemmas.Bool.{cases_eq, cases_lt, eq-eqb, le-leb, lt-leb, ne_eqb}
-use Rattle.tp_model.specs.Pool.{hold_count}
-use Rattle.tp_model.specs.Calls.{Done, Hold, LetGo, holds_after}
+use Rattle.tp_model.specs.Pool.{hold_count, hold_total}
+use Rattle.tp_model.specs.Calls.{Done, Hold, LetGo, holds_after, released}
 use Rattle.tp_model.proofs.Maps.{get_insert, get_remove}
-use Rattle.nbd_session.specs.declared.phase.Course.{Course}
-use Rattle.nbd_session.specs.declared.phase.Course.TheVariants.{Listens}
-use Rattle.nbd_session.specs.declared.phase.Phase.{Phase}
-use Rattle.nbd_session.specs.declared.phase.Phase.TheVariants.{Flags, Options, Transmission, Ended}
-use Rattle.nbd_session.specs.Clauses.{Follows, HoldsFollow, held_beside}
-use Rattle.nbd_session.specs.Session.{manner_of}
+use Rattle.tp_holders.specs.Holders.{counts_of}
+use Rattle.tp_holders.proofs.Holding.{count_is, counts_none, counts_released, one_at, same_times, times, times-append, times_at}
+use Rattle.tp_holders.proofs.Totals.{count_total}
+use Rattle.nbd_session.specs.Clauses.{HoldsBeside}
 
 -- ---- one volume more, or less
 
@@ -32,7 +30,7 @@ remove_other h v i ne = ap (λ (o : Option ℕ). unwrap_or o 0) (get_remove h v 
 pub one_more : (h : FinMap nat_cmp ℕ) (v : ℕ) → hold_count (holds_after h (Hold v) Done) v ≡ hold_count h v + 1
 one_more h v = count_insert h v (hold_count h v + 1)
 
-more_other : (h : FinMap nat_cmp ℕ) (v i : ℕ) → i ≢ v → hold_count (holds_after h (Hold v) Done) i ≡ hold_count h i
+pub more_other : (h : FinMap nat_cmp ℕ) (v i : ℕ) → i ≢ v → hold_count (holds_after h (Hold v) Done) i ≡ hold_count h i
 more_other h v i ne = insert_other h v (hold_count h v + 1) i ne
 
 -- what is held stays held where one volume more is
@@ -47,7 +45,7 @@ still_held h v i some = elim (cases_eq i v) [
 abbrev picked : FinMap nat_cmp ℕ → ℕ → Bool → FinMap nat_cmp ℕ
 picked h v b = if b then remove h v else insert h v (hold_count h v - 1)
 
-one_less : (h : FinMap nat_cmp ℕ) (v : ℕ) → hold_count (holds_after h (LetGo v) Done) v ≡ hold_count h v - 1
+pub one_less : (h : FinMap nat_cmp ℕ) (v : ℕ) → hold_count (holds_after h (LetGo v) Done) v ≡ hold_count h v - 1
 one_less h v = elim (cases_lt 1 (hold_count h v)) [
   | inl many ↦ ap (λ (b : Bool). hold_count (picked h v b) v) (lt-leb (hold_count h v) 1 many) ∙ count_insert h v (hold_count h v - 1)
   | inr few ↦
@@ -55,69 +53,86 @@ one_less h v = elim (cases_lt 1 (hold_count h v)) [
       omega (arith, none, few)
 ]
 
-less_other : (h : FinMap nat_cmp ℕ) (v i : ℕ) → i ≢ v → hold_count (holds_after h (LetGo v) Done) i ≡ hold_count h i
+pub less_other : (h : FinMap nat_cmp ℕ) (v i : ℕ) → i ≢ v → hold_count (holds_after h (LetGo v) Done) i ≡ hold_count h i
 less_other h v i ne = elim (cases_lt 1 (hold_count h v)) [
   | inl many ↦ ap (λ (b : Bool). hold_count (picked h v b) i) (lt-leb (hold_count h v) 1 many) ∙ insert_other h v (hold_count h v - 1) i ne
   | inr few ↦ ap (λ (b : Bool). hold_count (picked h v b) i) (le-leb (hold_count h v) 1 (omega (arith, few))) ∙ remove_other h v i ne
 ]
 
--- ---- how often others hold one
-
-abbrev without : FinMap nat_cmp ℕ → ℕ → Bool → ℕ
-without h i b = if b then hold_count h i - 1 else hold_count h i
-
-beside_same : (v n i : ℕ) (c : Course) (h : FinMap nat_cmp ℕ) → v ≡ i → held_beside (Transmission v n c) h i ≡ hold_count h v - 1
-beside_same v n i c h e = ap (without h i) (eq-eqb v i e) ∙ ap (λ j. hold_count h j - 1) (sym e)
-
-beside_other : (v n i : ℕ) (c : Course) (h : FinMap nat_cmp ℕ) → v ≢ i → held_beside (Transmission v n c) h i ≡ hold_count h i
-beside_other v n i c h ne = ap (without h i) (ne_eqb v i ne)
-
-entered : (v n i : ℕ) (c : Course) (h : FinMap nat_cmp ℕ) → held_beside (Transmission v n c) (holds_after h (Hold v) Done) i ≡ hold_count h i
-entered v n i c h = elim (cases_eq v i) [
+-- what is held where one volume less is, was held before
+pub held_before : (h : FinMap nat_cmp ℕ) (v i : ℕ) → 0 < hold_count (holds_after h (LetGo v) Done) i → 0 < hold_count h i
+held_before h v i some = elim (cases_eq i v) [
   | inl e ↦
-      let here : hold_count h v ≡ hold_count h i = ap (hold_count h) e in
-      omega (arith, beside_same v n i c (holds_after h (Hold v) Done) e, one_more h v, here)
-  | inr ne ↦ beside_other v n i c (holds_after h (Hold v) Done) ne ∙ more_other h v i (λ e. ne (sym e))
+      let same : hold_count (holds_after h (LetGo v) Done) i ≡ hold_count (holds_after h (LetGo v) Done) v = ap (hold_count (holds_after h (LetGo v) Done)) e in
+      let here : hold_count h i ≡ hold_count h v = ap (hold_count h) e in
+      omega (arith, some, same, here, one_less h v)
+  | inr ne ↦ omega (arith, some, less_other h v i ne)
 ]
 
-left : (v n i : ℕ) (c : Course) (h : FinMap nat_cmp ℕ) → hold_count (holds_after h (LetGo v) Done) i ≡ held_beside (Transmission v n c) h i
-left v n i c h = elim (cases_eq v i) [
-  | inl e ↦ ap (hold_count (holds_after h (LetGo v) Done)) (sym e) ∙ (one_less h v ∙ sym (beside_same v n i c h e))
-  | inr ne ↦ less_other h v i (λ e. ne (sym e)) ∙ sym (beside_other v n i c h ne)
-]
-
-at_most : (phase : Phase) (h : FinMap nat_cmp ℕ) (i : ℕ) → held_beside phase h i ≤ hold_count h i
-at_most (Flags a) h i = omega arith
-at_most (Options z) h i = omega arith
-at_most (Transmission v n c) h i = elim (cases_eq v i) [
+-- a volume that is held once more and then once less is held as before
+pub held_again : (h : FinMap nat_cmp ℕ) (v i : ℕ) → hold_count (holds_after (holds_after h (Hold v) Done) (LetGo v) Done) i ≡ hold_count h i
+held_again h v i = elim (cases_eq i v) [
   | inl e ↦
-      let here : hold_count h v ≡ hold_count h i = ap (hold_count h) e in
-      omega (arith, beside_same v n i c h e, here)
-  | inr ne ↦ omega (arith, beside_other v n i c h ne)
+      let m = holds_after h (Hold v) Done in
+      let same : hold_count (holds_after m (LetGo v) Done) i ≡ hold_count (holds_after m (LetGo v) Done) v = ap (hold_count (holds_after m (LetGo v) Done)) e in
+      let here : hold_count h i ≡ hold_count h v = ap (hold_count h) e in
+      omega (arith, same, here, one_less m v, one_more h v)
+  | inr ne ↦ less_other (holds_after h (Hold v) Done) v i ne ∙ more_other h v i ne
 ]
-at_most Ended h i = omega arith
 
-pub held_there : (phase : Phase) (h : FinMap nat_cmp ℕ) (i : ℕ) → 0 < held_beside phase h i → 0 < hold_count h i
-held_there phase h i some = omega (arith, some, at_most phase h i)
+-- ---- what is held, as a row of ids
 
--- one frame changes nothing of what others hold
-pub beside_stays : (phase next : Phase) (h h' : FinMap nat_cmp ℕ) (i : ℕ) → Follows phase next → HoldsFollow phase next h h' → held_beside next h' i ≡ held_beside phase h i
-beside_stays (Flags a) (Flags b) h h' i f e = ap (λ (m : FinMap nat_cmp ℕ). hold_count m i) e
-beside_stays (Flags a) (Options z) h h' i f e = ap (λ (m : FinMap nat_cmp ℕ). hold_count m i) e
-beside_stays (Flags a) (Transmission v n c) h h' i f e = absurd f
-beside_stays (Flags a) Ended h h' i f e = ap (λ (m : FinMap nat_cmp ℕ). hold_count m i) e
-beside_stays (Options z) (Flags a) h h' i f e = absurd f
-beside_stays (Options z) (Options y) h h' i f e = ap (λ (m : FinMap nat_cmp ℕ). hold_count m i) e
-beside_stays (Options z) (Transmission v n c) h h' i f e = ap (λ (m : FinMap nat_cmp ℕ). held_beside (Transmission v n c) m i) e ∙ entered v n i c h
-beside_stays (Options z) Ended h h' i f (inl e) = ap (λ (m : FinMap nat_cmp ℕ). hold_count m i) e
-beside_stays (Options z) Ended h h' i f (inr (v, e)) =
-    ap (λ (m : FinMap nat_cmp ℕ). hold_count m i) e ∙ (left v 0 i (Listens (manner_of z v)) (holds_after h (Hold v) Done) ∙ entered v 0 i (Listens (manner_of z v)) h)
-beside_stays (Transmission v n c) (Flags a) h h' i f e = absurd f
-beside_stays (Transmission v n c) (Options z) h h' i f e = absurd f
-beside_stays (Transmission v n c) (Transmission w m d) h h' i f e =
-    ap (λ (x : FinMap nat_cmp ℕ). held_beside (Transmission w m d) x i) e ∙ ap (λ (x : ℕ). without h i (x == i)) (sym f.0)
-beside_stays (Transmission v n c) Ended h h' i f e = ap (λ (m : FinMap nat_cmp ℕ). hold_count m i) e ∙ left v n i c h
-beside_stays Ended (Flags a) h h' i f e = absurd f
-beside_stays Ended (Options z) h h' i f e = absurd f
-beside_stays Ended (Transmission v n c) h h' i f e = absurd f
-beside_stays Ended Ended h h' i f e = ap (λ (m : FinMap nat_cmp ℕ). hold_count m i) e
+pub held_more : (v : ℕ) (rows : List ℕ) (h : FinMap nat_cmp ℕ) → h ≡ counts_of rows → holds_after h (Hold v) Done ≡ counts_of (v ∷ rows)
+unfolding counts_of
+held_more v rows h is = ap (λ (m : FinMap nat_cmp ℕ). holds_after m (Hold v) Done) is
+
+pub held_less : (v : ℕ) (rows : List ℕ) (h : FinMap nat_cmp ℕ) → h ≡ counts_of (v ∷ rows) → holds_after h (LetGo v) Done ≡ counts_of rows
+held_less v rows h is = ap (λ (m : FinMap nat_cmp ℕ). released m v) is ∙ sym (counts_released (v ∷ rows) 0 v (omega arith) refl)
+
+pub held_here : (v : ℕ) (rows : List ℕ) (h : FinMap nat_cmp ℕ) → h ≡ counts_of (v ∷ rows) → 0 < hold_count h v
+held_here v rows h is =
+    let same : hold_count h v ≡ times v (v ∷ rows) = ap (λ (m : FinMap nat_cmp ℕ). hold_count m v) is ∙ count_is (v ∷ rows) v in
+    omega (arith, same, times_at (v ∷ rows) v 0 (omega arith) refl)
+
+pub total_is : (rows : List ℕ) (h : FinMap nat_cmp ℕ) → h ≡ counts_of rows → hold_total h ≡ length rows
+total_is rows h is = ap hold_total is ∙ count_total rows
+
+-- an id in the midst of a row
+pub to_front : (v : ℕ) (xs ys : List ℕ) → counts_of (xs ++ (v ∷ ys)) ≡ counts_of (v ∷ (xs ++ ys))
+to_front v xs ys =
+    same_times (xs ++ (v ∷ ys)) (v ∷ (xs ++ ys)) (λ q.
+    let a = times-append q xs (v ∷ ys) in
+    let b = times-append q xs ys in
+    let c : times q (v ∷ ys) ≡ one_at q v + times q ys = refl in
+    let d : times q (v ∷ (xs ++ ys)) ≡ one_at q v + times q (xs ++ ys) = refl in
+    omega (arith, a, b, c, d))
+
+-- an older volume is let go, where there is one, or held
+pub older_gone : (b : Bool) (id : ℕ) (own others : List ℕ) (h h' : FinMap nat_cmp ℕ) → h ≡ counts_of (own ++ ((if b then id ∷ [] else []) ++ others)) → MatchBool b (h' ≡ holds_after h (LetGo id) Done) (h' ≡ h)
+    → h' ≡ counts_of (own ++ others)
+older_gone true id own others h h' is e = e ∙ held_less id (own ++ others) h (is ∙ to_front id own others)
+older_gone false id own others h h' is e = e ∙ is
+
+pub older_held : (b : Bool) (id : ℕ) (own others : List ℕ) (h h' : FinMap nat_cmp ℕ) → h ≡ counts_of (own ++ others) → MatchBool b (h' ≡ holds_after h (Hold id) Done) (h' ≡ h)
+    → h' ≡ counts_of (own ++ ((if b then id ∷ [] else []) ++ others))
+older_held true id own others h h' is e = e ∙ (held_more id (own ++ others) h is ∙ sym (to_front id own others))
+older_held false id own others h h' is e = e ∙ is
+
+-- an id at the front, where it is one
+pub older_here : (b : Bool) (id : ℕ) (own others : List ℕ) (h : FinMap nat_cmp ℕ) → b ≡ true → h ≡ counts_of ((own ++ (if b then id ∷ [] else [])) ++ others) → 0 < hold_count h id
+older_here true id own others h e is = held_here id (own ++ others) h (is ∙ ap counts_of (append_assoc own (id ∷ []) others) ∙ to_front id own others)
+older_here false id own others h e is = absurd (true≢false (sym e))
+
+pub few_older : (b : Bool) (id : ℕ) → length (if b then id ∷ [] else []) ≤ 1
+few_older true id = omega arith
+few_older false id = omega arith
+
+-- who is held by others is held
+pub beside_held : (own others : List ℕ) (h : FinMap nat_cmp ℕ) (i : ℕ) → h ≡ counts_of (own ++ others) → 0 < hold_count (counts_of others) i → 0 < hold_count h i
+beside_held own others h i is some =
+    let same : hold_count h i ≡ times i (own ++ others) = ap (λ (m : FinMap nat_cmp ℕ). hold_count m i) is ∙ count_is (own ++ others) i in
+    omega (arith, same, times-append i own others, some, count_is others i)
+
+-- a pool of which nothing is held has room for a session
+pub none_beside : (h : FinMap nat_cmp ℕ) → h ≡ empty → HoldsBeside [] h
+none_beside h none = record { others = []; few = omega arith; all = none ∙ sym counts_none }

@@ -26,7 +26,7 @@ use Rattle.nbd_wire.specs.Chunks.{data_chunk, error_chunk}
 use Rattle.nbd_wire.specs.Contexts.{asks_for, lists, since_of}
 use Rattle.nbd_session.specs.Holes.{has_blank}
 use Rattle.nbd_session.specs.Status.{IsAllocation, first_block, unit_of}
-use Rattle.nbd_session.specs.Session.{State, Outcome, outcome, option_error, uncloned, VolumeOption, export_name, go, info, is_extended, kind_of, limit_of, list_context, manner_in, of_clone, set_context, structures, transmission_flags, terms_of, without_context, chunk_to, reply_to, Clones, Deletes, FindsNone, GivesUp, HoldsClone, IsCloneHeld, IsCloneSized, IsCloned, Passes, SizesClone, Snaps, LetsGo, Begins, Ends, Tells, Performs, Serves, IsMade, MakesPart, IsDeaf, IsSized, Sizes, IsHeld, Holds, Enters, Finds, AsksFor, LooksFor, is_there, IsInvalid, IsValid, Informs, Exports, Finding, IsEnough, IsLast, IsRefused, Lists, NamesAll, NamesNone, Answers, Waits, TakesFrame, Steps, Describes, Extends, Compares, IsDescribed, IsNoQuery, IsQueried, Queries, Seeks, SeeksFor, Walks, IsGiven, ReadsLong, SeeksHoles}
+use Rattle.nbd_session.specs.Session.{State, Outcome, outcome, option_error, uncloned, VolumeOption, export_name, go, info, is_extended, kind_of, limit_of, list_context, manner_in, older_in, of_clone, set_context, structures, transmission_flags, terms_of, without_context, chunk_to, reply_to, Clones, Deletes, FindsNone, GivesUp, HoldsClone, IsCloneHeld, IsCloneSized, IsCloned, Passes, SizesClone, Snaps, AnswersOption, HoldsOlder, LetsGo, LetsOwnGo, Trades, Begins, Ends, Tells, Performs, Serves, IsMade, MakesPart, IsDeaf, IsSized, Sizes, IsHeld, Holds, Enters, Finds, AsksFor, LooksFor, is_there, IsInvalid, IsValid, Informs, Exports, Finding, IsEnough, IsLast, IsRefused, Lists, NamesAll, NamesNone, Answers, Waits, TakesFrame, Steps, Describes, Extends, Compares, IsDescribed, IsNoQuery, IsQueried, Queries, Seeks, SeeksFor, Walks, IsGiven, ReadsLong, SeeksHoles}
 
 -- Calls of one kind of pool, and Calls' of another. R: what stands between them, and goes on from call to call.
 module _ {D B : Type 0} (outline : D → Outline) (Calls : D → Call → Answer → D → Type 0) (outline' : B → Outline) (Calls' : B → Call → Answer → B → Type 0) (R : D → B → Type 0)
@@ -156,6 +156,40 @@ module _ {D B : Type 0} (outline : D → Outline) (Calls : D → Call → Answer
       let m = call_follows old h.let_go s (LetGo id) Done r h.lets_go in
       let n = call_follows h.let_go new m.0 (Delete id) h.answer m.2 h.deletes in
       (n.0, record { let_go = m.0; lets_go = m.1; answer = h.answer; deletes = n.1 }, n.2)
+
+  -- ---- what is let go at an end, and what is held behind an option
+
+  older_likewise : (b : Bool) (id : ℕ) (old new : D) (s : B) → R old s → MatchBool b (Calls old (LetGo id) Done new) (new ≡ old) → Likewise (λ s'. MatchBool b (Calls' s (LetGo id) Done s') (s' ≡ s)) new
+  older_likewise true id old new s r h = call_follows old new s (LetGo id) Done r h
+  older_likewise false id old new s r h = resting _ old new s h r refl
+
+  own_by : (b : Bool) (v : ℕ) (old new : D) (s : B) → R old s → MatchBool b (GivesUp outline Calls v old new) (Calls old (LetGo v) Done new)
+      → Likewise (λ s'. MatchBool b (GivesUp outline' Calls' v s s') (Calls' s (LetGo v) Done s')) new
+  own_by true v old new s r h = gives_likewise v old new s r h
+  own_by false v old new s r h = call_follows old new s (LetGo v) Done r h
+
+  own_likewise : (phase : Phase) (old new : D) (s : B) → R old s → LetsOwnGo outline Calls phase old new → Likewise (LetsOwnGo outline' Calls' phase s) new
+  own_likewise (Flags a) old new s r h = resting _ old new s h r refl
+  own_likewise (Options z) old new s r h = resting _ old new s h r refl
+  own_likewise (Transmission v n c) old new s r h = own_by (manner_in c).is_clone v old new s r h
+  own_likewise Ended old new s r h = resting _ old new s h r refl
+
+  holds_likewise : (b : Bool) (id : ℕ) (o : Outcome) (old new : D) (s : B) (sent : List ℕ) (next : Phase) → R old s
+      → MatchBool b (HoldsOlder outline Calls id o old sent next new) (Tells outline Calls o old sent next new)
+      → Likewise (λ s'. MatchBool b (HoldsOlder outline' Calls' id o s sent next s') (Tells outline' Calls' o s sent next s')) new
+  holds_likewise true id o old new s sent next r h =
+      let m = call_follows old new s (Hold id) h.answer r h.calls in
+      (m.0, record { answer = h.answer; calls = m.1; is_held = h.is_held }, m.2)
+  holds_likewise false id o old new s sent next r h = told_likewise o old new s sent next r h
+
+  settles_likewise : (b : Bool) (id : ℕ) (o : Outcome) (old new : D) (s : B) (sent : List ℕ) (next : Phase) → R old s
+      → MatchBool b (Tells outline Calls o old sent next new) (Trades outline Calls id (older_in o.next) o old sent next new)
+      → Likewise (λ s'. MatchBool b (Tells outline' Calls' o s sent next s') (Trades outline' Calls' id (older_in o.next) o s sent next s')) new
+  settles_likewise true id o old new s sent next r h = told_likewise o old new s sent next r h
+  settles_likewise false id o old new s sent next r h =
+      let m = older_likewise (nat_lt id 16777216) id old h.without_older s r h.lets_older_go in
+      let n = holds_likewise (nat_lt (older_in o.next) 16777216) (older_in o.next) o h.without_older new m.0 sent next m.2 h.holds in
+      (n.0, record { without_older = m.0; lets_older_go = m.1; holds = n.1 }, n.2)
 
   clone_sized_likewise : (found : ℕ → Outcome) (id : ℕ) (answer : Answer) (old new : D) (s : B) (sent : List ℕ) (next : Phase) → R old s
       → IsCloneSized outline Calls found id answer old sent next new → Likewise (IsCloneSized outline' Calls' found id answer s sent next) new
@@ -341,16 +375,11 @@ module _ {D B : Type 0} (outline : D → Outline) (Calls : D → Call → Answer
     call_likewise : (call : Call) (answer : Answer) → Calls old call answer new → Likewise (Calls' s call answer) new
     call_likewise call answer h = call_follows old new s call answer is_shown h
 
-    let_go_by : (b : Bool) (v : ℕ) → MatchBool b (GivesUp outline Calls v old new) (Calls old (LetGo v) Done new)
-        → Likewise (λ s'. MatchBool b (GivesUp outline' Calls' v s s') (Calls' s (LetGo v) Done s')) new
-    let_go_by true v h = gives_likewise v old new s is_shown h
-    let_go_by false v h = call_likewise (LetGo v) Done h
-
     pub lets_go_likewise : (phase : Phase) → LetsGo outline Calls phase old new → Likewise (LetsGo outline' Calls' phase s) new
-    lets_go_likewise (Flags a) h = resting _ old new s h is_shown refl
-    lets_go_likewise (Options z) h = resting _ old new s h is_shown refl
-    lets_go_likewise (Transmission v n c) h = let_go_by (manner_in c).is_clone v h
-    lets_go_likewise Ended h = resting _ old new s h is_shown refl
+    lets_go_likewise phase h =
+        let m = older_likewise (nat_lt (older_in phase) 16777216) (older_in phase) old h.without_older s is_shown h.lets_older_go in
+        let n = own_likewise phase h.without_older new m.0 m.2 h.lets_own_go in
+        (n.0, record { without_older = m.0; lets_older_go = m.1; lets_own_go = n.1 }, n.2)
 
     ends_likewise : (last : List ℕ) (phase next : Phase) (sent : List ℕ) → Ends outline Calls last phase old sent next new → Likewise (Ends outline' Calls' last phase s sent next) new
     ends_likewise last phase next sent h = let m = lets_go_likewise phase h.2 in (m.0, (h.0, h.1, m.1), m.2)
@@ -428,9 +457,9 @@ module _ {D B : Type 0} (outline : D → Outline) (Calls : D → Call → Answer
         (m.0, record { answer = h.answer; calls = m.1; is_made = subst Q (sym same_geometry) h.is_made }, m.2)
 
     informs_by : (b : Bool) (option : ℕ) (o : VolumeOption) (z : Terms) (payload sent : List ℕ) (next : Phase)
-        → MatchBool b (Ends outline Calls [] (Options z) old sent next new) (IsInvalid outline Calls option z payload old sent next new ⊎ IsValid outline Calls o payload old sent next new)
-        → Likewise (λ s'. MatchBool b (Ends outline' Calls' [] (Options z) s sent next s') (IsInvalid outline' Calls' option z payload s sent next s' ⊎ IsValid outline' Calls' o payload s sent next s')) new
-    informs_by true option o z payload sent next h = ends_likewise [] (Options z) next sent h
+        → MatchBool b (Tells outline Calls (outcome [] Ended) old sent next new) (IsInvalid outline Calls option z payload old sent next new ⊎ IsValid outline Calls o payload old sent next new)
+        → Likewise (λ s'. MatchBool b (Tells outline' Calls' (outcome [] Ended) s sent next s') (IsInvalid outline' Calls' option z payload s sent next s' ⊎ IsValid outline' Calls' o payload s sent next s')) new
+    informs_by true option o z payload sent next h = tells_likewise (outcome [] Ended) sent next h
     informs_by false option o z payload sent next (inl h) = let m = tells_likewise _ sent next h.tells in (m.0, inl (record { no_info = h.no_info; tells = m.1 }), m.2)
     informs_by false option o z payload sent next (inr h) =
         let m = looks_likewise o h.name old new s sent next is_shown h.looks in
@@ -438,19 +467,19 @@ module _ {D B : Type 0} (outline : D → Outline) (Calls : D → Call → Answer
 
     informs_likewise : (option : ℕ) (o : VolumeOption) (z : Terms) (payload sent : List ℕ) (next : Phase) → Informs outline Calls option o z payload old sent next new → Likewise (Informs outline' Calls' option o z payload s sent next) new
     informs_likewise option o z payload sent next h =
-        let P : Mode → Type 0 = λ m. Likewise (λ s'. MatchBool (is_failed m) (Ends outline' Calls' [] (Options z) s sent next s')
+        let P : Mode → Type 0 = λ m. Likewise (λ s'. MatchBool (is_failed m) (Tells outline' Calls' (outcome [] Ended) s sent next s')
         (IsInvalid outline' Calls' option z payload s sent next s' ⊎ IsValid outline' Calls' o payload s sent next s')) new in
         subst P (sym (same_mode)) (informs_by (is_failed (outline old).mode) option o z payload sent next h)
 
     exports_by : (b : Bool) (o : VolumeOption) (z : Terms) (name sent : List ℕ) (next : Phase)
-        → MatchBool b (Ends outline Calls [] (Options z) old sent next new) (LooksFor outline Calls o name old sent next new)
-        → Likewise (λ s'. MatchBool b (Ends outline' Calls' [] (Options z) s sent next s') (LooksFor outline' Calls' o name s sent next s')) new
-    exports_by true o z name sent next h = ends_likewise [] (Options z) next sent h
+        → MatchBool b (Tells outline Calls (outcome [] Ended) old sent next new) (LooksFor outline Calls o name old sent next new)
+        → Likewise (λ s'. MatchBool b (Tells outline' Calls' (outcome [] Ended) s sent next s') (LooksFor outline' Calls' o name s sent next s')) new
+    exports_by true o z name sent next h = tells_likewise (outcome [] Ended) sent next h
     exports_by false o z name sent next h = looks_likewise o name old new s sent next is_shown h
 
     exports_likewise : (o : VolumeOption) (z : Terms) (name sent : List ℕ) (next : Phase) → Exports outline Calls o z name old sent next new → Likewise (Exports outline' Calls' o z name s sent next) new
     exports_likewise o z name sent next h =
-        let P : Mode → Type 0 = λ m. Likewise (λ s'. MatchBool (is_failed m) (Ends outline' Calls' [] (Options z) s sent next s') (LooksFor outline' Calls' o name s sent next s')) new in
+        let P : Mode → Type 0 = λ m. Likewise (λ s'. MatchBool (is_failed m) (Tells outline' Calls' (outcome [] Ended) s sent next s') (LooksFor outline' Calls' o name s sent next s')) new in
         subst P (sym (same_mode)) (exports_by (is_failed (outline old).mode) o z name sent next h)
 
     names_by : (b : Bool) (z : Terms) (sent : List ℕ) (next : Phase)
@@ -472,25 +501,25 @@ module _ {D B : Type 0} (outline : D → Outline) (Calls : D → Call → Answer
     names_by false z sent next h = tells_likewise (option_error OPTION_LIST Invalid z) sent next h
 
     lists_by : (b : Bool) (z : Terms) (payload sent : List ℕ) (next : Phase)
-        → MatchBool b (Ends outline Calls [] (Options z) old sent next new)
+        → MatchBool b (Tells outline Calls (outcome [] Ended) old sent next new)
         (MatchBool (length payload == 0) (NamesAll outline Calls z old sent next new ⊎ NamesNone outline Calls old sent next new) (Tells outline Calls (option_error OPTION_LIST Invalid z) old sent next new))
-        → Likewise (λ s'. MatchBool b (Ends outline' Calls' [] (Options z) s sent next s')
+        → Likewise (λ s'. MatchBool b (Tells outline' Calls' (outcome [] Ended) s sent next s')
         (MatchBool (length payload == 0) (NamesAll outline' Calls' z s sent next s' ⊎ NamesNone outline' Calls' s sent next s') (Tells outline' Calls' (option_error OPTION_LIST Invalid z) s sent next s'))) new
-    lists_by true z payload sent next h = ends_likewise [] (Options z) next sent h
+    lists_by true z payload sent next h = tells_likewise (outcome [] Ended) sent next h
     lists_by false z payload sent next h = names_by (length payload == 0) z sent next h
 
     lists_likewise : (z : Terms) (payload sent : List ℕ) (next : Phase) → Lists outline Calls z payload old sent next new → Likewise (Lists outline' Calls' z payload s sent next) new
     lists_likewise z payload sent next h =
-        let P : Mode → Type 0 = λ m. Likewise (λ s'. MatchBool (is_failed m) (Ends outline' Calls' [] (Options z) s sent next s')
+        let P : Mode → Type 0 = λ m. Likewise (λ s'. MatchBool (is_failed m) (Tells outline' Calls' (outcome [] Ended) s sent next s')
         (MatchBool (length payload == 0) (NamesAll outline' Calls' z s sent next s' ⊎ NamesNone outline' Calls' s sent next s') (Tells outline' Calls' (option_error OPTION_LIST Invalid z) s sent next s'))) new in
         subst P (sym (same_mode)) (lists_by (is_failed (outline old).mode) z payload sent next h)
 
     queries_by : (b c : Bool) (option : ℕ) (asks : List (List ℕ) → Bool) (o : Bool → ℕ → VolumeOption) (z y : Terms) (payload sent : List ℕ) (next : Phase)
-        → MatchBool b (Ends outline Calls [] (Options z) old sent next new)
+        → MatchBool b (Tells outline Calls (outcome [] Ended) old sent next new)
         (MatchBool c (IsNoQuery outline Calls option y payload old sent next new ⊎ IsQueried outline Calls asks o payload old sent next new) (Tells outline Calls (option_error option Invalid y) old sent next new))
-        → Likewise (λ s'. MatchBool b (Ends outline' Calls' [] (Options z) s sent next s')
+        → Likewise (λ s'. MatchBool b (Tells outline' Calls' (outcome [] Ended) s sent next s')
         (MatchBool c (IsNoQuery outline' Calls' option y payload s sent next s' ⊎ IsQueried outline' Calls' asks o payload s sent next s') (Tells outline' Calls' (option_error option Invalid y) s sent next s'))) new
-    queries_by true c option asks o z y payload sent next h = ends_likewise [] (Options z) next sent h
+    queries_by true c option asks o z y payload sent next h = tells_likewise (outcome [] Ended) sent next h
     queries_by false true option asks o z y payload sent next (inl h) = let m = tells_likewise _ sent next h.tells in (m.0, inl (record { no_query = h.no_query; tells = m.1 }), m.2)
     queries_by false true option asks o z y payload sent next (inr h) =
         let m = seeks_likewise (o (asks h.queries)) (since_of h.queries) h.name old new s sent next is_shown h.seeks in
@@ -500,7 +529,7 @@ module _ {D B : Type 0} (outline : D → Outline) (Calls : D → Call → Answer
     queries_likewise : (option : ℕ) (asks : List (List ℕ) → Bool) (o : Bool → ℕ → VolumeOption) (z y : Terms) (payload sent : List ℕ) (next : Phase) → Queries outline Calls option asks o z y payload old sent next new
         → Likewise (Queries outline' Calls' option asks o z y payload s sent next) new
     queries_likewise option asks o z y payload sent next h =
-        let P : Mode → Type 0 = λ m. Likewise (λ s'. MatchBool (is_failed m) (Ends outline' Calls' [] (Options z) s sent next s')
+        let P : Mode → Type 0 = λ m. Likewise (λ s'. MatchBool (is_failed m) (Tells outline' Calls' (outcome [] Ended) s sent next s')
         (MatchBool z.is_structured (IsNoQuery outline' Calls' option y payload s sent next s' ⊎ IsQueried outline' Calls' asks o payload s sent next s') (Tells outline' Calls' (option_error option Invalid y) s sent next s'))) new in
         subst P (sym (same_mode)) (queries_by (is_failed (outline old).mode) z.is_structured option asks o z y payload sent next h)
 
@@ -523,46 +552,55 @@ module _ {D B : Type 0} (outline : D → Outline) (Calls : D → Call → Answer
         (MatchBool is_info (Informs outline Calls OPTION_INFO (info z) z payload old sent next new)
         (MatchBool is_export (Exports outline Calls (export_name z) z payload old sent next new)
         (MatchBool is_list (Lists outline Calls z payload old sent next new)
-        (MatchBool is_abort (Ends outline Calls (option_reply OPTION_ABORT Acknowledged []) (Options z) old sent next new)
+        (MatchBool is_abort (Tells outline Calls (outcome (option_reply OPTION_ABORT Acknowledged []) Ended) old sent next new)
         (MatchBool is_long (Extends outline Calls z option payload old sent next new) (Tells outline Calls (option_error option Unsupported z) old sent next new))))))
         → Likewise (λ s'. MatchBool is_go (Informs outline' Calls' OPTION_GO (go z) z payload s sent next s')
         (MatchBool is_info (Informs outline' Calls' OPTION_INFO (info z) z payload s sent next s')
         (MatchBool is_export (Exports outline' Calls' (export_name z) z payload s sent next s')
         (MatchBool is_list (Lists outline' Calls' z payload s sent next s')
-        (MatchBool is_abort (Ends outline' Calls' (option_reply OPTION_ABORT Acknowledged []) (Options z) s sent next s')
+        (MatchBool is_abort (Tells outline' Calls' (outcome (option_reply OPTION_ABORT Acknowledged []) Ended) s sent next s')
         (MatchBool is_long (Extends outline' Calls' z option payload s sent next s') (Tells outline' Calls' (option_error option Unsupported z) s sent next s'))))))) new
     chosen_by true is_info is_export is_list is_abort is_long z option payload sent next h = informs_likewise OPTION_GO (go z) z payload sent next h
     chosen_by false true is_export is_list is_abort is_long z option payload sent next h = informs_likewise OPTION_INFO (info z) z payload sent next h
     chosen_by false false true is_list is_abort is_long z option payload sent next h = exports_likewise (export_name z) z payload sent next h
     chosen_by false false false true is_abort is_long z option payload sent next h = lists_likewise z payload sent next h
-    chosen_by false false false false true is_long z option payload sent next h = ends_likewise (option_reply OPTION_ABORT Acknowledged []) (Options z) next sent h
+    chosen_by false false false false true is_long z option payload sent next h = tells_likewise (outcome (option_reply OPTION_ABORT Acknowledged []) Ended) sent next h
     chosen_by false false false false false true z option payload sent next h = extends_likewise (option == OPTION_STRUCTURED_REPLY) (option == OPTION_LIST_META_CONTEXT) (option == OPTION_SET_META_CONTEXT) z option payload sent next h
     chosen_by false false false false false false z option payload sent next h = tells_likewise (option_error option Unsupported z) sent next h
 
+  option_likewise : (old new : D) (s : B) → R old s → (z : Terms) (option : ℕ) (payload sent : List ℕ) (next : Phase) → AnswersOption outline Calls z option payload old sent next new
+      → Likewise (AnswersOption outline' Calls' z option payload s sent next) new
+  option_likewise old new s is_shown z option payload sent next h =
+      let m = chosen_by old h.answered s is_shown (option == OPTION_GO) (option == OPTION_INFO) (option == OPTION_EXPORT_NAME) (option == OPTION_LIST) (option == OPTION_ABORT) (is_extended z.profile) z option payload
+      h.chosen.sent h.chosen.next h.chooses in
+      let n = settles_likewise (z.since == older_in h.chosen.next) z.since h.chosen h.answered new m.0 sent next m.2 h.settles in
+      (n.0, record { chosen = h.chosen; answered = m.0; chooses = m.1; settles = n.1 }, n.2)
+
+  module _ (old new : D) (s : B) (is_shown : R old s) where
     pub answers_likewise : (phase next : Phase) (m : Message) (sent : List ℕ) → Answers outline Calls phase m old sent next new → Likewise (Answers outline' Calls' phase m s sent next) new
-    answers_likewise (Flags a) next (client_flags z) sent h = tells_likewise (outcome [] (Options (terms_of a z))) sent next h
+    answers_likewise (Flags a) next (client_flags z) sent h = tells_likewise old new s is_shown (outcome [] (Options (terms_of a z))) sent next h
     answers_likewise (Flags a) next (client_option o q) sent h = absurd h
     answers_likewise (Flags a) next (command r q) sent h = absurd h
-    answers_likewise (Flags a) next malformed sent h = ends_likewise [] (Flags a) next sent h
+    answers_likewise (Flags a) next malformed sent h = ends_likewise old new s is_shown [] (Flags a) next sent h
     answers_likewise (Options z) next (client_flags y) sent h = absurd h
-    answers_likewise (Options z) next (client_option o q) sent h = chosen_by (o == OPTION_GO) (o == OPTION_INFO) (o == OPTION_EXPORT_NAME) (o == OPTION_LIST) (o == OPTION_ABORT) (is_extended z.profile) z o q sent next h
+    answers_likewise (Options z) next (client_option o q) sent h = option_likewise old new s is_shown z o q sent next h
     answers_likewise (Options z) next (command r q) sent h = absurd h
-    answers_likewise (Options z) next malformed sent h = ends_likewise [] (Options z) next sent h
+    answers_likewise (Options z) next malformed sent h = ends_likewise old new s is_shown [] (Options z) next sent h
     answers_likewise (Transmission v n (Listens x)) next (client_flags y) sent h = absurd h
     answers_likewise (Transmission v n (Listens x)) next (client_option o q) sent h = absurd h
-    answers_likewise (Transmission v n (Listens x)) next (command r q) sent h = serves_likewise (verdict_in x n r) v n x r q sent next h
-    answers_likewise (Transmission v n (Listens x)) next malformed sent h = ends_likewise [] (Transmission v n (Listens x)) next sent h
+    answers_likewise (Transmission v n (Listens x)) next (command r q) sent h = serves_likewise old new s is_shown (verdict_in x n r) v n x r q sent next h
+    answers_likewise (Transmission v n (Listens x)) next malformed sent h = ends_likewise old new s is_shown [] (Transmission v n (Listens x)) next sent h
     answers_likewise (Transmission v n (Works x r)) next m sent h = absurd h
     answers_likewise Ended next (client_flags y) sent h = absurd h
     answers_likewise Ended next (client_option o q) sent h = absurd h
     answers_likewise Ended next (command r q) sent h = absurd h
-    answers_likewise Ended next malformed sent h = ends_likewise [] Ended next sent h
+    answers_likewise Ended next malformed sent h = ends_likewise old new s is_shown [] Ended next sent h
 
     -- a session that reads no frames
     deaf_likewise : (phase : Phase) (from to : State) (piece sent : List ℕ) (taken : ℕ) (ended : Bool) → IsDeaf outline Calls phase from old piece taken sent ended to new
         → Likewise (IsDeaf outline' Calls' phase from s piece taken sent ended to) new
     deaf_likewise (Transmission v n (Works m r)) from to piece sent taken ended h =
-        let x = part_likewise v n m r sent to.phase h.part in
+        let x = part_likewise old new s is_shown v n m r sent to.phase h.part in
         (x.0, record { part = x.1; none = h.none; taken_is = h.taken_is; ended_is = h.ended_is; held_is = h.held_is }, x.2)
     deaf_likewise Ended from to piece sent taken ended h =
         resting _ old new s h.pool_is is_shown (record { taken_is = h.taken_is; sent_is = h.sent_is; ended_is = h.ended_is; phase_is = h.phase_is; held_is = h.held_is; pool_is = refl })

@@ -5,6 +5,7 @@ pub mod Fronts
 pub mod Stepping
 pub mod Following
 pub mod Counting
+pub mod Comparing
 pub mod Looking
 pub mod Cloning
 pub mod Advancing
@@ -20,3 +21,4 @@ pub mod Exact
 pub mod Telling
 pub mod Holing
 pub mod Filling
+pub mod Flushing

@@ -1,21 +1,22 @@
 -- Where the parts of a long request end, and what is told of one.
-use Rattle.std.proofs.Common.{◌≡◌, ℕ, ◌-◌, ◌*◌, ◌/◌, ◌%◌, ◌<◌, ◌≤◌, Bool, true, false, List, [], refl, sym, ap, subst, ◌∙◌, arith, inl, inr}
+use Rattle.std.proofs.Common.{◌≡◌, ℕ, ◌-◌, ◌*◌, ◌/◌, ◌%◌, ◌<◌, ◌≤◌, Bool, true, false, None, List, [], refl, sym, ap, subst, ◌∙◌, arith, inl, inr}
 use Rattle.std.specs.Prelude.{◌&&◌, if◌then◌else◌}
 use Rattle.std.proofs.Math.Nat.{div-add-mod, div-mul-le_self, mod-lt, mod-mod_of_dvd, mul-pos}
 use Rattle.std.proofs.lemmas.Bool.{cases_lt}
 use Rattle.std.proofs.lemmas.Nat.Gcd.{dvd_of_mod-eq-zero}
-use Rattle.tp_model.specs.Requests.{is_trim}
+use Rattle.tp_model.specs.Requests.{is_flush, is_trim}
+use Rattle.tp_model.specs.Clauses.{Meets, PoolCall, View}
 use Rattle.tp_model.specs.Geometry.{Geometry}
 use Rattle.tp_model.specs.declared.refusal.Refusal.{Refusal}
 use Rattle.tp_model.specs.Pool.{Outline}
-use Rattle.tp_model.specs.Calls.{Answer, Call, Done, Refused, Trim, WriteZeroes}
+use Rattle.tp_model.specs.Calls.{Answer, Call, Done, Flush, Refused, Trim, WriteZeroes}
 use Rattle.nbd_wire.specs.declared.Request.{Request}
 use Rattle.nbd_session.specs.declared.phase.Course.TheVariants.{Listens, Works}
 use Rattle.nbd_session.specs.declared.phase.Manner.{Manner}
 use Rattle.nbd_session.specs.declared.phase.Phase.{Phase}
-use Rattle.nbd_session.specs.declared.phase.Phase.TheVariants.{Transmission}
+use Rattle.nbd_session.specs.declared.phase.Phase.TheVariants.{Ended, Flags, Options, Transmission}
 use Rattle.nbd_session.specs.Requests.{IsLeft, IsWhole, behind, form_of, has_fua, has_no_hole, is_last, len_of_part, long_call, part_call, rest_of, to_keep, up_to_cut}
-use Rattle.nbd_session.specs.Session.{Begins, IsMade, MakesPart, reply_to}
+use Rattle.nbd_session.specs.Session.{Begins, IsMade, MakesPart, is_to_flush, kind_of, reply_to}
 
 -- as many whole blocks as 2048 sectors have are one at least
 pub blocks_fit : (block : ℕ) → 0 < block → block ≤ 2048 → (1 ≤ 2048 / block * block) × (2048 / block * block ≤ 2048)
@@ -110,3 +111,19 @@ module _ {D : Type 0} (outline : D → Outline) (Calls : D → Call → Answer �
   part_more last len sent call is more cut sent_is =
       let P : ℕ → Type 0 = λ n. MakesPart outline Calls id size m r p sent (Transmission id size (Works m (behind r n))) p' in
       subst P (sym cut) (record { answer = Done; calls = call; is_made = made_more (is_last (outline p).geometry r) (rest_of (outline p).geometry r) sent (sym is ∙ more) sent_is })
+
+-- A request of which a FLUSH is left is answered by a flush that was made elsewhere.
+pub ended_by : {D : Type 0} (view : View D) (volume size : ℕ) (manner : Manner) (r : Request) (g : Geometry) (p q : D) (answer : Answer) (sent : List ℕ) (next : Phase) → (view.outline p).geometry ≡ g → is_flush (form_of r) ≡ true
+    → Meets view p q Flush answer → IsMade volume size manner r (rest_of g r) (is_last g r) answer sent next → MakesPart view.outline (PoolCall view) volume size manner r p sent next q
+ended_by view volume size manner r g p q answer sent next same flush met made = record {
+  answer = answer;
+  calls = subst (λ (b : Bool). PoolCall view p (if b then Flush else long_call volume (view.outline p).geometry r) answer q) (sym flush) met;
+  is_made = subst (λ (h : Geometry). IsMade volume size manner r (rest_of h r) (is_last h r) answer sent next) (sym same) made;
+}
+
+pub flushing_deaf : (phase : Phase) → is_to_flush phase ≡ true → kind_of phase ≡ None
+flushing_deaf (Flags a) w = absurd cc
+flushing_deaf (Options z) w = absurd cc
+flushing_deaf (Transmission v n (Listens x)) w = absurd cc
+flushing_deaf (Transmission v n (Works m r)) w = refl
+flushing_deaf Ended w = absurd cc

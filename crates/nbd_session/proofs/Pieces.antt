@@ -1,11 +1,11 @@
 -- Steps to the end of a piece.
-use Rattle.std.proofs.Common.{◌≡◌, ℕ, ◌+◌, ◌-◌, ◌*◌, ◌<◌, ◌≤◌, ◌⊎◌, Bool, true, false, arith, inl, inr, List, ◌++◌, length, take, drop, refl, sym, subst, ◌∙◌}
+use Rattle.std.proofs.Common.{◌≡◌, ℕ, ◌+◌, ◌-◌, ◌*◌, ◌<◌, ◌≤◌, ◌⊎◌, Bool, true, false, arith, inl, inr, List, ◌++◌, length, take, drop, refl, ◌∙◌}
 use Rattle.tp_model.specs.Clauses.{PoolCall, View, ViewLaws}
 use Rattle.nbd_session.specs.declared.phase.Phase.{Phase}
-use Rattle.nbd_session.specs.Session.{State, is_at_work, left_in}
+use Rattle.nbd_session.specs.Session.{State, is_at_work, left_in, volumes_in}
 use Rattle.nbd_session.specs.Talk.{Converses}
-use Rattle.nbd_session.specs.Clauses.{Advances, Feeds, IsCalm, IsReady, SparesOthers, held_beside}
-use Rattle.nbd_session.proofs.Counting.{beside_stays, held_there}
+use Rattle.nbd_session.specs.Clauses.{Advances, Feeds, IsCalm, IsReady, SparesOthers}
+use Rattle.nbd_session.proofs.Counting.{beside_held}
 use Rattle.nbd_session.proofs.Talking.{begins, goes_by, joins}
 use Rattle.nbd_session.proofs.Turning.{talks_traced}
 
@@ -38,27 +38,23 @@ module _ {D : Type 0} (view : View D) (laws : ViewLaws view) where
 
   -- a step changes nothing of what others hold
   spares : (old new : State) (pool after : D) (piece sent : List ℕ) (taken : ℕ) (ended : Bool) → Advances view old pool piece taken sent ended new after → SparesOthers view old.phase pool new.phase after
-  spares old new pool after piece sent taken ended a =
-      let held : (i : ℕ) → held_beside new.phase (view.outline after).holds i ≡ held_beside old.phase (view.outline pool).holds i =
-      λ i. beside_stays old.phase new.phase (view.outline pool).holds (view.outline after).holds i a.follows a.holds in
-      record {
-        held = held;
-        more = λ i some.
-            let P : ℕ → Type 0 = λ n. 0 < n in
-            a.more i (held_there old.phase (view.outline pool).holds i some) (held_there new.phase (view.outline after).holds i (subst P (sym (held i)) some));
-      }
+  spares old new pool after piece sent taken ended a = record {
+    held = a.holds;
+    more = λ others is i some.
+        a.more i (beside_held (volumes_in old.phase) others (view.outline pool).holds i is some) (beside_held (volumes_in new.phase) others (view.outline after).holds i (a.holds others is) some);
+  }
 
   -- nor do two
   spare_both : (old mid new : State) (pool q after : D) → SparesOthers view old.phase pool mid.phase q → SparesOthers view mid.phase q new.phase after → SparesOthers view old.phase pool new.phase after
   spare_both old mid new pool q after f a = record {
-    held = λ i. a.held i ∙ f.held i;
-    more = λ i some. let P : ℕ → Type 0 = λ n. 0 < n in a.more i (subst P (sym (f.held i)) some) ∙ f.more i some;
+    held = λ others is. a.held others (f.held others is);
+    more = λ others is i some. a.more others (f.held others is) i some ∙ f.more others is i some;
   }
 
   -- before the first step
   pub feeds_none : (start : State) (pool : D) (piece before : List ℕ) → IsCalm start → IsReady start.phase (view.outline pool) (view.more pool) → Feeds view start pool (take 0 piece) before before start pool
   feeds_none start pool piece before calm ready =
-      fed start start pool pool (take 0 piece) before before (begins view.outline (PoolCall view) start pool piece before calm) calm ready refl (record { held = λ i. refl; more = λ i some. refl })
+      fed start start pool pool (take 0 piece) before before (begins view.outline (PoolCall view) start pool piece before calm) calm ready refl (record { held = λ others is. is; more = λ others is i some. refl })
 
   -- and one step more
   pub feeds_more : (start mid new : State) (pool q after : D) (piece rest before now sent : List ℕ) (at taken : ℕ) (ended : Bool) → at ≤ length piece → rest ≡ drop at piece

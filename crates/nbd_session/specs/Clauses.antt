@@ -1,10 +1,11 @@
 -- Trusted reading: the clauses of a session over a pool, of whose volumes nothing may be known.
-use Rattle.std.specs.Prelude.{◌≡◌, ℕ, ◌-◌, ◌<◌, ◌≤◌, ◌==◌, ◌⊎◌, Bool, true, false, List, [], length, MatchOption, if◌then◌else◌}
+use Rattle.std.specs.Prelude.{◌≡◌, ℕ, ◌<◌, ◌≤◌, ◌⊎◌, Bool, true, false, List, [], ◌++◌, length, MatchOption}
 use Rattle.std.specs.Ordering.{nat_cmp}
 use Rattle.std.specs.FinMap.{FinMap}
-use Rattle.tp_model.specs.Pool.{PlainPool, Outline, hold_count, hold_total}
-use Rattle.tp_model.specs.Calls.{Call, Answer, Takes, Hold, LetGo, Done, holds_after}
+use Rattle.tp_model.specs.Pool.{PlainPool, Outline, hold_count}
+use Rattle.tp_model.specs.Calls.{Call, Answer, Takes}
 use Rattle.tp_model.specs.Clauses.{Continues, HasTrace, PoolCall, Traced, TracedCall, View, outline_of_traced}
+use Rattle.tp_holders.specs.Holders.{counts_of}
 use Rattle.nbd_wire.specs.Grammar.{Message, client_flags, client_option, command, malformed, payload_len, IsPartial}
 use Rattle.nbd_session.specs.declared.phase.Course.{Course}
 use Rattle.nbd_session.specs.declared.phase.Course.TheVariants.{Listens, Works}
@@ -12,7 +13,7 @@ use Rattle.nbd_session.specs.declared.phase.Phase.{Phase}
 use Rattle.nbd_session.specs.declared.phase.Phase.TheVariants.{Flags, Options, Transmission, Ended}
 use Rattle.nbd_session.specs.declared.phase.Terms.{Terms}
 use Rattle.nbd_session.specs.Requests.{known_bytes}
-use Rattle.nbd_session.specs.Session.{State, clone_manner, kind_of, has_clones, has_ended, is_at_work, is_extended, left_in, manner_in, manner_of, terms_of, LetsGo, Steps}
+use Rattle.nbd_session.specs.Session.{State, clone_manner, kind_of, has_clones, has_ended, is_at_work, is_extended, left_in, manner_in, manner_of, terms_of, volumes_in, LetsGo, Steps}
 use Rattle.nbd_session.specs.Talk.{Converses}
 
 -- a frame that may come in the phase
@@ -25,30 +26,23 @@ IsOf Ended malformed = ⊥
 IsOf phase malformed = Unit {0}
 IsOf phase _ = ⊥
 
--- Before transmission there is room for one hold more. In transmission the volume is held, and has the size that was told when it began: `more` is how
+-- All that is held of the pool is what a session holds, and what others hold: of that there is so little that the session may hold two volumes.
+pub record HoldsBeside (own : List ℕ) (holds : FinMap nat_cmp ℕ) : Type 0 where
+  pub others : List ℕ
+  pub few : length others ≤ 126
+  pub all : holds ≡ counts_of (own ++ others)
+
+-- A session holds the volume that it serves, and the older one that its client compares that with. In transmission the volume has the size that was told when it began: `more` is how
 -- many sectors beyond the pool's own size a volume is known to have.
 abbrev pub IsReady : Phase → Outline → (ℕ → ℕ) → Type 0
-IsReady (Flags profile) p more = hold_total p.holds < 64
-IsReady (Options terms) p more = hold_total p.holds < 64
-IsReady (Transmission volume size course) p more = (0 < hold_count p.holds volume) × (size ≡ known_bytes p.geometry more volume)
+IsReady (Flags profile) p more = HoldsBeside [] p.holds
+IsReady (Options terms) p more = HoldsBeside (volumes_in (Options terms)) p.holds
+IsReady (Transmission volume size course) p more = HoldsBeside (volumes_in (Transmission volume size course)) p.holds × (size ≡ known_bytes p.geometry more volume)
 IsReady Ended p more = Unit {0}
 
--- A session that enters transmission holds its volume, and one that leaves it lets its volume go.
-abbrev pub holds_between : Phase → Phase → FinMap nat_cmp ℕ → FinMap nat_cmp ℕ
-holds_between (Options terms) (Transmission volume size course) holds = holds_after holds (Hold volume) Done
-holds_between (Transmission volume size course) Ended holds = holds_after holds (LetGo volume) Done
-holds_between old new holds = holds
-
--- What is held after one frame. An option that ends the session may have held a volume before, whose size was refused: it was let go.
+-- Of what is held the session's part changes with its phase: it holds the volumes of the new one. What others hold they hold as before.
 abbrev pub HoldsFollow : Phase → Phase → FinMap nat_cmp ℕ → FinMap nat_cmp ℕ → Type 0
-HoldsFollow (Options terms) Ended holds holds' =
-    (holds' ≡ holds) ⊎ ((volume : ℕ) × (holds' ≡ holds_after (holds_after holds (Hold volume) Done) (LetGo volume) Done))
-HoldsFollow old new holds holds' = holds' ≡ holds_between old new holds
-
--- how often a volume is held by others than a session in this phase
-abbrev pub held_beside : Phase → FinMap nat_cmp ℕ → ℕ → ℕ
-held_beside (Transmission volume size course) holds id = if volume == id then hold_count holds id - 1 else hold_count holds id
-held_beside phase holds id = hold_count holds id
+HoldsFollow old new holds holds' = (others : List ℕ) → holds ≡ counts_of (volumes_in old ++ others) → holds' ≡ counts_of (volumes_in new ++ others)
 
 -- Options of an extended session may change what is asked for beside the volume, and nothing else; structured replies stay asked for. Those of a strict one
 -- change nothing.
@@ -96,14 +90,14 @@ module _ {D : Type 0} (view : View D) where
 
   -- Others hold what they held, and the size of a volume that others hold stays known.
   pub record SparesOthers (old : Phase) (pool : D) (new : Phase) (after : D) : Type 0 where
-    pub held : (id : ℕ) → held_beside new (view.outline after).holds id ≡ held_beside old (view.outline pool).holds id
-    pub more : (id : ℕ) → 0 < held_beside old (view.outline pool).holds id → view.more after id ≡ view.more pool id
+    pub held : HoldsFollow old new (view.outline pool).holds (view.outline after).holds
+    pub more : (others : List ℕ) → (view.outline pool).holds ≡ counts_of (volumes_in old ++ others) → (id : ℕ) → 0 < hold_count (counts_of others) id → view.more after id ≡ view.more pool id
 
   -- One step. What is sent is the answer to the frame that ends in what was taken, as the pool answered the calls that the frame makes of it:
   -- those of NextId for LIST, one of NextId, Hold and VolumeBlocks each at most for another option (two of NextId where it names an older volume; for one that makes a clone up to
   -- 64 of CreateSnap in the place of NextId), two of Walk at most
-  -- for BLOCK_STATUS, one at most for another frame, and Walk behind Read for a long READ in chunks. One of LetGo may be the last, where the session ends, and behind that one of Delete
-  -- where it had a clone. A session that has parts of a request left makes one, and takes nothing.
+  -- for BLOCK_STATUS, one at most for another frame, and Walk behind Read for a long READ in chunks. Behind an option an older volume is let go by LetGo, and another one held by Hold, where the
+  -- next phase names another. Where the session ends, what it holds is let go, and behind that there is one of Delete where it had a clone. A session that has parts of a request left makes one, and takes nothing.
   pub record Advances (old : State) (pool : D) (piece : List ℕ) (taken : ℕ) (sent : List ℕ) (ended : Bool) (new : State) (after : D) : Type 0 where
     pub steps : Steps view.outline (PoolCall view) old pool piece taken sent ended new after
     pub traced : GoesWithTrace pool after (λ t t'. Steps outline_of_traced (TracedCall view.has_use) old t piece taken sent ended new t')
@@ -120,11 +114,11 @@ module _ {D : Type 0} (view : View D) where
     pub geometry : (view.outline after).geometry ≡ (view.outline pool).geometry
     pub more : KeepsSizes pool after
 
-  -- A session ends in some phase: its volume is let go, deleted where it is a clone, and nothing else is done.
+  -- A session ends in some phase: the volumes that it holds are let go, its own is deleted where it is a clone, and nothing else is done.
   pub record Leaves (phase : Phase) (pool : D) (after : D) : Type 0 where
     pub lets_go : LetsGo view.outline (PoolCall view) phase pool after
     pub traced : GoesWithTrace pool after (λ t t'. LetsGo outline_of_traced (TracedCall view.has_use) phase t t')
-    pub holds : (view.outline after).holds ≡ holds_between phase Ended (view.outline pool).holds
+    pub holds : HoldsFollow phase Ended (view.outline pool).holds (view.outline after).holds
     pub geometry : (view.outline after).geometry ≡ (view.outline pool).geometry
     pub more : KeepsSizes pool after
 

@@ -9,3 +9,4 @@ pub mod Turns
 pub mod Status
 pub mod Holes
 pub mod Spans
+pub mod Flushes

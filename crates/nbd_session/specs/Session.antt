@@ -76,14 +76,6 @@ is_to_flush (Transmission volume size (Listens manner)) = false
 is_to_flush (Transmission volume size (Works manner rest)) = is_flush (form_of rest)
 is_to_flush Ended = false
 
--- a session whose requests with FUA are kept apart
-abbrev pub keeps_apart : Phase → Bool
-keeps_apart (Flags profile) = false
-keeps_apart (Options terms) = false
-keeps_apart (Transmission volume size (Listens manner)) = manner.is_extended
-keeps_apart (Transmission volume size (Works manner rest)) = manner.is_extended
-keeps_apart Ended = false
-
 -- one that is told since an older volume
 abbrev pub has_older : Phase → Bool
 has_older (Flags profile) = false
@@ -92,6 +84,33 @@ has_older (Transmission volume size (Listens manner)) = has_since manner
 has_older (Transmission volume size (Works manner rest)) = has_since manner
 has_older Ended = false
 
+-- how it takes and answers requests
+abbrev pub manner_in : Course → Manner
+manner_in (Listens manner) = manner
+manner_in (Works manner rest) = manner
+
+-- The older volume that a session holds from the SET_META_CONTEXT on that named it, so that none of this number is made anew meanwhile. None where the number is no id.
+abbrev pub older_in : Phase → ℕ
+older_in (Flags profile) = 16777216
+older_in (Options terms) = terms.since
+older_in (Transmission volume size course) = (manner_in course).since
+older_in Ended = 16777216
+
+-- the volume that it serves
+abbrev pub own_in : Phase → List ℕ
+own_in (Flags profile) = []
+own_in (Options terms) = []
+own_in (Transmission volume size course) = volume ∷ []
+own_in Ended = []
+
+-- a number, where it is an id
+abbrev pub ids_of : ℕ → List ℕ
+ids_of id = if nat_lt id 16777216 then id ∷ [] else []
+
+-- the volumes that a session holds
+abbrev pub volumes_in : Phase → List ℕ
+volumes_in phase = own_in phase ++ ids_of (older_in phase)
+
 -- how many bytes of a request are left
 abbrev pub left_in : Phase → ℕ
 left_in (Flags profile) = 0
@@ -99,11 +118,6 @@ left_in (Options terms) = 0
 left_in (Transmission volume size (Listens manner)) = 0
 left_in (Transmission volume size (Works manner rest)) = rest.len
 left_in Ended = 0
-
--- how it takes and answers requests
-abbrev pub manner_in : Course → Manner
-manner_in (Listens manner) = manner
-manner_in (Works manner rest) = manner
 
 -- ---- what is offered
 
@@ -444,16 +458,47 @@ module _ {S : Type 0} (outline : S → Outline) (Calls : S → Call → Answer �
     pub answer : Answer
     pub deletes : Calls let_go (Delete id) answer p'
 
-  -- the end of a session lets its volume go; where that is a clone the pool is asked to delete it too
-  abbrev pub LetsGo : Phase → S → S → Type 0
-  LetsGo (Flags profile) p p' = p' ≡ p
-  LetsGo (Options terms) p p' = p' ≡ p
-  LetsGo (Transmission volume size course) p p' = MatchBool (manner_in course).is_clone (GivesUp volume p p') (Calls p (LetGo volume) Done p')
-  LetsGo Ended p p' = p' ≡ p
+  -- an older volume is let go, where there is one
+  abbrev pub LetsOlderGo : ℕ → S → S → Type 0
+  LetsOlderGo id p p' = MatchBool (nat_lt id 16777216) (Calls p (LetGo id) Done p') (p' ≡ p)
+
+  -- and so is the volume that a session serves; where that is a clone the pool is asked to delete it too
+  abbrev pub LetsOwnGo : Phase → S → S → Type 0
+  LetsOwnGo (Flags profile) p p' = p' ≡ p
+  LetsOwnGo (Options terms) p p' = p' ≡ p
+  LetsOwnGo (Transmission volume size course) p p' = MatchBool (manner_in course).is_clone (GivesUp volume p p') (Calls p (LetGo volume) Done p')
+  LetsOwnGo Ended p p' = p' ≡ p
+
+  -- the end of a session lets the older volume go that it holds, and then the volume that it serves
+  pub record LetsGo (phase : Phase) (p p' : S) : Type 0 where
+    pub without_older : S
+    pub lets_older_go : LetsOlderGo (older_in phase) p without_older
+    pub lets_own_go : LetsOwnGo phase without_older p'
 
   -- the session ends, and these are its last bytes
   abbrev pub Ends : List ℕ → Phase → S → List ℕ → Phase → S → Type 0
   Ends last phase p sent next p' = (sent ≡ last) × (next ≡ Ended) × LetsGo phase p p'
+
+  -- An older volume is to be held before this is sent, and was, or was not: then the session ends, and nothing is sent.
+  abbrev pub IsOlderHeld : Outcome → Answer → List ℕ → Phase → Type 0
+  IsOlderHeld o Done sent next = IsOutcome o sent next
+  IsOlderHeld o (Refused reason) sent next = IsOutcome (outcome [] Ended) sent next
+  IsOlderHeld o answer sent next = ⊥
+
+  pub record HoldsOlder (id : ℕ) (o : Outcome) (p : S) (sent : List ℕ) (next : Phase) (p' : S) : Type 0 where
+    pub answer : Answer
+    pub calls : Calls p (Hold id) answer p'
+    pub is_held : IsOlderHeld o answer sent next
+
+  -- In the place of one older volume the session holds another one from now on, where there is one.
+  pub record Trades (id other : ℕ) (o : Outcome) (p : S) (sent : List ℕ) (next : Phase) (p' : S) : Type 0 where
+    pub without_older : S
+    pub lets_older_go : LetsOlderGo id p without_older
+    pub holds : MatchBool (nat_lt other 16777216) (HoldsOlder other o without_older sent next p') (Tells o without_older sent next p')
+
+  -- Behind an option the session holds the older volume that its next phase names, and no other one.
+  abbrev pub Settles : ℕ → Outcome → S → List ℕ → Phase → S → Type 0
+  Settles id o p sent next p' = MatchBool (id == older_in o.next) (Tells o p sent next p') (Trades id (older_in o.next) o p sent next p')
 
   -- a request that the pool is asked, and how its answer is told
   pub record Performs (call : Call) (reply : Answer → List ℕ) (p : S) (sent : List ℕ) (p' : S) : Type 0 where
@@ -700,14 +745,14 @@ module _ {S : Type 0} (outline : S → Outline) (Calls : S → Call → Answer �
   abbrev pub Informs : ℕ → VolumeOption → Terms → List ℕ → S → List ℕ → Phase → S → Type 0
   Informs option o terms payload p sent next p' =
       MatchBool (is_failed (outline p).mode)
-      (Ends [] (Options terms) p sent next p')
+      (Tells (outcome [] Ended) p sent next p')
       (IsInvalid option terms payload p sent next p' ⊎ IsValid o payload p sent next p')
 
   -- The same of an option whose data is the name, whatever it is.
   abbrev pub Exports : VolumeOption → Terms → List ℕ → S → List ℕ → Phase → S → Type 0
   Exports o terms name p sent next p' =
       MatchBool (is_failed (outline p).mode)
-      (Ends [] (Options terms) p sent next p')
+      (Tells (outcome [] Ended) p sent next p')
       (LooksFor o name p sent next p')
 
   -- Calls of NextId one after another, each for what follows the id that the one before it found: from an id on they found these, and ended so.
@@ -754,7 +799,7 @@ module _ {S : Type 0} (outline : S → Outline) (Calls : S → Call → Answer �
   abbrev pub Lists : Terms → List ℕ → S → List ℕ → Phase → S → Type 0
   Lists terms payload p sent next p' =
       MatchBool (is_failed (outline p).mode)
-      (Ends [] (Options terms) p sent next p')
+      (Tells (outcome [] Ended) p sent next p')
       (MatchBool (length payload == 0)
       (NamesAll terms p sent next p' ⊎ NamesNone p sent next p')
       (Tells (option_error OPTION_LIST Invalid terms) p sent next p'))
@@ -800,7 +845,7 @@ module _ {S : Type 0} (outline : S → Outline) (Calls : S → Call → Answer �
   abbrev pub Queries : ℕ → (List (List ℕ) → Bool) → (Bool → ℕ → VolumeOption) → Terms → Terms → List ℕ → S → List ℕ → Phase → S → Type 0
   Queries option asks o terms refused payload p sent next p' =
       MatchBool (is_failed (outline p).mode)
-      (Ends [] (Options terms) p sent next p')
+      (Tells (outcome [] Ended) p sent next p')
       (MatchBool terms.is_structured
       (IsNoQuery option refused payload p sent next p' ⊎ IsQueried asks o payload p sent next p')
       (Tells (option_error option Invalid refused) p sent next p'))
@@ -820,14 +865,21 @@ module _ {S : Type 0} (outline : S → Outline) (Calls : S → Call → Answer �
       (MatchBool (option == OPTION_INFO) (Informs OPTION_INFO (info terms) terms payload p sent next p')
       (MatchBool (option == OPTION_EXPORT_NAME) (Exports (export_name terms) terms payload p sent next p')
       (MatchBool (option == OPTION_LIST) (Lists terms payload p sent next p')
-      (MatchBool (option == OPTION_ABORT) (Ends (option_reply OPTION_ABORT Acknowledged []) (Options terms) p sent next p')
+      (MatchBool (option == OPTION_ABORT) (Tells (outcome (option_reply OPTION_ABORT Acknowledged []) Ended) p sent next p')
       (MatchBool (is_extended terms.profile) (Extends terms option payload p sent next p')
       (Tells (option_error option Unsupported terms) p sent next p'))))))
+
+  -- an option, and what is held behind it
+  pub record AnswersOption (terms : Terms) (option : ℕ) (payload : List ℕ) (p : S) (sent : List ℕ) (next : Phase) (p' : S) : Type 0 where
+    pub chosen : Outcome
+    pub answered : S
+    pub chooses : Chooses terms option payload p chosen.sent chosen.next answered
+    pub settles : Settles terms.since chosen answered sent next p'
 
   -- One frame: what is sent for it, the next phase, and the pool after it.
   abbrev pub Answers : Phase → Message → S → List ℕ → Phase → S → Type 0
   Answers (Flags profile) (client_flags no_zeroes) p sent next p' = Tells (outcome [] (Options (terms_of profile no_zeroes))) p sent next p'
-  Answers (Options terms) (client_option option payload) p sent next p' = Chooses terms option payload p sent next p'
+  Answers (Options terms) (client_option option payload) p sent next p' = AnswersOption terms option payload p sent next p'
   Answers (Transmission volume size (Listens manner)) (command r payload) p sent next p' = Serves (verdict_in manner size r) volume size manner r payload p sent next p'
   Answers (Transmission volume size (Works manner rest)) message p sent next p' = ⊥
   Answers phase malformed p sent next p' = Ends [] phase p sent next p'

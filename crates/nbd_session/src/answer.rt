@@ -1,6 +1,6 @@
 //! The answer to one frame.
 
-ghost use Rattle.std.specs.Prelude.{◌≡◌, ◌≤◌, ◌<◌, ◌+◌, ◌/◌, [], true, false, length, take, drop, MatchBool};
+ghost use Rattle.std.specs.Prelude.{◌≡◌, ◌≤◌, ◌<◌, ◌+◌, ◌/◌, ℕ, [], ◌∷◌, true, false, length, take, drop, MatchBool};
 ghost use Rattle.tp_model.specs.Sectors.{sectors_of};
 ghost use Rattle.tp_model.specs.Pool.{hold_count};
 ghost use Rattle.tp_model.specs.Calls.{Done, LetGo, Refused, Read, Write, Trim, WriteZeroes, Flush};
@@ -10,15 +10,17 @@ ghost use Rattle.nbd_wire.specs.Grammar.{payload_len};
 ghost use Rattle.nbd_wire.specs.Reading.{message_of};
 ghost use Rattle.nbd_wire.specs.Replies.{simple_reply};
 ghost use Rattle.nbd_session.specs.Requests.{IsWhole, has_fua, has_no_hole, is_kept_apart, known_bytes, to_keep, verdict_in};
-ghost use Rattle.nbd_session.specs.Session.{Answers, AnswersRead, Begins, Changes, GivesUp, LetsGo, Performs, ReadsInChunks, Serves, chunk_to, empty_reply, error_reply, manner_in, reply_to, terms_of};
+ghost use Rattle.nbd_session.specs.Session.{Answers, AnswersRead, Begins, Changes, GivesUp, LetsGo, LetsOwnGo, Performs, ReadsInChunks, Serves, chunk_to, empty_reply, error_reply, manner_in, own_in, reply_to, terms_of};
 ghost use Rattle.nbd_session.specs.Buffers.{IsSound};
 ghost use Rattle.tp_model.specs.Clauses.{PoolCall};
 ghost use Rattle.nbd_session.specs.Clauses.{IsOf, IsReady};
 
 use crate::clones::give_up;
 use crate::holes::{may_have_holes, read_long};
-use crate::options::choose;
-use crate::phase::{ContextOf, Course, Manner, NO_VOLUME, Phase, Profile, Terms, is_of_clone};
+use crate::older::{answer_option, let_older_go};
+use crate::phase::{
+    ContextOf, Course, Manner, NO_VOLUME, Phase, Profile, Terms, is_of_clone, older_in,
+};
 use crate::request::{Verdict, is_chunked, judge_in};
 use crate::status::describe;
 use nbd_wire::{
@@ -467,16 +469,25 @@ fn part_with<V: Cloned>(pool: &mut V, volume: DevId, course: Course)
     pool.let_go(volume);
 }
 
-/// The end of a session, which lets its volume go, and deletes it where it is a clone.
+/// The end of a session, which lets the older volume go that it holds, and then its own, and deletes that where it is a clone.
 pub fn end<V: Cloned>(phase: Phase, pool: &mut V) -> Phase
     requires { IsReady phase (V.view.outline pool.old) (V.view.more pool.old) }
     ensures lets_go { LetsGo V.view.outline (PoolCall V.view) phase pool.old pool.new }
     ensures ended { result ≡ Phase.Ended }
 {
+    let_older_go(pool, older_in(&phase));
+    let_own_go(phase, pool);
+    Phase::Ended
+}
+
+/// Lets the volume go that a session serves, and deletes it where it is a clone.
+fn let_own_go<V: Cloned>(phase: Phase, pool: &mut V)
+    requires { (volume : ℕ) → own_in phase ≡ volume ∷ [] → 0 < hold_count (V.view.outline pool.old).holds volume }
+    ensures { LetsOwnGo V.view.outline (PoolCall V.view) phase pool.old pool.new }
+{
     if let Phase::Transmission { volume, course, .. } = phase {
         part_with(pool, volume, course);
     }
-    Phase::Ended
 }
 
 /// Where a session stands that has so much left of a request.
@@ -500,8 +511,7 @@ fn serve<V: Cloned>(
     payload: &[u8],
     out: &mut [u8],
 ) -> (Phase, usize)
-    requires held { 0 < hold_count (V.view.outline pool.old).holds volume }
-    requires size { size ≡ known_bytes (V.view.outline pool.old).geometry (V.view.more pool.old) volume }
+    requires ready { IsReady (Phase.Transmission volume size (Course.Listens manner)) (V.view.outline pool.old) (V.view.more pool.old) }
     requires payload { length payload.now ≡ payload_len request }
     requires room { 2097172 ≤ length out.old }
     ensures answer { Serves V.view.outline (PoolCall V.view) (verdict_in manner size request) volume size manner request payload.now
@@ -567,7 +577,7 @@ pub fn answer<V: Cloned>(
             _ => unreachable!(),
         },
         Frame::ClientOption { option, payload } => match phase {
-            Phase::Options { terms } => choose(terms, option, payload, out, pool),
+            Phase::Options { terms } => answer_option(terms, option, payload, out, pool),
             _ => unreachable!(),
         },
         Frame::Command { request, payload } => match phase {

@@ -120,7 +120,7 @@ fn take_clone<V: Cloned>(pool: &mut V, geometry: &Geometry, id: DevId) -> Result
 
 /// How many bytes a clone has, which is held from now on. Where that is refused the pool is asked to delete it.
 fn hold_clone<V: Cloned>(pool: &mut V, geometry: &Geometry, id: DevId) -> Result<u64, Refusal>
-    requires ready { hold_total (V.view.outline pool.old).holds < 64 }
+    requires ready { hold_total (V.view.outline pool.old).holds < 128 }
     ensures { TakesHoldOfClone V.view.outline (PoolCall V.view) geometry.now id result pool.old pool.new }
 {
     match pool.hold(id) {
@@ -145,7 +145,7 @@ pub enum Made {
 
 /// Makes a clone of a volume, which is held from now on.
 fn make_clone<V: Cloned>(pool: &mut V, origin: DevId) -> Made
-    requires ready { hold_total (V.view.outline pool.old).holds < 64 }
+    requires ready { hold_total (V.view.outline pool.old).holds < 128 }
     ensures { MakesClone V.view.outline (PoolCall V.view) origin result pool.old pool.new }
 {
     let geometry = pool.geometry();
@@ -195,7 +195,7 @@ pub(crate) fn enter_clone<V: Cloned>(
     out: &mut [u8],
     pool: &mut V,
 ) -> (Phase, usize)
-    requires ready { hold_total (V.view.outline pool.old).holds < 64 }
+    requires ready { hold_total (V.view.outline pool.old).holds < 128 }
     requires room { 86 ≤ length out.old }
     ensures answer { Clones V.view.outline (PoolCall V.view) (go terms) origin pool.old (take result.1 out.new) result.0 pool.new }
     ensures fits { result.1 ≤ length out.new }
@@ -219,7 +219,7 @@ pub(crate) fn export_clone<V: Cloned>(
     out: &mut [u8],
     pool: &mut V,
 ) -> (Phase, usize)
-    requires ready { hold_total (V.view.outline pool.old).holds < 64 }
+    requires ready { hold_total (V.view.outline pool.old).holds < 128 }
     requires room { 134 ≤ length out.old }
     ensures answer { Clones V.view.outline (PoolCall V.view) (export_name terms) origin pool.old (take result.1 out.new) result.0 pool.new }
     ensures fits { result.1 ≤ length out.new }

@@ -2,13 +2,13 @@
 
 ghost use Rattle.std.specs.Prelude.{◌≡◌, ◌++◌, ◌<◌, ◌≤◌, ◌+◌, ◌*◌, ◌%◌, ℕ, List, Bool, true, length};
 ghost use Rattle.std.specs.FinMap.{entries};
-ghost use Rattle.tp_model.specs.Pool.{IsSound, PlainPool, outline_of, volume_sectors, volume_slots};
-ghost use Rattle.tp_model.specs.Calls.{piece_from};
+ghost use Rattle.tp_model.specs.Pool.{IsSound, PlainPool, hold_count, outline_of, volume_sectors, volume_slots};
+ghost use Rattle.tp_model.specs.Calls.{Delete, Done, Grow, Takes, piece_from};
 ghost use Rattle.nbd_wire.specs.declared.Request.{Request};
 ghost use Rattle.nbd_wire.specs.declared.contexts.MetaContext.TheVariants.{Allocation, Since};
 ghost use Rattle.nbd_session.specs.declared.phase.Phase.{Phase};
-ghost use Rattle.nbd_session.specs.Session.{LetsGo, State, Steps};
-ghost use Rattle.nbd_session.specs.Clauses.{Feeds, PlainCall};
+ghost use Rattle.nbd_session.specs.Session.{LetsGo, State, Steps, older_in};
+ghost use Rattle.nbd_session.specs.Clauses.{Feeds, IsReady, PlainCall};
 ghost use Rattle.nbd_session.specs.Status.{AreTold, IsAllocation, IsBlank, IsEqual, IsMapped, IsOther, IsSame, IsSince, IsUnmapped, TellsOf, bytes_of, first_block, unit_of};
 ghost use Rattle.nbd_session.specs.Holes.{Anything, IsHoled, TellsHoles, bytes_in, filled};
 ghost use Rattle.nbd_session.specs.Talk.{Converses};
@@ -90,6 +90,14 @@ pub fn changes_are_exact()
 {
     pages_are_exact();
 }
+
+/// The older volume that a session compares with stays the volume that SET_META_CONTEXT selected: the session holds it in each phase that names it, and no pool accepts that a volume is
+/// deleted or grown which is held.
+pub fn older_volumes_stay<V: Volumes>()
+    ensures held { (phase : Phase) (pool : V) → IsReady phase (V.view.outline pool) (V.view.more pool) → older_in phase < 16777216 → 0 < hold_count (V.view.outline pool).holds (older_in phase) }
+    ensures deleted { (s made after : PlainPool) (id : ℕ) → 0 < hold_count s.holds id → Takes s (Delete id) Done made after → ⊥ }
+    ensures grown { (s made after : PlainPool) (id blocks : ℕ) → 0 < hold_count s.holds id → Takes s (Grow id blocks) Done made after → ⊥ }
+{}
 
 /// What a long READ is answered in chunks is exact: there is a chunk for each of some extents of the request, one behind the other, the last one alone says that it is, each byte of a hole lies in a block that is not mapped,
 /// and who puts the chunks over a buffer, the bytes of data as they are and zeros where a hole is, has what was read, in any pool that calls make.

@@ -9,11 +9,13 @@ mod advance;
 mod answer;
 mod clones;
 mod feeding;
+mod flushes;
 mod gather;
 mod holes;
 mod laws;
 mod listing;
 mod name;
+mod older;
 mod options;
 mod parts;
 mod phase;
@@ -26,8 +28,8 @@ mod status;
 pub use answer::MAX_ANSWER;
 pub use feeding::feed;
 pub use laws::{
-    changes_are_exact, holes_are_exact, lives_are_runs, one_place, pieces_join, sessions_are_plain,
-    statuses_are_exact, turns_are_traced,
+    changes_are_exact, holes_are_exact, lives_are_runs, older_volumes_stay, one_place, pieces_join,
+    sessions_are_plain, statuses_are_exact, turns_are_traced,
 };
 pub use name::id_of;
 pub use phase::{

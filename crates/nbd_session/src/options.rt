@@ -564,7 +564,7 @@ fn take_on<V: Volumes>(pool: &mut V, geometry: &Geometry, volume: DevId) -> Resu
 
 /// How many bytes a volume has, which is held from now on.
 fn take_hold<V: Volumes>(pool: &mut V, geometry: &Geometry, volume: DevId) -> Result<u64, Refusal>
-    requires ready { hold_total (V.view.outline pool.old).holds < 64 }
+    requires ready { hold_total (V.view.outline pool.old).holds < 128 }
     ensures { TakesHold V.view.outline (PoolCall V.view) geometry.now volume result pool.old pool.new }
 {
     match pool.hold(volume) {
@@ -575,7 +575,7 @@ fn take_hold<V: Volumes>(pool: &mut V, geometry: &Geometry, volume: DevId) -> Re
 
 /// How many bytes a volume has, if it is there. It is held from now on.
 fn find_and_hold<V: Volumes>(pool: &mut V, volume: DevId) -> Result<Option<u64>, Refusal>
-    requires ready { hold_total (V.view.outline pool.old).holds < 64 }
+    requires ready { hold_total (V.view.outline pool.old).holds < 128 }
     ensures { Learns V.view.outline (PoolCall V.view) true volume result pool.old pool.new }
 {
     let geometry = pool.geometry();
@@ -606,7 +606,7 @@ pub(crate) fn find<V: Volumes>(pool: &mut V, volume: DevId) -> Result<Option<u64
 
 /// GO of a volume, which is held from now on.
 fn enter<V: Volumes>(terms: Terms, volume: DevId, out: &mut [u8], pool: &mut V) -> (Phase, usize)
-    requires ready { hold_total (V.view.outline pool.old).holds < 64 }
+    requires ready { hold_total (V.view.outline pool.old).holds < 128 }
     requires room { 86 ≤ length out.old }
     ensures answer { AsksFor V.view.outline (PoolCall V.view) (go terms) volume pool.old (take result.1 out.new) result.0 pool.new }
     ensures fits { result.1 ≤ length out.new }
@@ -625,7 +625,7 @@ fn enter<V: Volumes>(terms: Terms, volume: DevId, out: &mut [u8], pool: &mut V) 
 
 /// GO of the volume that a name means, or of a clone of one.
 fn go_by<V: Cloned>(terms: Terms, name: &[u8], out: &mut [u8], pool: &mut V) -> (Phase, usize)
-    requires ready { hold_total (V.view.outline pool.old).holds < 64 }
+    requires ready { hold_total (V.view.outline pool.old).holds < 128 }
     requires room { 86 ≤ length out.old }
     ensures answer { LooksFor V.view.outline (PoolCall V.view) (go terms) name.now pool.old (take result.1 out.new) result.0 pool.new }
     ensures fits { result.1 ≤ length out.new }
@@ -642,7 +642,7 @@ fn go_by<V: Cloned>(terms: Terms, name: &[u8], out: &mut [u8], pool: &mut V) -> 
 
 /// The answer to GO.
 fn go<V: Cloned>(terms: Terms, payload: &[u8], out: &mut [u8], pool: &mut V) -> (Phase, usize)
-    requires ready { hold_total (V.view.outline pool.old).holds < 64 }
+    requires ready { hold_total (V.view.outline pool.old).holds < 128 }
     requires room { 86 ≤ length out.old }
     ensures answer { Informs V.view.outline (PoolCall V.view) OPTION_GO (go terms) terms payload.now pool.old (take result.1 out.new) result.0 pool.new }
     ensures fits { result.1 ≤ length out.new }
@@ -709,7 +709,7 @@ fn info<V: Volumes>(terms: Terms, payload: &[u8], out: &mut [u8], pool: &mut V) 
 
 /// EXPORT_NAME of a volume, which is held from now on.
 fn export<V: Volumes>(terms: Terms, volume: DevId, out: &mut [u8], pool: &mut V) -> (Phase, usize)
-    requires ready { hold_total (V.view.outline pool.old).holds < 64 }
+    requires ready { hold_total (V.view.outline pool.old).holds < 128 }
     requires room { 134 ≤ length out.old }
     ensures answer { AsksFor V.view.outline (PoolCall V.view) (export_name terms) volume pool.old (take result.1 out.new) result.0 pool.new }
     ensures fits { result.1 ≤ length out.new }
@@ -727,7 +727,7 @@ fn export<V: Volumes>(terms: Terms, volume: DevId, out: &mut [u8], pool: &mut V)
 
 /// EXPORT_NAME of the volume that a name means, or of a clone of one.
 fn export_by<V: Cloned>(terms: Terms, name: &[u8], out: &mut [u8], pool: &mut V) -> (Phase, usize)
-    requires ready { hold_total (V.view.outline pool.old).holds < 64 }
+    requires ready { hold_total (V.view.outline pool.old).holds < 128 }
     requires room { 134 ≤ length out.old }
     ensures answer { LooksFor V.view.outline (PoolCall V.view) (export_name terms) name.now pool.old (take result.1 out.new) result.0 pool.new }
     ensures fits { result.1 ≤ length out.new }
@@ -744,7 +744,7 @@ fn export_by<V: Cloned>(terms: Terms, name: &[u8], out: &mut [u8], pool: &mut V)
 
 /// The answer to EXPORT_NAME.
 fn export_name<V: Cloned>(terms: Terms, name: &[u8], out: &mut [u8], pool: &mut V) -> (Phase, usize)
-    requires ready { hold_total (V.view.outline pool.old).holds < 64 }
+    requires ready { hold_total (V.view.outline pool.old).holds < 128 }
     requires room { 134 ≤ length out.old }
     ensures answer { Exports V.view.outline (PoolCall V.view) (export_name terms) terms name.now pool.old (take result.1 out.new) result.0 pool.new }
     ensures fits { result.1 ≤ length out.new }
@@ -764,7 +764,7 @@ pub fn choose<V: Cloned>(
     out: &mut [u8],
     pool: &mut V,
 ) -> (Phase, usize)
-    requires ready { hold_total (V.view.outline pool.old).holds < 64 }
+    requires ready { hold_total (V.view.outline pool.old).holds < 128 }
     requires room { 2097172 ≤ length out.old }
     ensures answer { Chooses V.view.outline (PoolCall V.view) terms option payload.now pool.old (take result.1 out.new) result.0 pool.new }
     ensures fits { result.1 ≤ length out.new }

@@ -1,10 +1,12 @@
 //! Parts of a long request, and the FLUSH that is left of one that is kept apart.
 
-ghost use Rattle.std.specs.Prelude.{◌≡◌, ◌≤◌, ◌<◌, ◌+◌, ◌%◌, false, length, take, MatchResult};
+ghost use Rattle.std.specs.Prelude.{◌≡◌, ◌≤◌, ◌<◌, ◌+◌, ◌%◌, false, length, take, true, MatchResult};
 ghost use Rattle.tp_model.specs.Calls.{Done, Refused};
 ghost use Rattle.tp_model.specs.Clauses.{PoolCall};
-ghost use Rattle.nbd_session.specs.Requests.{IsLeft, behind, is_last, known_bytes, len_of_part, long_call, part_bytes, part_call, up_to_cut};
-ghost use Rattle.nbd_session.specs.Session.{MakesPart, left_in};
+ghost use Rattle.tp_model.specs.Flushing.{IsFlushed};
+ghost use Rattle.tp_model.specs.Requests.{is_flush};
+ghost use Rattle.nbd_session.specs.Requests.{IsLeft, behind, form_of, is_last, known_bytes, len_of_part, long_call, part_bytes, part_call, up_to_cut};
+ghost use Rattle.nbd_session.specs.Session.{MakesPart, has_ended, left_in};
 ghost use Rattle.nbd_session.specs.Buffers.{IsSound};
 
 use crate::answer::{at_work, put_refusal, put_reply, wants_fua, wants_no_hole};
@@ -157,6 +159,42 @@ pub fn make_part<V: Volumes>(
     let part = part_of(&geometry, &rest);
     if let Err(refusal) = ask_part(pool, volume, &rest, part) {
         return (same, put_refusal(out, refusal, rest.cookie));
+    }
+    if part.is_last {
+        return (same, put_reply(out, 0, rest.cookie));
+    }
+    (at_work(volume, size, manner, behind(rest, part.len)), 0)
+}
+
+/// Answers a request of which a FLUSH is left by the answer of a flush that was made elsewhere, of a pool of these sizes.
+pub fn end_flush<V: Volumes>(
+    geometry: &Geometry,
+    volume: DevId,
+    size: u64,
+    manner: Manner,
+    rest: Request,
+    answer: Result<(), Refusal>,
+    out: &mut [u8],
+) -> (Phase, usize)
+    requires flush { is_flush (form_of rest) ≡ true }
+    requires left { IsLeft size rest }
+    requires room { 16 ≤ length out.old }
+    ensures made { (p q : V) → (V.view.outline p).geometry ≡ geometry.now → IsFlushed V.view p q answer
+        → MakesPart V.view.outline (PoolCall V.view) volume size manner rest p (take result.1 out.new) result.0 q }
+    ensures open { has_ended result.0 ≡ false }
+    ensures sound { IsSound result.0 }
+    ensures less { left_in result.0 < rest.len }
+    ensures fits { result.1 ≤ length out.new }
+    ensures len { length out.new ≡ length out.old }
+{
+    let same = Phase::Transmission {
+        volume,
+        size,
+        course: Course::Listens { manner },
+    };
+    let part = part_of(geometry, &rest);
+    if let Err(reason) = answer {
+        return (same, put_refusal(out, reason, rest.cookie));
     }
     if part.is_last {
         return (same, put_reply(out, 0, rest.cookie));

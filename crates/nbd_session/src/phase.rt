@@ -1,7 +1,7 @@
 //! Where a session stands.
 
 ghost use Rattle.std.specs.Prelude.{◌≡◌, ◌≤◌};
-ghost use Rattle.nbd_session.specs.Session.{has_clones, has_older, is_at_work, is_extended, is_to_flush, keeps_apart, limit_of, manner_in};
+ghost use Rattle.nbd_session.specs.Session.{has_clones, has_older, is_at_work, is_extended, is_to_flush, limit_of, manner_in, older_in};
 
 use nbd_wire::{COMMAND_FLUSH, Request};
 use tp_model::DevId;
@@ -87,7 +87,7 @@ pub struct Terms {
     pub context: ContextOf,
     /// Whether it wants to be told where they have data.
     pub tells_blocks: bool,
-    /// The number of the older volume of the context `thinpool:since:ID`, if that was chosen. A number over 16777215 stands for no volume.
+    /// The number of the older volume of the context `thinpool:since:ID`, if that was chosen: the session holds it. A number over 16777215 stands for no volume.
     pub since: u32,
 }
 
@@ -100,7 +100,7 @@ pub struct Manner {
     pub is_structured: bool,
     /// Whether BLOCK_STATUS is answered where the volume has data.
     pub tells_blocks: bool,
-    /// The older volume from which BLOCK_STATUS is answered where the volume may differ; none where the number is over 16777215.
+    /// The older volume from which BLOCK_STATUS is answered where the volume may differ: the session holds it. None where the number is over 16777215.
     pub since: u32,
     /// Whether the volume is a clone, which goes with the session.
     pub is_clone: bool,
@@ -134,6 +134,20 @@ pub enum Phase {
     },
     /// Nothing: the connection is over.
     Ended,
+}
+
+/// The number of the older volume that a session holds. A number over 16777215 stands for none.
+pub(crate) fn older_in(phase: &Phase) -> u32
+    ensures { result ≡ older_in phase.now }
+{
+    match phase {
+        Phase::Options { terms } => terms.since,
+        Phase::Transmission { course, .. } => match course {
+            Course::Works { manner, .. } => manner.since,
+            Course::Listens { manner } => manner.since,
+        },
+        Phase::Flags { .. } | Phase::Ended => NO_VOLUME,
+    }
 }
 
 /// Whether the volume of a session in transmission is a clone.
@@ -192,19 +206,6 @@ pub fn is_to_flush(phase: Phase) -> bool
         Phase::Transmission { course, .. } => match course {
             Course::Works { rest, .. } => rest.kind == COMMAND_FLUSH,
             Course::Listens { .. } => false,
-        },
-        _ => false,
-    }
-}
-
-/// Whether its WRITEs, TRIMs and WRITE_ZEROES with FUA are kept apart.
-pub fn keeps_apart(phase: Phase) -> bool
-    ensures { result ≡ keeps_apart phase }
-{
-    match phase {
-        Phase::Transmission { course, .. } => match course {
-            Course::Works { manner, .. } => manner.is_extended,
-            Course::Listens { manner } => manner.is_extended,
         },
         _ => false,
     }

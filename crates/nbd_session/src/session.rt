@@ -4,12 +4,13 @@ ghost use Rattle.std.specs.Prelude.{◌≡◌, ◌<◌, ◌≤◌, [], false, le
 
 use crate::advance::{advance, has_ended_in};
 use crate::answer::{MAX_ANSWER, end};
-use crate::phase::{Phase, Profile, has_older, is_at_work, is_to_flush, keeps_apart};
+use crate::flushes::{flushed, is_at_flush};
+use crate::phase::{Phase, Profile, has_older, is_at_work, is_to_flush};
 use crate::shared::take_read;
 use nbd_wire::{MAX_FRAME, put_greeting};
 use std::alloc::{AllocError, Global};
 use std::marker::Model;
-use tp_model::{Cloned, Refusal, SharedReads, Volumes};
+use tp_model::{Cloned, Geometry, Refusal, SharedReads, Volumes};
 
 /// One client. It takes its buffers when it is opened, and no memory after that.
 #[derive(Drop)]
@@ -57,8 +58,11 @@ pub struct Answered {
 impl Session {
     ghost use Rattle.std.specs.Borrow.{sem};
     ghost use Rattle.nbd_wire.specs.Replies.{greeting};
+    ghost use Rattle.std.specs.Prelude.{None, true};
+    ghost use Rattle.tp_model.specs.Flushing.{IsFlushed};
+    ghost use Rattle.nbd_session.specs.Flushes.{IsAtFlush};
     ghost use Rattle.nbd_session.specs.Requests.{BeginsWithLook};
-    ghost use Rattle.nbd_session.specs.Session.{has_older, is_at_work, is_to_flush, keeps_apart, left_in, state};
+    ghost use Rattle.nbd_session.specs.Session.{has_older, is_at_work, is_to_flush, left_in, state};
     ghost use Rattle.nbd_session.specs.Clauses.{Advances, IsCalm, IsReady, Leaves};
     ghost use Rattle.nbd_session.specs.contracts.session.Session.{the_row};
     ghost use mathlib.Core.Option.{none};
@@ -107,11 +111,16 @@ impl Session {
         is_to_flush(self.phase)
     }
 
-    /// Whether its WRITEs, TRIMs and WRITE_ZEROES with FUA are kept apart.
-    pub fn keeps_apart(&self) -> bool
-        ensures { result ≡ keeps_apart self.now.phase }
+    /// Whether its next frame is a FLUSH that passes its tests and stands whole at the front of a
+    /// piece, while it holds no part of a frame.
+    pub fn begins_flush(&self, piece: &[u8]) -> bool
+        ensures at { result ≡ true → IsAtFlush self.now piece.now }
+        ensures not_at { result ≡ false → IsAtFlush self.now piece.now → ⊥ }
     {
-        keeps_apart(self.phase)
+        if self.filled > 0 {
+            return false;
+        }
+        is_at_flush(self.phase, piece)
     }
 
     /// Whether it is told since an older volume, at which its BLOCK_STATUSes look too.
@@ -130,8 +139,8 @@ impl Session {
         &self.output[..end]
     }
 
-    /// The end of a session, at any moment: it lets its volume go, deletes it where it is a clone, sends nothing and does nothing else. What it holds of an unfinished
-    /// frame has no effect.
+    /// The end of a session, at any moment: it lets the volumes go that it holds, deletes its own where it is a clone, sends nothing and does nothing else. What it has of an
+    /// unfinished frame has no effect.
     pub fn leave<V: Cloned>(self, pool: &mut V)
         requires { IsReady self.phase (V.view.outline pool.old) (V.view.more pool.old) }
         ensures { Leaves V.view self.phase pool.old pool.new }
@@ -143,13 +152,14 @@ impl Session {
     /// frame, and from what the pool answered to the calls that the frame makes of it: LIST one for each volume and one more, an option
     /// that looks for a volume one, one that holds it and one that tells its size, and one more where it is to tell since an older volume;
     /// another frame one at most, BLOCK_STATUS a walk or two, and a long READ in chunks a walk more. An option that makes a clone asks for a snapshot under one id
-    /// after the other, up to one that no volume has. Where the size of a volume that is held is refused, it is let go, and deleted where it is a clone. Over a pool that has a trace this is a step of the traced plain pool: bytes, faults and what a
+    /// after the other, up to one that no volume has. Where the size of a volume that is held is refused, it is let go, and deleted where it is a clone. A session holds the older volume that
+    /// SET_META_CONTEXT named and told of, until another one takes its place or it is told of none: then it is let go. Over a pool that has a trace this is a step of the traced plain pool: bytes, faults and what a
     /// stop leaves at any moment of it stand on one trace.
     ///
     /// A frame that stands whole in the piece is used from there, and what a READ gives goes from the pool to its place in the answer.
     ///
-    /// Before transmission fewer than 64 holds may stand, since the frame may be a GO; in transmission the session's own volume
-    /// is held, and has the size that was told when it began.
+    /// What is held of the pool is what the session holds, and at most 126 holds of others: so there is room for the two volumes that a session may hold. In transmission its own
+    /// volume has the size that was told when it began.
     pub fn step<V: Cloned>(&mut self, pool: &mut V, piece: &[u8]) -> Step<'_>
         requires { IsReady self.old.phase (V.view.outline pool.old) (V.view.more pool.old) }
         ensures* steps { sem 𝓛 (follows_so the_row the_row self.entry.ghost_name none (λ _ _. ⊤)
@@ -188,6 +198,42 @@ impl Session {
             sent: next.sent,
             ended: has_ended_in(next.phase),
         }
+    }
+
+    /// Answers the FLUSH that it would make next by a flush that was made elsewhere, of a pool of
+    /// these sizes: the FLUSH with which a piece begins, or the one that is left of its request. It is
+    /// a step, with the answer at the front of a buffer, and makes no call of the pool. None where
+    /// its next step makes no FLUSH, and then nothing was done.
+    pub fn end_flush<V: Volumes>(
+        &mut self,
+        geometry: &Geometry,
+        piece: &[u8],
+        answer: Result<(), Refusal>,
+        out: &mut [u8],
+    ) -> Option<Answered>
+        requires room { MAX_ANSWER ≤ length out.old }
+        ensures steps { IfSome result (λ a. (p q : V) → (V.view.outline p).geometry ≡ geometry.now → IsReady self.old.phase (V.view.outline p) (V.view.more p) → IsFlushed V.view p q answer
+            → Advances V.view self.old p piece.now a.taken (take a.sent out.new) a.ended self.new q) }
+        ensures open { IfSome result (λ a. (a.ended ≡ false) × (a.taken ≤ length piece.now) × (is_at_work self.old.phase ≡ false → 0 < a.taken)) }
+        ensures fits { IfSome result (λ a. a.sent ≤ length out.new) }
+        ensures none { result ≡ None → self.new ≡ self.old }
+        ensures none_left { result ≡ None → is_to_flush self.old.phase ≡ false }
+        ensures none_at { result ≡ None → IsAtFlush self.old piece.now → ⊥ }
+        ensures len { length out.new ≡ length out.old }
+    {
+        if self.filled > 0 {
+            return None;
+        }
+        let Some(next) = flushed::<V>(self.phase, geometry, piece, answer, out) else {
+            return None;
+        };
+        self.phase = next.phase;
+        self.filled = next.filled;
+        Some(Answered {
+            taken: next.taken,
+            sent: next.sent,
+            ended: false,
+        })
     }
 
     /// Answers the READ or BLOCK_STATUS with which a piece begins, by a shared read or walk: a step, with the answer at the front of the buffer, that leaves the

@@ -25,7 +25,7 @@ code_again Hole = refl
 code_again Status = refl
 code_again Error = refl
 
-code_fits : (k : ChunkType) → chunk_code k < 2 ^ 16
+pub code_fits : (k : ChunkType) → chunk_code k < 2 ^ 16
 code_fits Done = omega arith
 code_fits Data = omega arith
 code_fits Hole = omega arith
@@ -33,15 +33,15 @@ code_fits Status = omega arith
 code_fits Error = omega arith
 
 -- the flags of a chunk
-flag_again : (p : Bool) → (done_flag p == 1) ≡ p
+pub flag_again : (p : Bool) → (done_flag p == 1) ≡ p
 flag_again true = refl
 flag_again false = refl
 
-flag_fits : (p : Bool) → done_flag p < 2 ^ 16
+pub flag_fits : (p : Bool) → done_flag p < 2 ^ 16
 flag_fits true = omega arith
 flag_fits false = omega arith
 
-chunk_is : (p : Bool) (k : ChunkType) (c : ℕ) (a x : List ℕ)
+pub chunk_is : (p : Bool) (k : ChunkType) (c : ℕ) (a x : List ℕ)
     → chunk p k c a ++ x ≡ bytes 4 CHUNK_MAGIC ++ (bytes 2 (done_flag p) ++ (bytes 2 (chunk_code k) ++ (bytes 8 c ++ (bytes 4 (length a) ++ (a ++ x)))))
 unfolding chunk_head
 chunk_is p k c a x = simp append_assoc
@@ -93,7 +93,7 @@ context_again : (m : MetaContext) → of_context (context_code m) ≡ m
 context_again Allocation = refl
 context_again Since = refl
 
-context_fits : (m : MetaContext) → context_code m < 2 ^ 32
+pub context_fits : (m : MetaContext) → context_code m < 2 ^ 32
 context_fits Allocation = omega arith
 context_fits Since = omega arith
 

@@ -36,7 +36,7 @@ good_tells x c l m =
 
 -- ---- options
 
-option_append : (m o l : ℕ) (x y : List ℕ) → option_text m o l x ++ y ≡ option_text m o l (x ++ y)
+pub option_append : (m o l : ℕ) (x y : List ℕ) → option_text m o l x ++ y ≡ option_text m o l (x ++ y)
 unfolding option_text
 option_append m o l x y = simp append_assoc
 
@@ -78,7 +78,7 @@ option_fits t h =
 
 -- ---- requests
 
-request_append : (m : ℕ) (r : Request) (x y : List ℕ) → request_text m r x ++ y ≡ request_text m r (x ++ y)
+pub request_append : (m : ℕ) (r : Request) (x y : List ℕ) → request_text m r x ++ y ≡ request_text m r (x ++ y)
 unfolding request_text
 request_append m r x y = simp append_assoc
 

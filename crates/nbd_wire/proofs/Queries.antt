@@ -31,7 +31,7 @@ pub is_string : (t : List ℕ) → 4 ≤ length t → number 4 t ≤ length (dro
 unfolding has_string
 is_string t h k = and_from (leb 4 (length t)) (leb (number 4 t) (length (drop 4 t))) (le-leb 4 (length t) h) (le-leb (number 4 t) (length (drop 4 t)) k)
 
-string_takes : (t : List ℕ) → IsBytes t → has_string t ≡ true → (t ≡ server_data (string_at t) ++ behind_string t) × Fits (string_at t)
+pub string_takes : (t : List ℕ) → IsBytes t → has_string t ≡ true → (t ≡ server_data (string_at t) ++ behind_string t) × Fits (string_at t)
 unfolding has_string string_at behind_string
 string_takes t hb h =
     let n = number 4 t in let a = drop 4 t in
@@ -46,7 +46,7 @@ behind_bytes : (t : List ℕ) → IsBytes t → IsBytes (behind_string t)
 unfolding behind_string
 behind_bytes t h = IsBytes-drop (number 4 t) (drop 4 t) (IsBytes-drop 4 t h)
 
-string_again : (q x : List ℕ) → Fits q → (has_string (server_data q ++ x) ≡ true) × (string_at (server_data q ++ x) ≡ q) × (behind_string (server_data q ++ x) ≡ x)
+pub string_again : (q x : List ℕ) → Fits q → (has_string (server_data q ++ x) ≡ true) × (string_at (server_data q ++ x) ≡ q) × (behind_string (server_data q ++ x) ≡ x)
 unfolding has_string string_at behind_string
 string_again q x fits =
     let t : List ℕ = server_data q ++ x in

@@ -33,7 +33,7 @@ code_again Policy = refl
 code_again Invalid = refl
 code_again Unknown = refl
 
-code_fits : (r : ReplyType) → reply_code r < 2 ^ 32
+pub code_fits : (r : ReplyType) → reply_code r < 2 ^ 32
 code_fits Acknowledged = omega arith
 code_fits Server = omega arith
 code_fits Information = omega arith
@@ -43,7 +43,7 @@ code_fits Policy = omega arith
 code_fits Invalid = omega arith
 code_fits Unknown = omega arith
 
-option_reply_is : (o : ℕ) (r : ReplyType) (a x : List ℕ)
+pub option_reply_is : (o : ℕ) (r : ReplyType) (a x : List ℕ)
     → option_reply o r a ++ x ≡ bytes 8 REPLY_MAGIC ++ (bytes 4 o ++ (bytes 4 (reply_code r) ++ (bytes 4 (length a) ++ (a ++ x))))
 unfolding option_reply_head
 option_reply_is o r a x = simp append_assoc
@@ -71,7 +71,7 @@ pub one_context : (i j : ℕ) (a b : List ℕ) → i < 2 ^ 32 → j < 2 ^ 32 →
 unfolding context_data
 one_context i j a b hi hj e = same_field 4 width4 i j a b hi hj e
 
-export_info_is : (s f : ℕ) (x : List ℕ) → export_info s f ++ x ≡ bytes 2 INFO_EXPORT ++ (bytes 8 s ++ (bytes 2 f ++ x))
+pub export_info_is : (s f : ℕ) (x : List ℕ) → export_info s f ++ x ≡ bytes 2 INFO_EXPORT ++ (bytes 8 s ++ (bytes 2 f ++ x))
 unfolding export_info
 export_info_is s f x = simp append_assoc
 
@@ -82,7 +82,7 @@ one_export_info s t f g x y hs ht hf hg e =
     let b = same_field 2 width2 f g _ _ hf hg a.1 in
     (a.0, b.0, b.1)
 
-block_size_info_is : (l p m : ℕ) (x : List ℕ) → block_size_info l p m ++ x ≡ bytes 2 INFO_BLOCK_SIZE ++ (bytes 4 l ++ (bytes 4 p ++ (bytes 4 m ++ x)))
+pub block_size_info_is : (l p m : ℕ) (x : List ℕ) → block_size_info l p m ++ x ≡ bytes 2 INFO_BLOCK_SIZE ++ (bytes 4 l ++ (bytes 4 p ++ (bytes 4 m ++ x)))
 unfolding block_size_info
 block_size_info_is l p m x = simp append_assoc
 
@@ -95,7 +95,7 @@ one_block_size_info l p m a b c x y hl hp hm ha hb hc e =
     let w = same_field 4 width4 m c _ _ hm hc v.1 in
     (u.0, v.0, w.0, w.1)
 
-export_reply_is : (s f : ℕ) (z : Bool) (x : List ℕ) → export_reply s f z ++ x ≡ bytes 8 s ++ (bytes 2 f ++ (padding z ++ x))
+pub export_reply_is : (s f : ℕ) (z : Bool) (x : List ℕ) → export_reply s f z ++ x ≡ bytes 8 s ++ (bytes 2 f ++ (padding z ++ x))
 unfolding export_reply
 export_reply_is s f z x = simp append_assoc
 

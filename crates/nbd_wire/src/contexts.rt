@@ -58,7 +58,7 @@ pub(crate) struct Said<'a> {
 }
 
 // The text at the front, behind its length, and what follows it.
-fn string_first(text: &[u8]) -> Option<(&[u8], &[u8])>
+pub(crate) fn string_first(text: &[u8]) -> Option<(&[u8], &[u8])>
     ensures { MatchOption result (has_string text.now ≡ false)
         (λ r. (has_string text.now ≡ true) × (r.0.now ≡ string_at text.now) × (r.1.now ≡ behind_string text.now)) }
 {

@@ -1,13 +1,14 @@
 //! Laws of the grammar, over all texts.
 
-ghost use Rattle.std.specs.Prelude.{◌≡◌, ◌<◌, ◌+◌, ◌*◌, ◌^◌, ◌++◌, ℕ, Bool, true, List, [], length};
+ghost use Rattle.std.specs.Prelude.{◌≡◌, ◌≤◌, ◌<◌, ◌+◌, ◌*◌, ◌^◌, ◌++◌, ℕ, Bool, true, List, [], length, take, drop};
 ghost use Rattle.nbd_wire.specs.declared.Kind.{Kind};
 ghost use Rattle.nbd_wire.specs.declared.writing.ReplyType.{ReplyType};
 ghost use Rattle.nbd_wire.specs.Chunks.{chunk, data_chunk, done_chunk, error_chunk, hole_chunk};
 ghost use Rattle.nbd_wire.specs.Contexts.{FitExtents, IsQuery, context_data, extents_text, status_chunk, status_head};
 ghost use Rattle.nbd_wire.specs.Grammar.{Message, IsFrame};
 ghost use Rattle.nbd_wire.specs.Numbers.{bytes};
-ghost use Rattle.nbd_wire.specs.Replies.{IsInfo, block_size_info, export_info, export_reply, option_reply, server_data, simple_reply_head};
+ghost use Rattle.nbd_wire.specs.Reading.{wanted as bytes_wanted, whole_len as len_of_whole};
+ghost use Rattle.nbd_wire.specs.Replies.{IsInfo, Puts, block_size_info, export_info, export_reply, option_reply, server_data, simple_reply_head};
 
 use crate::chunks::ChunkType;
 use crate::contexts::MetaContext;
@@ -68,4 +69,17 @@ pub fn one_first_chunk()
         → status_chunk is_last context cookie extents ≡ status_head is_last context cookie (length extents) ++ extents_text extents }
     ensures errors { (error cookie : ℕ) → error_chunk error cookie ≡ chunk true ChunkType.Error cookie (bytes 4 error ++ bytes 2 0) }
     ensures done { (cookie : ℕ) → done_chunk cookie ≡ chunk true ChunkType.Done cookie [] }
+{}
+
+/// A frame of the client is read again, whatever follows it: [`crate::wanted`] answers where it ends, and [`crate::read_frame`] what it says.
+pub fn frames_are_read_again()
+    ensures wanted { (kind : Kind) (m : Message) (frame rest : List ℕ) → IsFrame kind m frame → bytes_wanted kind (frame ++ rest) ≡ length frame }
+    ensures whole { (kind : Kind) (m : Message) (frame rest : List ℕ) → IsFrame kind m frame → len_of_whole kind (frame ++ rest) ≡ length frame }
+    ensures said { (kind : Kind) (m n : Message) (frame rest : List ℕ) → IsFrame kind m frame
+        → IsFrame kind n (take (len_of_whole kind (frame ++ rest)) (frame ++ rest)) → n ≡ m }
+{}
+
+/// What a writer puts at a place is what a reader has there, and what stood behind it follows.
+pub fn puts_are_read()
+    ensures { (old added new : List ℕ) (place end : ℕ) → place ≤ length old → Puts old place added new end → drop place new ≡ added ++ drop end old }
 {}

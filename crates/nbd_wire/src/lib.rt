@@ -1,23 +1,39 @@
 //! The frames of the NBD protocol (`proto.md`): the fixed newstyle handshake, and transmission with simple replies, or with structured ones.
 //!
 //! All numbers are big-endian. A frame of the client is read from the front of what came, once [`wanted`] says that all
-//! of it is there. Replies are written into a buffer, at a place.
+//! of it is there. Replies are written into a buffer, at a place. A client writes its frames so, too, and reads replies
+//! from the front of what came.
 #![tactic(auto)]
 
+mod chunk_reading;
 mod chunks;
+mod client;
 mod contexts;
 mod info;
 mod laws;
 mod reading;
+mod replies;
 mod writing;
 
+pub use chunk_reading::{
+    Chunk, read_chunk, read_context_data, read_data, read_error, read_extent, read_hole,
+    read_status,
+};
 pub use chunks::{ChunkType, put_data_head, put_done_chunk, put_error_chunk, put_hole_chunk};
+pub use client::{put_client_flags, put_info_option, put_option, put_request, put_request_head};
 pub use contexts::{
     MetaContext, Query, put_context_reply, put_extent, put_since_reply, put_status_head, read_query,
 };
 pub use info::info_name;
-pub use laws::{one_first_chunk, one_first_frame, one_first_reply, one_name, one_query};
+pub use laws::{
+    frames_are_read_again, one_first_chunk, one_first_frame, one_first_reply, one_name, one_query,
+    puts_are_read,
+};
 pub use reading::{fixed_len, read_frame, wanted, whole_len};
+pub use replies::{
+    BlockSizes, Export, OptionReply, SimpleReply, read_block_size_info, read_export_info,
+    read_export_reply, read_greeting, read_option_reply, read_server_data, read_simple_reply_head,
+};
 pub use writing::{
     ReplyType, put_block_size_info, put_export_info, put_export_reply, put_greeting,
     put_option_reply_head, put_server_reply, put_simple_reply_head,

@@ -12,7 +12,7 @@ use crate::{
 use byteorder::{BigEndian, ByteOrder};
 
 #[tactic(auto, unfolding(crate::specs::Numbers::number))]
-fn u16_of(text: &[u8]) -> u16
+pub(crate) fn u16_of(text: &[u8]) -> u16
     requires { 2 ≤ length text.now }
     ensures { result ≡ number 2 text.now }
 {
@@ -20,7 +20,7 @@ fn u16_of(text: &[u8]) -> u16
 }
 
 #[tactic(auto, unfolding(crate::specs::Numbers::number))]
-fn u32_of(text: &[u8]) -> u32
+pub(crate) fn u32_of(text: &[u8]) -> u32
     requires { 4 ≤ length text.now }
     ensures { result ≡ number 4 text.now }
 {
@@ -28,7 +28,7 @@ fn u32_of(text: &[u8]) -> u32
 }
 
 #[tactic(auto, unfolding(crate::specs::Numbers::number))]
-fn u64_of(text: &[u8]) -> u64
+pub(crate) fn u64_of(text: &[u8]) -> u64
     requires { 8 ≤ length text.now }
     ensures { result ≡ number 8 text.now }
 {

@@ -56,6 +56,7 @@ pub(crate) fn put_u16(out: &mut [u8], at: usize, n: u16) -> usize
     requires { at + 2 ≤ length out.old }
     ensures bytes { Puts out.old at (bytes 2 n) out.new result }
     ensures end { result ≡ at + 2 }
+    ensures fits { n < 2 ^ 16 }
     ensures len { length out.new ≡ length out.old }
 {
     BigEndian::write_u16(&mut out[at..], n);
@@ -66,6 +67,7 @@ pub(crate) fn put_u32(out: &mut [u8], at: usize, n: u32) -> usize
     requires { at + 4 ≤ length out.old }
     ensures bytes { Puts out.old at (bytes 4 n) out.new result }
     ensures end { result ≡ at + 4 }
+    ensures fits { n < 2 ^ 32 }
     ensures len { length out.new ≡ length out.old }
 {
     BigEndian::write_u32(&mut out[at..], n);
@@ -76,6 +78,7 @@ pub(crate) fn put_u64(out: &mut [u8], at: usize, n: u64) -> usize
     requires { at + 8 ≤ length out.old }
     ensures bytes { Puts out.old at (bytes 8 n) out.new result }
     ensures end { result ≡ at + 8 }
+    ensures fits { n < 2 ^ 64 }
     ensures len { length out.new ≡ length out.old }
 {
     BigEndian::write_u64(&mut out[at..], n);

@@ -95,6 +95,11 @@ impl<'c, R: Threads> Ahead<'c, R> {
         }
     }
 
+    /// What threads are started by.
+    pub(crate) fn runtime(&self) -> &'c R {
+        self.rt
+    }
+
     /// Joins a thread that came too late, if it has ended, and tells whether there is none any more.
     fn is_rid_of_late(&mut self) -> bool
         ensures none { IsTrue result → self.new.late ≡ None }
@@ -161,8 +166,9 @@ impl<'c, R: Threads> Ahead<'c, R> {
         Some(fetched.received)
     }
 
-    /// The client is gone, and with it the read that is under way.
-    pub(crate) fn end(self, stream: &Polled<'_>) {
+    /// The client is gone, and with it the read that is under way: no thread reads the stream when
+    /// this returns.
+    pub(crate) fn end(self) {
         let Ahead {
             rt,
             alloc: _,
@@ -173,8 +179,7 @@ impl<'c, R: Threads> Ahead<'c, R> {
         } = self;
         crew.leave();
         if let Some(fetching) = under_way {
-            stream.shut_down();
-            fetching.join(rt);
+            fetching.end(rt);
         }
         if let Some(taken) = late {
             taken.join(rt);

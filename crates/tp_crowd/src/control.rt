@@ -9,10 +9,13 @@ ghost use Rattle.tp_crowd.specs.Ruling.{AnswersControl};
 use crate::crowd::{RefusedFlags, Served, behind_all, not_refused, refused_by_now};
 use crate::listening::{Accepted, attend_streams};
 use crate::pause::{PAUSE, pause};
+use libc::net::{POLLIN, poll};
+use libc::types::pollfd;
 use std::alloc::Global;
 use std::io::{ErrorKind, Read, Write};
 use std::marker::Brand;
 use std::net::{TcpListener, TcpStream};
+use std::os::fd::{AsRawFd, RawFd};
 use std::sync::Wait;
 use std::sync::atomic::{AtomicBool, Ordering};
 use std::thread::Threads;
@@ -27,14 +30,22 @@ use tp_msg::Managed;
 /// A control client that takes no byte of an answer for so many milliseconds is dropped.
 const PATIENCE: u64 = 2000;
 
+/// Reads in a row that bring nothing after which a control client gives way to others. Each waits
+/// for a tenth of a second, so these take 30 s.
+const MOST_SILENT: u32 = 300;
+
+/// Looks in a row, a tenth of a second apart, that must find another client before this one gives
+/// way to it: at one alone it may be on its way to a thread that is free.
+const MOST_LOOKS: u32 = 3;
+
 /// Serves so many clients of a listener as [`serve_listener`](crate::serve_listener) does, and beside them, on a thread of its own, answers the lines of
 /// control clients, who come to another listener one after the other. Each line is answered as `tp_lines::answer_line` does: it is one ask of the
 /// hub, which waits for its lock like any other.
 ///
 /// The control side ends when the last client has, and drops what it has not read then: it looks before each read, which takes 256 bytes at most and waits 100
 /// milliseconds at most. It ends earlier where an accept of it fails, or no thread can be made for it; the clients go on then. A control client for whose
-/// lines there is no memory, who takes nothing of an answer for 2 seconds, or whose stream fails is dropped. Its listener is left nonblocking. A line by which
-/// the pool fails sounds the alarm as a request does.
+/// lines there is no memory, who takes nothing of an answer for 2 seconds, or whose stream fails is dropped. So is one that sends nothing for 30 seconds, if
+/// another one waits then. Its listener is left nonblocking. A line by which the pool fails sounds the alarm as a request does.
 pub fn serve_listener_with_control<R, V, A>(
     rt: &R,
     alloc: Global,
@@ -147,7 +158,7 @@ where
             return;
         }
         match control.accept() {
-            Ok((stream, _)) => attend_stream(rt, alloc, hub, &stream, are_gone),
+            Ok((stream, _)) => attend_stream(rt, alloc, hub, &stream, are_gone, control),
             Err(error) if is_for_now(&error) => pause(rt),
             Err(_) => return,
         }
@@ -183,6 +194,7 @@ fn attend_stream<R, V, A, K>(
     hub: &HubLock<'_, V, A, K>,
     stream: &TcpStream,
     are_gone: &AtomicBool,
+    control: &TcpListener,
 )
 where
     R: Wait,
@@ -193,7 +205,15 @@ where
     if !is_bounded(stream) {
         return;
     }
-    let mut watched = Watched::new(stream, are_gone);
+    let is_kept = AtomicBool::new(false);
+    let is_one_leaving = AtomicBool::new(false);
+    let mut watched = Watched::new(
+        stream,
+        are_gone,
+        &is_kept,
+        control.as_raw_fd(),
+        &is_one_leaving,
+    );
     answer_lines(rt, alloc, hub, &mut watched);
 }
 
@@ -217,24 +237,79 @@ where
     attend_lines(alloc, &mut desk, stream)
 }
 
-/// A control client's stream, which is at its end when the others are gone. A read that waited too long counts as interrupted: it is made again, behind
-/// another look.
+/// A control client's stream, which is at its end when the others are gone, or when it must give way
+/// to another control client. A read that waited too long counts as interrupted: it is made again,
+/// after another look.
 #[derive(Drop)]
 pub(crate) struct Watched<'a> {
     log: Log,
     stream: &'a TcpStream,
     are_gone: &'a AtomicBool,
+    /// Whether it gives way to no other client.
+    is_kept: &'a AtomicBool,
+    /// The descriptor of the listener at which other control clients wait.
+    listener: RawFd,
+    /// Whether one gives way, and the next one was not accepted since.
+    is_one_leaving: &'a AtomicBool,
+    /// How many reads in a row brought nothing.
+    silent: u32,
+    /// How many looks in a row found another client that waits for it.
+    looks: u32,
 }
 
 impl<'a> Watched<'a> {
     /// No call of it was made yet.
-    pub(crate) fn new(stream: &'a TcpStream, are_gone: &'a AtomicBool) -> Watched<'a> {
+    pub(crate) fn new(
+        stream: &'a TcpStream,
+        are_gone: &'a AtomicBool,
+        is_kept: &'a AtomicBool,
+        listener: RawFd,
+        is_one_leaving: &'a AtomicBool,
+    ) -> Watched<'a> {
         Watched {
             log: Log::new(),
             stream,
             are_gone,
+            is_kept,
+            listener,
+            is_one_leaving,
+            silent: 0,
+            looks: 0,
         }
     }
+
+    /// Whether it was silent for long, and another control client waits.
+    fn is_in_the_way(&self) -> bool {
+        self.silent >= MOST_SILENT
+            && !self.is_kept.load(Ordering::SeqCst)
+            && has_caller(self.listener)
+    }
+
+    /// Whether it gives way now: of those that are in the way one does, until the next client is
+    /// accepted.
+    fn gives_way(&self) -> bool {
+        self.looks >= MOST_LOOKS && !self.is_one_leaving.swap(true, Ordering::SeqCst)
+    }
+
+    /// Whether nothing more is read of it.
+    fn is_over(&self) -> bool {
+        self.are_gone.load(Ordering::SeqCst) || self.gives_way()
+    }
+}
+
+/// How often something was so in a row, after one more look.
+fn in_a_row(count: u32, is_so: bool) -> u32 {
+    if is_so { count.saturating_add(1) } else { 0 }
+}
+
+/// Whether a client has connected to a listener and was not accepted yet.
+fn has_caller(listener: RawFd) -> bool {
+    let mut asked = [pollfd {
+        fd: listener,
+        events: POLLIN,
+        revents: 0,
+    }];
+    poll(&mut asked, 0) == 1
 }
 
 /// Reads some bytes to the front of the buffer.
@@ -263,13 +338,13 @@ fn write_some(mut stream: &TcpStream, bytes: &[u8]) -> Put
     }
 }
 
-/// Reads, unless the others are gone.
-fn read_watched(stream: &TcpStream, are_gone: &AtomicBool, buffer: &mut Vec<u8>) -> Received
+/// Reads, unless it is over.
+fn read_unless(stream: &TcpStream, is_over: bool, buffer: &mut Vec<u8>) -> Received
     requires { 0 < length buffer.old.items }
     ensures some { GivesSome result (length buffer.new.items) }
     ensures len { length buffer.new.items ≡ length buffer.old.items }
 {
-    if are_gone.load(Ordering::SeqCst) {
+    if is_over {
         return Received::End;
     }
     read_some(stream, buffer.as_mut_slice())
@@ -279,7 +354,9 @@ impl<'a> Stream for Watched<'a> {
     ghost calls = { λ watched. watched.log.calls };
 
     fn receive(&mut self, buffer: &mut Vec<u8>) -> Received {
-        let received = read_watched(self.stream, self.are_gone, buffer);
+        self.looks = in_a_row(self.looks, self.is_in_the_way());
+        let received = read_unless(self.stream, self.is_over(), buffer);
+        self.silent = in_a_row(self.silent, !matches!(received, Received::Got(_)));
         self.log.note(&Made::Read(received), buffer.as_slice());
         received
     }

@@ -5,7 +5,7 @@ ghost use Rattle.std.specs.Prelude.{◌≡◌, IfOk, None};
 use crate::alive::keep_alive;
 use std::io;
 use std::net::{Shutdown, SocketAddr, TcpListener, TcpStream};
-use std::os::fd::OwnedFd;
+use std::os::fd::{AsRawFd, OwnedFd, RawFd};
 use std::os::unix::net::UnixListener;
 
 /// What clients are accepted from.
@@ -70,6 +70,11 @@ impl Door {
                 Ok((TcpStream::from(OwnedFd::from(stream)), None))
             }
         }
+    }
+
+    /// The descriptor of its socket.
+    pub(crate) fn descriptor(&self) -> RawFd {
+        self.handle.as_raw_fd()
     }
 
     /// Ends each accept that waits. The system refuses who comes from now on.

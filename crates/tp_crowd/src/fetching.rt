@@ -6,6 +6,7 @@ ghost use Rattle.tp_crowd.specs.Fetches.{IsFetched};
 use crate::frames::Frames;
 use crate::sockets::read_frames;
 use std::alloc::Global;
+use std::io::{self, ErrorKind, Read};
 use std::net::TcpStream;
 use std::sync::Arc;
 use std::sync::atomic::{AtomicBool, Ordering};
@@ -38,10 +39,26 @@ fn claim(is_claimed: &AtomicBool) -> bool {
     !is_claimed.swap(true, Ordering::SeqCst)
 }
 
+/// A stream that is read until a flag is set: from then on each read counts as interrupted.
+#[derive(Drop)]
+struct Stoppable {
+    stream: TcpStream,
+    is_over: Arc<AtomicBool>,
+}
+
+impl Read for Stoppable {
+    fn read(&mut self, buffer: &mut [u8]) -> io::Result<usize> {
+        if self.is_over.load(Ordering::SeqCst) {
+            return Err(io::Error::from(ErrorKind::Interrupted));
+        }
+        self.stream.read(buffer)
+    }
+}
+
 /// Reads from a stream that waits, unless that was taken back.
 fn fetch(
     is_claimed: &AtomicBool,
-    mut stream: TcpStream,
+    mut stream: Stoppable,
     mut frames: Frames,
     mut bytes: Vec<u8>,
 ) -> Fetched
@@ -67,6 +84,8 @@ fn fetch(
 #[derive(Drop)]
 pub(crate) struct Fetching {
     is_claimed: Arc<AtomicBool>,
+    /// Whether its thread must stop, even in the middle of a frame.
+    is_over: Arc<AtomicBool>,
     handle: PromisedHandle<Fetched, Behind>,
 }
 
@@ -84,6 +103,12 @@ impl Fetching {
     {
         let is_claimed = Arc::new(alloc, AtomicBool::new(false)).ok()?;
         let theirs = Arc::try_clone(&is_claimed).ok()?;
+        let is_over = Arc::new(alloc, AtomicBool::new(false)).ok()?;
+        let stops = Arc::try_clone(&is_over).ok()?;
+        let stream = Stoppable {
+            stream,
+            is_over: stops,
+        };
         let behind = Behind {
             frames: frames.copy(),
         };
@@ -92,7 +117,11 @@ impl Fetching {
             ensures { IsFetched frames result }
         { fetch(&theirs, stream, frames, bytes) };
         let handle = thread::spawn_with(rt, behind, read).ok()?;
-        Some(Fetching { is_claimed, handle })
+        Some(Fetching {
+            is_claimed,
+            is_over,
+            handle,
+        })
     }
 
     /// Takes it back, or gives it as it is where its thread has begun.
@@ -113,9 +142,16 @@ impl Fetching {
     {
         let Fetching {
             is_claimed: _,
+            is_over: _,
             handle,
         } = self;
         handle.join(rt)
+    }
+
+    /// Ends it: its thread makes no further read, and has ended when this returns.
+    pub(crate) fn end<R: Threads>(self, rt: &R) {
+        self.is_over.store(true, Ordering::SeqCst);
+        self.join(rt);
     }
 }
 

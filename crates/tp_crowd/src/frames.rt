@@ -76,7 +76,7 @@ fn put_behind(head: &mut [u8; HEAD], held: usize, bytes: &[u8])
 }
 
 impl Frames {
-    ghost use Rattle.std.specs.Prelude.{◌≡◌, ◌<◌, ◌≤◌, [], length, take};
+    ghost use Rattle.std.specs.Prelude.{◌≡◌, ◌<◌, ◌≤◌, [], length, take, true};
     ghost use Rattle.nbd_wire.specs.Reading.{fixed_len as fixed_of};
     ghost use Rattle.tp_lock.specs.Framing.{ends_in, framed, head_come, is_between, kind_at, missing_of, passed};
     ghost use Rattle.nbd_wire.specs.declared.Kind.TheVariants.{Flags};
@@ -212,5 +212,21 @@ impl Frames {
             has_ended |= self.is_between();
         }
         has_ended
+    }
+
+    /// Goes on over bytes that a read brought, and tells whether it must end with them: a frame ended
+    /// in them, or no request had come before.
+    ///
+    /// A frame before the first request is taken for an option or a request by its first byte, while
+    /// the session knows which of them it expects. It ends the connection at the last byte of the
+    /// fixed part that it expects, if the magic number is wrong. That may be in the middle of what the
+    /// frame is taken for, so a read that waits for the frame's end could wait for ever.
+    pub(crate) fn pass_read(&mut self, bytes: &[u8]) -> bool
+        ensures passed { self.new ≡ passed self.old bytes.now }
+        ensures ended { ends_in self.old bytes.now ≡ true → result ≡ true }
+    {
+        let is_settled = self.requests > 0;
+        let has_ended = self.pass(bytes);
+        has_ended || !is_settled
     }
 }

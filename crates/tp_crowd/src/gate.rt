@@ -50,7 +50,7 @@ pub(crate) struct Gate {
     places: [ClientPlace; 64],
     /// What is offered to each.
     profile: Profile,
-    /// Whether the streams of the clients that are served were ended.
+    /// Whether no more is read of the clients that are served.
     is_over: AtomicBool,
     /// Whether the last client has gone, and no new one will come.
     is_empty: Mutex<bool>,
@@ -87,7 +87,7 @@ impl Gate {
         self.porch.lock(rt).is_shut
     }
 
-    /// Whether the streams of those who are within are at their ends.
+    /// Whether no more is read of the clients that are served.
     pub(crate) fn is_over(&self) -> &AtomicBool {
         &self.is_over
     }
@@ -157,30 +157,34 @@ impl Gate {
         }
     }
 
-    /// Refuses new clients as `shut` does, and ends the streams of those that are served for reading: what was read of them is still answered.
+    /// Refuses new clients as `shut` does, and has the threads of those that are served read no more:
+    /// what was read of them is still answered.
+    ///
+    /// A thread that waits for its client sees that within half a second. The streams are not shut
+    /// down for reading: TCP would reset each whose client sends more, and the answers were lost.
     pub(crate) fn clear<R: Wait>(&self, rt: &R, doors: &[Door]) {
         self.shut(rt, doors);
         self.is_over.store(true, Ordering::SeqCst);
-        self.end_streams(rt, Shutdown::Read);
     }
 
-    /// Ends the streams of all clients that are served, for reading or for both.
-    fn end_streams<R: Wait>(&self, rt: &R, how: Shutdown) {
+    /// Ends the streams of all clients that are served, for reading and for writing.
+    fn end_streams<R: Wait>(&self, rt: &R) {
         for place in &self.places {
             if let Some(client) = &*place.lock(rt) {
-                let _ = client.shutdown(how);
+                let _ = client.shutdown(Shutdown::Both);
             }
         }
     }
 
-    /// Called about once a second. Where the streams were ended, clients have `left` seconds more to take their answers: with none left, writes to them are ended
-    /// too. It gives how many seconds are left behind this one.
+    /// Called about once a second. If no more is read of clients, they have `left` seconds more to
+    /// take their answers: with none left, their streams are ended. Returns how many seconds are left
+    /// after this one.
     pub(crate) fn hasten<R: Wait>(&self, rt: &R, left: u32) -> u32 {
         if !self.is_over.load(Ordering::SeqCst) {
             return left;
         }
         if left == 0 {
-            self.end_streams(rt, Shutdown::Both);
+            self.end_streams(rt);
             return 0;
         }
         left - 1

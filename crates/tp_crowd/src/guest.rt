@@ -9,10 +9,15 @@ use crate::sockets::Socket;
 use std::sync::Wait;
 use std::sync::atomic::{AtomicBool, Ordering};
 use std::thread::Threads;
+use std::time::{Clock, Duration};
 use tp_hub::{Answers, Desk, Event, Log, Made, Put, Ran, Received, Seat, Stream};
 use tp_lock::{Alarm, LockedDesk, Start};
 use tp_model::{DevId, Staged};
 use tp_msg::Managed;
+
+/// Seconds for which input of a client is discarded when the server is told to stop: as long as it
+/// may take its answers.
+const LAST_SECONDS: u64 = 5;
 
 /// A [`Socket`] that is at its end once a flag is set: no more is read of it then. All else that is told of it is what the socket told, in order: what was read, and so is answered, and
 /// what of the answers was written.
@@ -49,17 +54,24 @@ impl<'c, R: Threads> Guest<'c, R> {
             sent: self.sent,
         }
     }
+}
 
-    /// Ends it, and a read that is under way.
+impl<'c, R: Threads + Clock> Guest<'c, R> {
+    /// Ends it as [`Socket::close`] does. If the server is told to stop, its client has five seconds
+    /// for the answers.
     pub(crate) fn close(self) {
         let Guest {
             log: _,
             socket,
-            is_over: _,
+            is_over,
             received: _,
             sent: _,
         } = self;
-        socket.close();
+        if is_over.load(Ordering::SeqCst) {
+            socket.close_within(Duration::from_secs(LAST_SECONDS));
+        } else {
+            socket.close();
+        }
     }
 }
 

@@ -15,6 +15,7 @@ mod chronicle;
 mod control;
 mod crowd;
 mod door;
+mod ending;
 mod fetching;
 mod frames;
 mod gate;

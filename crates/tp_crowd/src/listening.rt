@@ -16,6 +16,7 @@ use std::net::{TcpListener, TcpStream};
 use std::sync::Wait;
 use std::thread;
 use std::thread::Threads;
+use std::time::Clock;
 use tp_hub::Hub;
 use tp_lock::{Alarm, HubLock, Start};
 use tp_model::Staged;
@@ -89,7 +90,7 @@ impl<'m, R: Threads + Wait, V: Staged, A: Alarm<V>, K: Start<V>> Sockets<'m, R, 
 
 impl<'m, R, V, A, K> Attend<TcpStream> for Sockets<'m, R, V, A, K>
 where
-    R: Threads + Wait,
+    R: Threads + Wait + Clock,
     V: Managed + Staged,
     A: Alarm<V>,
     K: Start<V>,
@@ -118,7 +119,7 @@ pub(crate) fn attend_streams<'m, R, V, A, K, I>(
     clients: I,
 ) -> u8
 where
-    R: Threads + Wait + Sync,
+    R: Threads + Wait + Clock + Sync,
     V: Managed + Staged + Send + Sync,
     V::Midway: Send + Sync,
     A: Alarm<V> + Sync,
@@ -145,7 +146,7 @@ pub fn serve_listener<R, V, A>(
     alarm: &A,
 ) -> Served<V>
 where
-    R: Threads + Wait + Sync,
+    R: Threads + Wait + Clock + Sync,
     V: Managed + Staged + Send + Sync,
     V::Midway: Send + Sync,
     A: Alarm<V> + Sync,
@@ -167,7 +168,7 @@ fn serve_since<R, V, A, K>(
     alarm: &A,
 ) -> Served<V>
 where
-    R: Threads + Wait + Sync,
+    R: Threads + Wait + Clock + Sync,
     V: Managed + Staged + Send + Sync,
     V::Midway: Send + Sync,
     A: Alarm<V> + Sync,

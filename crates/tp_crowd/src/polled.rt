@@ -2,9 +2,11 @@
 
 ghost use Rattle.std.specs.Io.{ReadsAtMost};
 
+use crate::ending::{bound_reads, discard, end_sending};
 use std::io;
 use std::io::{ErrorKind, Read, Write};
-use std::net::{Shutdown, TcpStream};
+use std::net::TcpStream;
+use std::time::{Clock, Duration};
 use tp_lock::{Patience, Waiting};
 
 /// So often a read that finds nothing is made again before its thread sleeps: some tens of microseconds, within which a client that waits for each answer
@@ -14,8 +16,11 @@ const TRIES: u32 = 100;
 /// At most so many reads sleep at once, behind one that waited awake in vain.
 const LONGEST_PAUSE: u32 = 64;
 
-/// A TCP stream whose reads wait awake for a while before they sleep: to be woken takes about as long as such a client needs to ask again. Behind a read that
-/// waited awake in vain the next one sleeps at once, behind two in a row the next two, then 4, and so on.
+/// A TCP stream whose reads wait awake for a while before they sleep: to be woken takes about as
+/// long as such a client needs to ask again. After a read that waited awake in vain the next one
+/// sleeps at once, after two in a row the next two, then 4, and so on.
+///
+/// A read that has slept for half a second fails with `WouldBlock`.
 #[derive(Drop)]
 pub(crate) struct Polled<'c> {
     stream: TcpStream,
@@ -29,9 +34,10 @@ pub(crate) struct Polled<'c> {
 }
 
 impl<'c> Polled<'c> {
-    /// A stream that may wait. What is written to it goes out at once, where the system lets it.
+    /// A stream that may wait. What is written to it goes out at once, if the system permits that.
     pub(crate) fn new(stream: TcpStream, patience: &'c Patience) -> Polled<'c> {
         let _ = stream.set_nodelay(true);
+        let _ = bound_reads(&stream);
         Polled {
             stream,
             is_nonblocking: false,
@@ -62,9 +68,17 @@ impl<'c> Polled<'c> {
         self.stream.try_clone().ok()
     }
 
-    /// Ends reads that wait.
-    pub(crate) fn shut_down(&self) {
-        let _ = self.stream.shutdown(Shutdown::Both);
+    /// Tells the peer that nothing more is sent to it. False if the stream has failed.
+    pub(crate) fn end_sending(&self) -> bool {
+        end_sending(&self.stream)
+    }
+
+    /// Discards what the peer sends, as [`discard`] does. Does nothing if reads cannot be bounded in
+    /// time.
+    pub(crate) fn discard<C: Clock>(&mut self, clock: &C, limit: Duration) {
+        if self.set_nonblocking(false).is_ok() && bound_reads(&self.stream) {
+            discard(clock, &mut self.stream, limit);
+        }
     }
 
     /// A wait awake, where the next read is to wait so.

@@ -65,8 +65,8 @@ struct RuledDesk<'m, R: Wait, V: Staged, A: Chronicle<V>, K: Start<V>> {
     desk: LockedDesk<'m, R, V, A, K>,
     gate: &'m Gate,
     doors: &'m [Door],
-    /// Whether it was said that it is to end.
-    is_stopped: bool,
+    /// Set by a line that ends the server.
+    is_stopped: &'m AtomicBool,
 }
 
 /// The command was not obeyed, since there was no memory for its answer.
@@ -170,12 +170,12 @@ fn obey<R: Wait, V: Managed + Staged, A: Chronicle<V>, K: Start<V>>(
     }
 }
 
-/// Obeys a line that is a command, and notes whether it ends all, or asks a desk once for any other.
+/// Obeys a line that is a command, and notes if it ends the server, or asks a desk once for any other.
 fn ask_line<R: Wait, V: Managed + Staged, A: Chronicle<V>, K: Start<V>>(
     desk: &mut LockedDesk<'_, R, V, A, K>,
     gate: &Gate,
     doors: &[Door],
-    is_stopped: &mut bool,
+    is_stopped: &AtomicBool,
     line: &[u8],
     out: &mut Answers,
 ) -> Ran
@@ -184,7 +184,8 @@ fn ask_line<R: Wait, V: Managed + Staged, A: Chronicle<V>, K: Start<V>>(
     match command_of(line) {
         None => ask_hub(desk, Event::Message(line), out),
         Some(command) => {
-            *is_stopped |= matches!(command, Command::Stop | Command::StopNow);
+            let is_last = matches!(command, Command::Stop | Command::StopNow);
+            is_stopped.fetch_or(is_last, Ordering::SeqCst);
             obey(desk, gate, doors, command, line, out)
         }
     }
@@ -216,7 +217,7 @@ where
                     &mut self.desk,
                     self.gate,
                     self.doors,
-                    &mut self.is_stopped,
+                    self.is_stopped,
                     line,
                     out,
                 );
@@ -228,42 +229,45 @@ where
     }
 }
 
-/// Answers control lines until there are no more. True where it was said that it is to end.
+/// Answers control lines until there are no more, and sets a flag if one of them ends the server.
 fn answer_orders<R, V, A, K, S>(
     rt: &R,
     alloc: Global,
     hub: &HubLock<'_, V, A, K>,
     gate: &Gate,
     doors: &[Door],
+    is_stopped: &AtomicBool,
     stream: &mut S,
-) -> (LinesEnd, bool)
+) -> LinesEnd
 where
     R: Wait,
     V: Managed + Staged,
     A: Chronicle<V>,
     K: Start<V>,
     S: Stream,
-    ensures { AnswersRulers V.view (S.calls stream.old) (S.calls stream.new) result.0 }
+    ensures { AnswersRulers V.view (S.calls stream.old) (S.calls stream.new) result }
 {
     let mut desk = RuledDesk {
         desk: LockedDesk { rt, alloc, hub },
         gate,
         doors,
-        is_stopped: false,
+        is_stopped,
     };
-    let end = attend_lines(alloc, &mut desk, stream);
-    (end, desk.is_stopped)
+    attend_lines(alloc, &mut desk, stream)
 }
 
-/// Answers the lines of one control client. Where it says that it is to end its stream is kept. It is dropped where no call of it can be bounded in time.
+/// Answers the lines of one control client. If one of them ends the server, the client gives way to no
+/// other one, and its stream is kept. It is dropped if no call of it can be bounded in time.
 fn attend_ruler<R, V, A, K>(
     rt: &R,
     alloc: Global,
     hub: &HubLock<'_, V, A, K>,
     gate: &Gate,
     doors: &[Door],
+    control: &Door,
     client: TcpStream,
     are_gone: &AtomicBool,
+    is_one_leaving: &AtomicBool,
     askers: &Askers,
 )
 where
@@ -275,9 +279,16 @@ where
     if !is_bounded(&client) {
         return;
     }
-    let mut watched = Watched::new(&client, are_gone);
-    let (_, is_stopped) = answer_orders(rt, alloc, hub, gate, doors, &mut watched);
-    if is_stopped {
+    let is_stopped = AtomicBool::new(false);
+    let mut watched = Watched::new(
+        &client,
+        are_gone,
+        &is_stopped,
+        control.descriptor(),
+        is_one_leaving,
+    );
+    answer_orders(rt, alloc, hub, gate, doors, &is_stopped, &mut watched);
+    if is_stopped.load(Ordering::SeqCst) {
         let _ = askers.lock(rt).push(client);
     }
 }
@@ -291,6 +302,7 @@ pub(crate) fn rule<R, V, A, K>(
     doors: &[Door],
     control: &Door,
     are_gone: &AtomicBool,
+    is_one_leaving: &AtomicBool,
     askers: &Askers,
 )
 where
@@ -305,7 +317,19 @@ where
         }
         match control.accept() {
             Ok((client, _)) => {
-                attend_ruler(rt, alloc, hub, gate, doors, client, are_gone, askers)
+                is_one_leaving.store(false, Ordering::SeqCst);
+                attend_ruler(
+                    rt,
+                    alloc,
+                    hub,
+                    gate,
+                    doors,
+                    control,
+                    client,
+                    are_gone,
+                    is_one_leaving,
+                    askers,
+                );
             }
             Err(_) => pause(rt),
         }

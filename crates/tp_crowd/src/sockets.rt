@@ -8,12 +8,14 @@ ghost use Rattle.tp_lines.specs.Pipes.{IsRead, IsWritten};
 ghost use Rattle.tp_lock.specs.Framing.{at_first, given, given_in, passed};
 
 use crate::ahead::{Ahead, Crew};
+use crate::ending::may_be_repeated;
 use crate::frames::Frames;
 use crate::polled::Polled;
 use std::alloc::Global;
 use std::io::{ErrorKind, Read, Write};
 use std::net::TcpStream;
 use std::thread::Threads;
+use std::time::{Clock, Duration};
 use tp_hub::{Log, Made, Put, Received, Stream};
 
 /// The most bytes that are taken at once of frames that are shorter.
@@ -22,14 +24,19 @@ const PIECE: usize = 262_144;
 /// Where so many bytes of a frame are missing they are read alone, so that it ends what is asked and the next one begins what is asked behind it.
 const LONG: usize = 65_536;
 
+/// Seconds for which input of a client is discarded after its session has ended.
+const LAST_SECONDS: u64 = 2;
+
 /// While so many bytes are asked, what the client sends behind them is read: to start a thread takes little beside them.
 const LONG_TO_ASK: usize = 262_144;
 
 /// A TCP stream of the system, with the calls that were made of it for contracts. Each is told as the system answered it, but that an end or a failure which comes
 /// behind bytes of one read is told by the next read; what the peer was sent, or what reached it, no contract says.
 ///
-/// A read ends behind the bytes of one call of the system, or where no frame ended in them, with the frame that has begun: a client waits for no answer
-/// before it has sent that. So a long WRITE with which a read begins is asked for once, and used from where it was read.
+/// A read ends with the bytes of one call of the system, or if no frame ended in them, with the
+/// frame that has begun: a client waits for no answer before it has sent that. So a long WRITE with
+/// which a read begins is asked for once, and used from where it was read. Before the first request
+/// each read ends with the bytes of one call.
 ///
 /// Who reads waits awake for some tens of microseconds before its thread sleeps, as long as its client has asked again within such a time of late.
 ///
@@ -62,16 +69,31 @@ impl<'c, R: Threads> Socket<'c, R> {
     pub(crate) fn requests(&self) -> u64 {
         self.frames.requests()
     }
+}
 
-    /// Ends it, and a read that is under way.
+impl<'c, R: Threads + Clock> Socket<'c, R> {
+    /// Ends it, and a read that is under way: the client reads all that was written, and then the
+    /// end.
+    ///
+    /// What the client sends meanwhile is discarded, for at most 2 s.
     pub fn close(self) {
+        self.close_within(Duration::from_secs(LAST_SECONDS));
+    }
+
+    /// Ends it as `close` does, with another limit.
+    pub(crate) fn close_within(self, limit: Duration) {
         let Socket {
             log: _,
             frames: _,
-            stream,
+            mut stream,
             ahead,
         } = self;
-        ahead.end(&stream);
+        let rt = ahead.runtime();
+        let is_sound = stream.end_sending();
+        ahead.end();
+        if is_sound {
+            stream.discard(rt, limit);
+        }
     }
 }
 
@@ -110,7 +132,7 @@ fn read_some<T: Read>(stream: &mut T, buffer: &mut [u8]) -> Received
     match stream.read(buffer) {
         Ok(0) => Received::End,
         Ok(count) => Received::Got(count),
-        Err(error) if error.kind() == ErrorKind::Interrupted => Received::NotNow,
+        Err(error) if may_be_repeated(&error) => Received::NotNow,
         Err(_) => Received::Broken,
     }
 }
@@ -140,7 +162,8 @@ fn brought(at: usize, last: Received) -> Received
     if at > 0 { Received::Got(at) } else { last }
 }
 
-/// Reads some bytes to the front of the buffer, up to the end of a frame if it has the room.
+/// Reads some bytes to the front of the buffer: behind the first request up to the end of a frame,
+/// if the buffer has the room.
 pub(crate) fn read_frames<T: Read>(
     stream: &mut T,
     frames: &mut Frames,
@@ -159,7 +182,7 @@ pub(crate) fn read_frames<T: Read>(
         let Received::Got(count) = received else {
             return brought(at, received);
         };
-        let has_ended = frames.pass(&buffer[at..at + count]);
+        let has_ended = frames.pass_read(&buffer[at..at + count]);
         at += count;
         if has_ended || at >= buffer.len() {
             return Received::Got(at);

@@ -70,7 +70,7 @@ struct House<'m, R: Threads + Wait, V: Staged, A: Chronicle<V>, K: Start<V>> {
 
 impl<'m, R, V, A, K> House<'m, R, V, A, K>
 where
-    R: Threads + Wait,
+    R: Threads + Wait + Clock,
     V: Managed + Staged,
     A: Chronicle<V>,
     K: Start<V>,
@@ -288,6 +288,8 @@ struct Court<'m, R: Threads + Wait, V: Staged, A: Chronicle<V>, K: Start<V>> {
     control: &'m Door,
     askers: &'m Askers,
     are_gone: AtomicBool,
+    /// Whether a control client gives way, and the next one was not accepted since.
+    is_one_leaving: AtomicBool,
 }
 
 impl<'m, R, V, A, K> Rule for Court<'m, R, V, A, K>
@@ -306,6 +308,7 @@ where
             self.doors,
             self.control,
             &self.are_gone,
+            &self.is_one_leaving,
             self.askers,
         );
     }
@@ -376,6 +379,7 @@ where
         control,
         askers,
         are_gone: AtomicBool::new(false),
+        is_one_leaving: AtomicBool::new(false),
     };
     attend_ruled(rt, alloc, hub, gate, doors, &court)
 }
@@ -383,13 +387,16 @@ where
 /// Serves clients without end, 64 at a time, from when they come to one of the doors, and offers this to each. Who comes when all places are taken waits. Each thread serves one client after
 /// another, always as the session of one number.
 ///
-/// Beside them it answers the lines of control clients, four of them at a time, as [`serve_listener_with_control`](crate::serve_listener_with_control) does. Four
+/// Beside them it answers the lines of control clients, four of them at a time, as [`serve_listener_with_control`](crate::serve_listener_with_control) does. A
+/// control client that has sent `stop` or `stop now` gives way to no other one. Four
 /// lines more are no messages to the pool. `flush` is a flush of it, answered `ok` when what was written is kept. `clients` tells how many are served, and the
 /// ids of the volumes that they have in ascending order, one for each who has a volume: `3 of 64: 0 7 7`. Behind `stop` nobody is let in any more, and it ends
-/// when the last client has gone; behind `stop now` the clients' streams are at their ends too, and what was read of them is answered, as far as they take the
-/// answers within some five seconds. Both are answered `ok` at once. Without a control door, and without these lines, it goes on for ever.
+/// when the last client has gone; behind `stop now` nothing more is read of the clients, half a second later at most, and what was read of them is answered, as
+/// far as they take the answers within some five seconds. Both are answered `ok` at once. Without a control door, and without these lines, it goes on for ever.
 ///
-/// An accept that fails is made again, a tenth of a second later. A client at a TCP address whose system does not answer any more is at its end within some minutes.
+/// An accept that fails is made again, a tenth of a second later. A client at a TCP address whose
+/// system does not answer any more is at its end two minutes later if it was silent, and else when
+/// the system has retransmitted in vain what it was sent, some 15 minutes later.
 ///
 /// The chronicle is told who comes and goes, which control lines were answered that they are done, but for flushes, and about once a second the pool's status
 /// line. When the pool has failed, its alarm sounds once.

@@ -6,6 +6,7 @@ use std::io::{Read, Write};
 use std::net::{Net, Shutdown, SocketAddr, TcpListener, TcpStream};
 use std::test::Fail;
 use std::thread::{Threads, join};
+use std::time::Clock;
 use std::{io, thread};
 use tp_crowd::{Crew, Socket};
 use tp_hub::{Received, Stream};
@@ -109,7 +110,7 @@ fn read_until<R: Threads>(
 }
 
 /// Accepts a client, reads until so many bytes came, and closes its socket.
-fn accept_and_read<R: Threads>(
+fn accept_and_read<R: Threads + Clock>(
     rt: &R,
     alloc: Global,
     listener: &TcpListener,
@@ -163,7 +164,7 @@ fn look<R: Threads>(
 }
 
 /// Accepts a client, and tells that.
-fn accept_and_look<R: Threads>(
+fn accept_and_look<R: Threads + Clock>(
     rt: &R,
     alloc: Global,
     crew: &Crew,
@@ -180,7 +181,7 @@ fn accept_and_look<R: Threads>(
 }
 
 /// The same of the second of two clients, of which the first one is gone by then.
-fn accept_two_and_look<R: Threads>(
+fn accept_two_and_look<R: Threads + Clock>(
     rt: &R,
     alloc: Global,
     listener: &TcpListener,
@@ -205,7 +206,7 @@ where
 /// Whether all of this is sent, and what follows its first bytes is read ahead, and given behind them.
 fn told_of_what_follows<H>(rt: &H, text: &[u8], count: usize) -> io::Result<(bool, bool)>
 where
-    H: Net<Listener = TcpListener, Stream = TcpStream> + Threads + Sync + Alloc<A = Global>,
+    H: Net<Listener = TcpListener, Stream = TcpStream> + Threads + Clock + Sync + Alloc<A = Global>,
 {
     let (listener, address) = listening(rt)?;
     let (sent, is_read_ahead) = join(
@@ -219,7 +220,7 @@ where
 /// The same of two long writes, of which the first one is read first.
 fn told_of_two_writes<H>(rt: &H) -> io::Result<(bool, bool)>
 where
-    H: Net<Listener = TcpListener, Stream = TcpStream> + Threads + Sync + Alloc<A = Global>,
+    H: Net<Listener = TcpListener, Stream = TcpStream> + Threads + Clock + Sync + Alloc<A = Global>,
 {
     let count = FLAGS.len() + HEAD.len() + 524_288;
     let text = long_writes(rt.alloc(), b"ab", b"")?;
@@ -235,7 +236,7 @@ fn what_follows_a_long_write_is_read_ahead(rt: HostRuntime) -> Result<(), Fail> 
 }
 
 /// Whether this is what is read of the next client.
-fn is_read<R: Threads>(
+fn is_read<R: Threads + Clock>(
     rt: &R,
     alloc: Global,
     listener: &TcpListener,
@@ -247,7 +248,7 @@ fn is_read<R: Threads>(
 /// Whether all of this is sent, and so much of it read in order.
 fn told_of_order<H>(rt: &H, text: &[u8], len: usize) -> io::Result<(bool, bool)>
 where
-    H: Net<Listener = TcpListener, Stream = TcpStream> + Threads + Sync + Alloc<A = Global>,
+    H: Net<Listener = TcpListener, Stream = TcpStream> + Threads + Clock + Sync + Alloc<A = Global>,
 {
     let (listener, address) = listening(rt)?;
     let (wanted, _) = text.split_at(len.min(text.len()));
@@ -262,7 +263,7 @@ where
 /// The same of long writes of each of these letters, and this behind them, which is not wanted.
 fn told_of_letters<H>(rt: &H, letters: &[u8], behind: &[u8]) -> io::Result<(bool, bool)>
 where
-    H: Net<Listener = TcpListener, Stream = TcpStream> + Threads + Sync + Alloc<A = Global>,
+    H: Net<Listener = TcpListener, Stream = TcpStream> + Threads + Clock + Sync + Alloc<A = Global>,
 {
     let text = long_writes(rt.alloc(), letters, behind)?;
     let len = text.len().saturating_sub(behind.len());

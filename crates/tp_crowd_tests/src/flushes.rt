@@ -1,4 +1,5 @@
-//! Flushes that nobody asked for, which are made in parts before one that a client asks for.
+//! Flushes that are made in parts, for a FLUSH, for what is left of a request with FUA, for the
+//! control line `flush`, and for a message.
 
 use crate::served::{Synced, served_in_parts};
 use crate::talk::{ANSWERED_FLUSH, ANSWERED_GO, FLUSH, GO, READ, kept_write, write};
@@ -161,12 +162,12 @@ where
     }
 }
 
-/// Each WRITE with FUA of an extended session is kept by a flush in parts, between which READs go on. Those of a strict one are kept by their own calls: a flush in
-/// parts is made before the first, of what was asked before.
+/// Each WRITE with FUA of an extended session is kept by a flush in parts, between which READs go
+/// on. Those of a strict one are kept by their own calls, and no flush is made before them.
 #[test]
 fn a_write_with_fua_is_kept_in_parts(rt: HostRuntime) -> Result<(), Fail> {
     let told = told_of_kept_writes(&rt)?;
-    assert_eq!(rt; told, [(32, 4), (32, 2)]);
+    assert_eq!(rt; told, [(32, 4), (32, 0)]);
     Ok(())
 }
 
@@ -197,7 +198,7 @@ where
     Ok((is_done, hub.into_inner().into_pool().synced().0))
 }
 
-/// A message is kept in parts, and READs may come to the syncs between them. Nothing was written before it, so there is no other flush.
+/// A message is kept in parts, and READs may come to the syncs between them.
 #[test]
 fn a_message_is_kept_in_parts(rt: HostRuntime) -> Result<(), Fail> {
     let told = told_of_message(&rt)?;
@@ -269,14 +270,14 @@ where
     Ok((is_done && is_seen, hub.into_inner().into_pool().synced()))
 }
 
-/// While the device is brought what one part of a message wrote, a READ is answered: the sync stays until one has come to it. So it is in the flush before the message,
-/// since a client came.
+/// While the device is brought what one part of a message wrote, a READ is answered: the sync stays
+/// until one has come to it. No flush is made before the message.
 #[test]
 fn reads_between_the_parts_of_a_message(rt: HostRuntime) -> Result<(), Fail> {
     let (is_done, (syncs, reads, is_in_vain)) = told_of_both(&rt)?;
     assert_eq!(rt;
-        (is_done, syncs, reads >= 4, is_in_vain),
-        (true, 4, true, false)
+        (is_done, syncs, reads >= 2, is_in_vain),
+        (true, 2, true, false)
     );
     Ok(())
 }
@@ -345,6 +346,42 @@ fn a_fault_in_each_part_is_told_once(rt: HostRuntime) -> Result<(), Fail> {
         told_of_fault(&rt, 0)?,
         told_of_fault(&rt, 1)?,
         told_of_fault(&rt, 2)?,
+    ];
+    assert_eq!(rt; told, [(true, 1), (true, 1), (true, 1)]);
+    Ok(())
+}
+
+/// Whether the control line `flush` is refused by the very fault, over a pool whose flush fails in
+/// this part, and how often the alarm sounded.
+fn told_of_faulty_line<H>(rt: &H, part: u8) -> Result<(bool, u64), Refusal>
+where
+    H: Wait + Sync + Alloc<A = Global>,
+{
+    let alarm = Seen::nothing();
+    let shelf = failing_in_part(part)?;
+    let hub = HubLock::<FailingShelf, Seen, Brand>::new(Hub::new(shelf), &alarm);
+    let mut out = Answers::new(rt.alloc());
+    let mut desk = LockedDesk {
+        rt,
+        alloc: rt.alloc(),
+        hub: &hub,
+    };
+    begin(&mut desk, &[], &mut out);
+    desk.ask(Event::Flush, &mut out);
+    let damaged = Mark::Refused {
+        reason: Refusal::Damaged,
+    };
+    Ok((out.marks() == [damaged].as_slice(), alarm.bytes()))
+}
+
+/// In whichever part the flush fails, the line that asked for it is refused as the flush was, and
+/// not as a pool that has failed before.
+#[test]
+fn a_fault_in_each_part_answers_the_line(rt: HostRuntime) -> Result<(), Fail> {
+    let told = [
+        told_of_faulty_line(&rt, 0)?,
+        told_of_faulty_line(&rt, 1)?,
+        told_of_faulty_line(&rt, 2)?,
     ];
     assert_eq!(rt; told, [(true, 1), (true, 1), (true, 1)]);
     Ok(())

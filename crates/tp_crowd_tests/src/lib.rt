@@ -32,6 +32,8 @@ mod talk;
 #[cfg(test)]
 mod turns;
 #[cfg(test)]
+mod unasked;
+#[cfg(test)]
 mod waiting;
 
 /// A library has a public item at least: this crate has nothing but tests.

@@ -37,7 +37,7 @@ fn served_and_answered<H>(
     client: &mut TcpStream,
 ) -> Result<(Left, bool), Fail>
 where
-    H: Threads + Wait + Sync + Alloc<A = Global>,
+    H: Threads + Wait + Clock + Sync + Alloc<A = Global>,
 {
     let left = served(rt, listener, 1)?;
     Ok((left, is_answered(rt.alloc(), client)?))
@@ -56,7 +56,12 @@ where
 /// The same of such a client.
 fn told_of_session<H>(rt: &H) -> Result<(Left, bool), Fail>
 where
-    H: Net<Listener = TcpListener, Stream = TcpStream> + Threads + Wait + Sync + Alloc<A = Global>,
+    H: Net<Listener = TcpListener, Stream = TcpStream>
+        + Threads
+        + Wait
+        + Clock
+        + Sync
+        + Alloc<A = Global>,
 {
     let (listener, address) = listening(rt)?;
     let mut client = sent_client(rt, address)?;
@@ -74,7 +79,12 @@ fn a_session_over_loopback(rt: HostRuntime) -> Result<(), Fail> {
 /// What is left where an accept would wait, and fails.
 fn told_of_no_accept<H>(rt: &H) -> Result<Left, Fail>
 where
-    H: Net<Listener = TcpListener, Stream = TcpStream> + Threads + Wait + Sync + Alloc<A = Global>,
+    H: Net<Listener = TcpListener, Stream = TcpStream>
+        + Threads
+        + Wait
+        + Clock
+        + Sync
+        + Alloc<A = Global>,
 {
     let listener = TcpListener::bind(rt, "[::1]:0")?;
     listener.set_nonblocking(true)?;

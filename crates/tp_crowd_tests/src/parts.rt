@@ -10,6 +10,7 @@ use std::net::{Net, SocketAddr, TcpListener, TcpStream};
 use std::sync::Wait;
 use std::test::Fail;
 use std::thread::{Threads, join};
+use std::time::Clock;
 
 /// The head of a write of the first 131,072 bytes.
 const LONG_WRITE: &[u8] = b"\x25\x60\x95\x13\0\0\0\x01\0\0\0\0\0\0\0\x05\0\0\0\0\0\0\0\0\0\x02\0\0";
@@ -134,7 +135,12 @@ where
 /// What is told of that client, and left of those who serve it.
 fn told_of_parts<H>(rt: &H) -> Result<((bool, bool), Left), Fail>
 where
-    H: Net<Listener = TcpListener, Stream = TcpStream> + Threads + Wait + Sync + Alloc<A = Global>,
+    H: Net<Listener = TcpListener, Stream = TcpStream>
+        + Threads
+        + Wait
+        + Clock
+        + Sync
+        + Alloc<A = Global>,
 {
     let (listener, address) = listening(rt)?;
     let (told, left) = join(
@@ -175,7 +181,12 @@ where
 /// The same, and what is left of those who serve them.
 fn told_of_wrong<H>(rt: &H) -> Result<((usize, usize, usize), Left), Fail>
 where
-    H: Net<Listener = TcpListener, Stream = TcpStream> + Threads + Wait + Sync + Alloc<A = Global>,
+    H: Net<Listener = TcpListener, Stream = TcpStream>
+        + Threads
+        + Wait
+        + Clock
+        + Sync
+        + Alloc<A = Global>,
 {
     let (listener, address) = listening(rt)?;
     let (told, left) = join(

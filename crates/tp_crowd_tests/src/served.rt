@@ -6,6 +6,7 @@ use std::io;
 use std::net::{Net, SocketAddr, TcpListener, TcpStream};
 use std::sync::Wait;
 use std::thread::Threads;
+use std::time::Clock;
 use tp_crowd::{Served, serve_all, serve_listener};
 use tp_hub::Hub;
 use tp_model::Refusal;
@@ -32,7 +33,7 @@ fn left_of(served: Served<Shelf>) -> Left {
 /// Serves so many clients of a listener over a shelf that has nothing.
 pub(crate) fn served<H>(rt: &H, listener: TcpListener, count: u8) -> Result<Left, Refusal>
 where
-    H: Threads + Wait + Sync + Alloc<A = Global>,
+    H: Threads + Wait + Clock + Sync + Alloc<A = Global>,
 {
     let hub = Hub::new(blank_shelf(rt.alloc())?);
     let alarm = Seen::nothing();

@@ -6,7 +6,8 @@ use std::alloc::{AllocError, Global};
 pub(crate) const GO: &[u8] = b"\0\0\0\x03IHAVEOPT\0\0\0\x07\0\0\0\x07\0\0\0\x010\0\0";
 
 /// The head of a write of sector 0, and its payload.
-const WRITE_HEAD: &[u8] = b"\x25\x60\x95\x13\0\0\0\x01\0\0\0\0\0\0\0\x01\0\0\0\0\0\0\0\0\0\0\x02\0";
+pub(crate) const WRITE_HEAD: &[u8] =
+    b"\x25\x60\x95\x13\0\0\0\x01\0\0\0\0\0\0\0\x01\0\0\0\0\0\0\0\0\0\0\x02\0";
 
 pub(crate) const LETTERS: &[u8] = &[0x61; 512];
 

@@ -1,5 +1,5 @@
 -- Zeros by sectors.
-use Rattle.std.proofs.Common.{◌≡◌, ℕ, zero, suc, ◌*◌, ◌++◌, length, replicate, sym, ap, ◌∙◌, refl}
+use Rattle.std.proofs.Common.{◌≡◌, ℕ, zero, suc, ◌++◌, length, replicate, ap, ◌∙◌, refl}
 use Rattle.std.specs.List.{AllByRecursion, concat, flat_map}
 use Rattle.tp_model.specs.Sectors.{Sector, sectors_of, zero_sector}
 use Rattle.tp_model.proofs.DiskLaws.{sectors_of-concat}

@@ -3,13 +3,13 @@
 //! premise of those who use them.
 ghost use Rattle.std.specs.Prelude.{◌≡◌, ◌<◌, ◌≤◌, ◌-◌, ◌^◌, IfOk, OnOk, is_ok, false};
 ghost use Rattle.tp_model.specs.Disk.{IsSettled, IsWellFormed, after_flush};
-ghost use Rattle.tp_disk.specs.Streams.{IsNoStream};
 
 use crate::disk::MOST_SECTORS;
 use crate::opening::{
-    OpenError, OpenStep, lock, lock_file, lock_shared, open_or_make, open_there,
-    open_there_to_read, sync_folder,
+    LockedFile, OpenError, OpenStep, drop_cached, open_or_make, open_there, open_there_to_read,
+    sync_folder,
 };
+use crate::refused::RefusedReads;
 use crate::shadow::{Shadow, Step};
 use crate::syncs::{Synced, Syncs};
 use crate::trouble::{DiskCall, Trouble, note_trouble};
@@ -30,18 +30,26 @@ const MOST_WRITTEN: usize = 65_536;
 /// did. A long write is made by calls of the system of 64 KiB each. A call that the system cuts short or interrupts goes on; one that it refuses is a `Fault`,
 /// and [`FileDisk::trouble`] tells what the system said of it. Once a sync was refused, each flush fails: the system forgets what it could not write.
 ///
+/// A shared read that the system refused is remembered: `read` of the same bytes then is a `Fault`
+/// without a second call of the system, unless a write replaced some of them in between.
+///
 /// What a killed program wrote may still be in the system's memory alone, where a power cut loses it. So opening waits until all of the file is on the
 /// device: from then on a stop leaves what reads give.
+///
+/// Opening then drops the system's cached pages of the file, so that reads come from the device. A
+/// cached page may differ from the device in two cases: an earlier sync failed, or another host wrote
+/// the file on shared storage.
 ///
 /// While the disk is open it holds the file's exclusive lock, or the shared one where it was opened to read, by which programs
 /// that open images through a `FileDisk` keep out of each other's way. It never has one of descriptors 0 to 2, to which a program writes what it
 /// tells.
 #[derive(Drop)]
 pub struct FileDisk {
-    file: File,
+    file: LockedFile,
     size: u64,
     shadow: Shadow,
     trouble: Option<Trouble>,
+    refused: RefusedReads,
     /// How many writes there were. It stays at the greatest `u64`.
     writes: u64,
     /// How many bytes were written since the last flush.
@@ -49,7 +57,6 @@ pub struct FileDisk {
     /// The last sync that opening or a flush asked for.
     last: Synced,
     syncs: Syncs,
-    ghost is_no_stream: { IsNoStream file },
     ghost size_is: { shadow.state.size ≡ size },
     ghost unclaimed: { shadow.state.is_honest ≡ false },
     ghost well_formed: { IsWellFormed shadow.state.size shadow.state.cells },
@@ -64,13 +71,14 @@ impl FileDisk {
     ghost use Rattle.tp_disk.specs.Syncs.{writes_of, writes_to};
 
     /// The disk over an existing file, or over a whole block device. A part of a sector at the end is not counted. Refused where the system refuses, as for a missing file or one that
-    /// cannot be synced, where it is neither a regular file nor a block device, another open holds its lock, or it would have one of descriptors 0 to 2, and where there are more
-    /// than 2^54 sectors.
+    /// cannot be synced or dropped from the page cache, where it is neither a regular file nor a block
+    /// device, another open holds its lock, or it would have one of descriptors 0 to 2, and where there
+    /// are more than 2^54 sectors.
     pub fn open<R: Files<File = File>>(rt: &R, path: &str) -> Result<FileDisk, OpenError>
         ensures { IfOk result (λ disk. IsHandedOut (file_state disk)) }
     {
-        let file = open_there(rt, path)?;
-        let size = lock(&file)?;
+        let file = LockedFile::exclusive(open_there(rt, path)?)?;
+        let size = file.length()?;
         FileDisk::over(file, size / SECTOR)
     }
 
@@ -79,8 +87,8 @@ impl FileDisk {
     pub fn open_to_read<R: Files<File = File>>(rt: &R, path: &str) -> Result<FileDisk, OpenError>
         ensures { IfOk result (λ disk. IsHandedOut (file_state disk)) }
     {
-        let file = open_there_to_read(rt, path)?;
-        let size = lock_shared(&file)?;
+        let file = LockedFile::shared(open_there_to_read(rt, path)?)?;
+        let size = file.length()?;
         FileDisk::over(file, size / SECTOR)
     }
 
@@ -100,8 +108,8 @@ impl FileDisk {
             return Err(OpenError::TooLarge);
         }
         let (file, is_new) = open_or_make(rt, path)?;
-        lock_file(&file)?;
-        OpenStep::SetLength.tried(file.set_len(SECTOR * sectors))?;
+        let file = LockedFile::exclusive(file)?;
+        file.set_length(SECTOR * sectors)?;
         let disk = FileDisk::over(file, sectors)?;
         if is_new {
             sync_folder(rt, path)?;
@@ -121,19 +129,20 @@ impl FileDisk {
         if self.last.is_behind(self.writes) {
             return Ok(self.last);
         }
-        self.syncs.behind(&self.file, self.writes)
+        self.syncs.behind(self.file.file(), self.writes)
     }
 
-    /// The disk over a file of this many sectors, all of which is on the device.
-    fn over(file: File, size: u64) -> Result<FileDisk, OpenError>
-        requires { IsNoStream file }
+    /// The disk over a locked file of this many sectors, all of which is on the device. The caller has
+    /// read nothing of it.
+    fn over(file: LockedFile, size: u64) -> Result<FileDisk, OpenError>
         ensures size { IfOk result (λ disk. (file_state disk).size ≡ size) }
         ensures untouched { IfOk result (λ disk. IsHandedOut (file_state disk)) }
     {
         if size > MOST_SECTORS {
             return Err(OpenError::TooLarge);
         }
-        let last = OpenStep::Sync.tried(Synced::at_opening(&file))?;
+        let last = OpenStep::Sync.tried(Synced::at_opening(file.file()))?;
+        OpenStep::DropCached.tried(drop_cached(file.file()))?;
         let mut shadow = Shadow::new();
         shadow.note(&Step::Unclaimed { sectors: size }, &[]);
         Ok(FileDisk {
@@ -141,6 +150,7 @@ impl FileDisk {
             size,
             shadow,
             trouble: None,
+            refused: RefusedReads::none(),
             writes: 0,
             unsynced: 0,
             last,
@@ -171,7 +181,10 @@ impl Disk for FileDisk {
     }
 
     fn read(&mut self, at: u64, out: &mut [u8]) -> Result<(), Fault> {
-        let done = self.file.read_exact_at(out, SECTOR * at);
+        let done = match self.refused.take(at, out.len()) {
+            Some(error) => Err(error),
+            None => self.file.file().read_exact_at(out, SECTOR * at),
+        };
         let ok = done.is_ok();
         note_trouble(&mut self.trouble, DiskCall::Read { at }, done);
         self.shadow.note(&Step::NoChange { ok }, &[]);
@@ -181,7 +194,8 @@ impl Disk for FileDisk {
     fn write(&mut self, at: u64, bytes: &[u8]) -> Result<(), Fault> {
         self.writes = self.writes.saturating_add(1);
         self.unsynced = self.unsynced.saturating_add(bytes.len() as u64);
-        let done = write_pieces(&self.file, SECTOR * at, bytes);
+        self.refused.forget(at, bytes.len());
+        let done = write_pieces(self.file.file(), SECTOR * at, bytes);
         let ok = done.is_ok();
         note_trouble(&mut self.trouble, DiskCall::Write { at }, done);
         self.shadow.note(&Step::Write { at, ok }, bytes);
@@ -212,12 +226,18 @@ impl Disk for FileDisk {
 
 impl SharedDisk for FileDisk {
     fn read_shared(&self, at: u64, out: &mut [u8]) -> bool {
-        self.file.read_exact_at(out, SECTOR * at).is_ok()
+        match self.file.file().read_exact_at(out, SECTOR * at) {
+            Ok(()) => true,
+            Err(error) => {
+                self.refused.note(at, out.len(), error);
+                false
+            }
+        }
     }
 
     fn sync_ahead(&self, least: u64) {
         if self.unsynced >= least && !self.last.is_behind(self.writes) {
-            self.syncs.ahead(&self.file, self.writes);
+            self.syncs.ahead(self.file.file(), self.writes);
         }
     }
 }

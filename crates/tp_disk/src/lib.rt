@@ -12,6 +12,7 @@ mod disk;
 mod file;
 mod memory;
 mod opening;
+mod refused;
 mod shadow;
 mod shared;
 mod syncs;

@@ -24,6 +24,7 @@ pub enum OpenStep {
     Measure,
     SetLength,
     Sync,
+    DropCached,
     SyncFolder,
 }
 
@@ -62,6 +63,7 @@ impl Display for OpenStep {
             OpenStep::Measure => "does not tell its length",
             OpenStep::SetLength => "cannot be set to its length",
             OpenStep::Sync => "cannot be synced",
+            OpenStep::DropCached => "cannot be dropped from the page cache",
             OpenStep::SyncFolder => "is in a folder that cannot be synced",
         })
     }
@@ -177,41 +179,89 @@ fn locked(answer: Result<(), TryLockError>) -> Result<(), OpenError> {
     }
 }
 
-/// Takes the exclusive lock of a regular file or block device, and tells its length in bytes.
-pub(crate) fn lock(file: &File) -> Result<u64, OpenError> {
-    locked(file.try_lock())?;
-    length_of(file)
+/// A file of which this value holds the lock, and which is no standard stream.
+///
+/// Dropping it unlocks the file before it is closed: some shared file systems release the lock of a
+/// closed file only after `close` has returned. An error of the unlocking is ignored, since closing
+/// unlocks too.
+pub struct LockedFile {
+    file: File,
+    ghost is_no_stream: { IsNoStream file },
 }
 
-/// The same with the shared lock, which any number of opens may hold at once, and none beside the exclusive one.
-pub(crate) fn lock_shared(file: &File) -> Result<u64, OpenError> {
-    locked(file.try_lock_shared())?;
-    length_of(file)
+impl Drop for LockedFile {
+    fn drop(self) {
+        let Self { file } = self;
+        _ = file.unlock();
+    }
 }
 
-/// Takes the exclusive lock of a regular file, whose length can be set.
-pub(crate) fn lock_file(file: &File) -> Result<(), OpenError> {
-    locked(file.try_lock())?;
-    if OpenStep::Measure.tried(file.metadata())?.is_file() {
-        Ok(())
-    } else {
+impl LockedFile {
+    /// Takes the exclusive lock of a file.
+    ///
+    /// Errors: `InUse` if another open file has a lock of it; `System` if the system refuses.
+    pub(crate) fn exclusive(file: File) -> Result<LockedFile, OpenError>
+        requires { IsNoStream file }
+    {
+        locked(file.try_lock())?;
+        Ok(LockedFile { file })
+    }
+
+    /// Takes the shared lock of a file, of which any number may be held at once, and none beside the
+    /// exclusive one.
+    ///
+    /// Errors: as [`LockedFile::exclusive`].
+    pub(crate) fn shared(file: File) -> Result<LockedFile, OpenError>
+        requires { IsNoStream file }
+    {
+        locked(file.try_lock_shared())?;
+        Ok(LockedFile { file })
+    }
+
+    /// The file, to read, write and sync.
+    pub(crate) fn file(&self) -> &File {
+        &self.file
+    }
+
+    /// Sets the length of a regular file, in bytes. What is added is zero.
+    ///
+    /// Errors: `NotRegular` for a device, whose length is its own; `System` if the system refuses.
+    pub(crate) fn set_length(&self, bytes: u64) -> Result<(), OpenError> {
+        if !OpenStep::Measure.tried(self.file.metadata())?.is_file() {
+            return Err(OpenError::NotRegular);
+        }
+        OpenStep::SetLength.tried(self.file.set_len(bytes))
+    }
+
+    /// The length of a regular file or block device, in bytes. The system reports a length of 0 in the
+    /// metadata of a device.
+    ///
+    /// Errors: `NotRegular` for any other file; `System` if the system refuses.
+    pub(crate) fn length(&self) -> Result<u64, OpenError> {
+        let metadata = OpenStep::Measure.tried(self.file.metadata())?;
+        if metadata.is_file() {
+            return Ok(metadata.len());
+        }
+        if is_device(&metadata) {
+            return end_of(&self.file);
+        }
         Err(OpenError::NotRegular)
+    }
+}
+
+/// Drops the system's cached pages of a file, so that the next reads come from its device.
+///
+/// Linux marks a page clean even if writing it to the device failed. A client of shared storage may
+/// keep pages that another host has overwritten. Dirty pages stay, so sync the file first. Pages that
+/// another process has mapped stay too, and the answer is `Ok` all the same.
+pub(crate) fn drop_cached(file: &File) -> io::Result<()> {
+    match libc::posix_fadvise(file.as_raw_fd(), 0, 0, libc::POSIX_FADV_DONTNEED) {
+        0 => Ok(()),
+        code => Err(io::Error::from_raw_os_error(code)),
     }
 }
 
 /// Where a file ends, in bytes: that is told of a device, too.
 fn end_of(mut file: &File) -> Result<u64, OpenError> {
     OpenStep::Measure.tried(file.seek(SeekFrom::End(0)))
-}
-
-/// The length of a regular file or block device, in bytes. What the system tells of a device has a length of 0.
-fn length_of(file: &File) -> Result<u64, OpenError> {
-    let metadata = OpenStep::Measure.tried(file.metadata())?;
-    if metadata.is_file() {
-        return Ok(metadata.len());
-    }
-    if is_device(&metadata) {
-        return end_of(file);
-    }
-    Err(OpenError::NotRegular)
 }

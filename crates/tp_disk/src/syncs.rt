@@ -8,7 +8,7 @@ use std::sync::Mutex;
 use std::sync::atomic::{AtomicU64, Ordering};
 
 /// What the system says where a device fails, of a failure that has no number.
-const EIO: i32 = 5;
+pub(crate) const EIO: i32 = 5;
 
 /// A sync of a file that succeeded, behind so many of its writes: what these wrote is on the device. Nothing but a sync makes one.
 #[derive(Clone, Copy)]

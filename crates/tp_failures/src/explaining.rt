@@ -216,7 +216,7 @@ fn explain_unfit<W: fmt::Write>(unfit: &Unfit, f: &mut Formatter<W>) -> fmt::Res
         ),
         Unfit::TooMany { fit } => write!(
             f,
-            "the metadata of so many volumes would take more than 65536 blocks: {fit} volumes fit"
+            "the metadata of so many volumes would take more than 65536 blocks, even with data blocks of 1 MiB: {fit} volumes fit"
         ),
     }
 }

@@ -9,8 +9,8 @@ use arrayvec::ArrayVec;
 use std::marker::Model;
 use tp_model::DevId;
 
-/// At most this many sessions hold volumes.
-pub const MOST_HOLDERS: usize = 64;
+/// At most this many holds stand at once: 64 clients, each of which holds the volume that it is served and one that it compares that with.
+pub const MOST_HOLDERS: usize = 128;
 
 /// A session that holds a volume, with the blocks that the volume has as long as it is held.
 #[derive(Clone, Copy, Debug, PartialEq, Eq)]

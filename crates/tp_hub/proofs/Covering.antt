@@ -1,9 +1,9 @@
 -- What the reply to a FLUSH says of what was answered before.
-use Rattle.std.proofs.Common.{◌≡◌, ◌≢◌, ◌⊎◌, ℕ, ◌+◌, ◌<◌, Bool, true, false, List, [], ◌∷◌, ◌++◌, length, ◌^◌, Option, Some, None, inl, inr, refl, sym, ap, ap₂, subst, ◌∙◌, arith, append_assoc, append-nil, length-append, true≢false}
-use Rattle.std.specs.Prelude.{◌&&◌, ◌||◌, ◌==◌, MatchOption, if◌then◌else◌, nat_lt, map}
+use Rattle.std.proofs.Common.{◌≡◌, ◌⊎◌, ℕ, ◌+◌, ◌<◌, Bool, true, false, List, [], ◌∷◌, ◌++◌, length, ◌^◌, Option, Some, None, inl, inr, refl, sym, ap, ap₂, subst, ◌∙◌, arith, append_assoc, append-nil, length-append, true≢false}
+use Rattle.std.specs.Prelude.{◌&&◌, ◌||◌, ◌==◌, MatchOption, if◌then◌else◌, nat_lt}
 use Rattle.std.specs.Option.{option_map_or}
 use Rattle.std.proofs.lemmas.Bool.{eq-eqb, ne_eqb}
-use Rattle.std.proofs.lemmas.List.{map-append, take_all}
+use Rattle.std.proofs.lemmas.List.{map-append}
 use Rattle.tp_model.specs.declared.refusal.NbdError.{NbdError}
 use Rattle.tp_model.specs.declared.refusal.NbdError.TheVariants.{NotPermitted, InputOutput, Invalid, NoSpace}
 use Rattle.tp_model.specs.declared.refusal.Refusal.{Refusal}
@@ -23,7 +23,7 @@ use Rattle.nbd_wire.specs.declared.Kind.TheVariants as kinds
 use Rattle.nbd_wire.specs.declared.Request.{Request}
 use Rattle.nbd_wire.specs.declared.TheConstants.{COMMAND_FLUSH, SIMPLE_REPLY_MAGIC}
 use Rattle.nbd_wire.specs.Numbers.{bytes}
-use Rattle.nbd_wire.specs.Grammar.{FitsRequest, IsFrame, IsRequest, Message, command}
+use Rattle.nbd_wire.specs.Grammar.{IsFrame, Message, command}
 use Rattle.nbd_wire.specs.Replies.{simple_reply}
 use Rattle.nbd_wire.proofs.Frames.{one_frame}
 use Rattle.nbd_wire.proofs.Fields.{width4}
@@ -38,7 +38,6 @@ use Rattle.nbd_session.specs.Requests.{form_of, is_last, is_long, long_call, lon
 use Rattle.nbd_session.proofs.Judging.{error_other, plainly_other, status_other}
 use Rattle.nbd_session.specs.Session.{Answers, GoesOn, IsMade, MakesPart, Serves, State, Steps, TakesFrame, Waits, reply_to, state}
 use Rattle.nbd_session.specs.Turns.{AreTurns, Happened, IsFoundIn, Sessions, TakesTurn, Turn, closed, pool_after, sessions_after}
-use Rattle.nbd_session.specs.Turns as turns
 use Rattle.nbd_session.proofs.Turning.{turn_follows}
 use Rattle.tp_hub.proofs.Whole.{all_taken, state_is}
 use Rattle.tp_hub.specs.Covered.{Covers, IsCovered, IsFlushed, IsKept, IsNewer, KeepsAll}

@@ -1,5 +1,5 @@
--- A flush that a hub makes unasked: one run of it, whose sessions stay as they are.
-use Rattle.std.proofs.Common.{◌≡◌, true, List, [], ◌∷◌, refl, sym, subst, arith}
+-- A flush that a hub makes: one run of it, whose sessions stay as they are.
+use Rattle.std.proofs.Common.{◌≡◌, ◌∙◌, true, List, [], ◌∷◌, refl, sym, subst, arith}
 use Rattle.std.specs.Prelude.{Err, Ok, Result}
 use Rattle.tp_model.specs.declared.refusal.Refusal.{Refusal}
 use Rattle.tp_model.specs.Calls as calls
@@ -21,7 +21,7 @@ pub one_told : (answer : Answer) → Grows (told_to []) (told_to (answer ∷ [])
 one_told answer = record { list = refl; room = omega arith; marks = omega arith }
 
 module _ {D : Type 0} (view : View D) where
-  flush_taken : (p p' : D) (result : Result (Unit {0}) Refusal) → IsFlushed view p p' result → PoolTakes view AsksFlush p true 0 (told_to []) (told_to (flush_told result ∷ [])) p'
+  pub flush_taken : (p p' : D) (result : Result (Unit {0}) Refusal) → IsFlushed view p p' result → PoolTakes view AsksFlush p true 0 (told_to []) (told_to (flush_told result ∷ [])) p'
   flush_taken p p' (Ok done) met =
       flush_so view p p' (told_to []) (told_to []) (told_to (Accepts ∷ [])) refl (omega arith) (omega arith) (calls.Done, Accepts ∷ [], met, refl, one_told Accepts)
   flush_taken p p' (Err reason) met =
@@ -34,10 +34,14 @@ module _ {D : Type 0} (view : View D) where
       let answers = flush_told result ∷ [] in
       let ran : RunsSo view (sessions_of slots) p took answers (sessions_of slots) p' =
       (told_to [], told_to answers, (flush_taken p p' result met).runs (sessions_of slots), one_told (flush_told result)) in
-      subst (λ (q : D). RunsSo view (sessions_of old.slots) q took answers (sessions_of new.slots) new.pool) pool_is
-      (subst (λ (l : Slots). RunsSo view (sessions_of l) p took answers (sessions_of new.slots) new.pool) slots_are
-      (subst (λ (q : D). RunsSo view (sessions_of slots) p took answers (sessions_of new.slots) q) (sym new_is)
-      (subst (λ (l : Slots). RunsSo view (sessions_of slots) p took answers (sessions_of l) p') (sym same) ran)))
+      record {
+        run = subst (λ (q : D). RunsSo view (sessions_of old.slots) q took answers (sessions_of new.slots) new.pool) pool_is
+            (subst (λ (l : Slots). RunsSo view (sessions_of l) p took answers (sessions_of new.slots) new.pool) slots_are
+            (subst (λ (q : D). RunsSo view (sessions_of slots) p took answers (sessions_of new.slots) q) (sym new_is)
+            (subst (λ (l : Slots). RunsSo view (sessions_of slots) p took answers (sessions_of l) p') (sym same) ran)));
+        pool = subst (λ (q : D). IsFlushed view q new.pool result) pool_is (subst (λ (q : D). IsFlushed view p q result) (sym new_is) met);
+        slots = same ∙ slots_are;
+      }
 
   pub serves_behind : (p p' : D) (slots : Slots) (result : Result (Unit {0}) Refusal) → IsFlushed view p p' result → Serves (view.outline p) (view.more p) slots → Serves (view.outline p') (view.more p') slots
   serves_behind p p' slots result met serves = (flush_taken p p' result met).keeps slots serves

@@ -6,15 +6,14 @@ use Rattle.nbd_wire.specs.declared.Kind.{Kind}
 use Rattle.nbd_session.specs.declared.phase.Course.TheVariants.{Listens, Works}
 use Rattle.nbd_session.specs.declared.phase.Phase.{Phase}
 use Rattle.nbd_session.specs.declared.phase.Phase.TheVariants.{Flags, Options, Transmission, Ended}
-use Rattle.nbd_session.specs.Session.{State, state, IsDeaf, Steps, TakesFrame, Waits, has_ended, is_at_work, kind_of}
+use Rattle.nbd_session.specs.Session.{State, state, IsDeaf, Steps, TakesFrame, Waits, has_ended, is_at_work, kind_of, volumes_in}
 use Rattle.nbd_session.specs.Clauses.{Advances}
 use Rattle.nbd_session.specs.Turns.{AreTurns, Happened, Others, Sessions, TakesTurn, Turn, pool_after, sessions_after}
 use Rattle.nbd_session.specs.Turns as turns
 use Rattle.tp_hub.specs.Told.{Answer, HasRoom, Told, Grows, all_sent}
 use Rattle.tp_hub.specs.Runs.{TakesText, answers_in, closed_if, said}
 use Rattle.tp_hub.specs.Places.{HearsAnywhere, KeepsServing, put}
-use Rattle.tp_hub.specs.Serving.{held_by, volume_in}
-use Rattle.tp_hub.proofs.Placing.{HoldsMove, ended_is, goes_on, moves_between, put_is, put_other, put_put, put_same, serves_same, serves_set, serves_twice, set_there}
+use Rattle.tp_hub.proofs.Placing.{HoldsMove, ended_is, goes_on, put_is, put_other, put_put, put_same, serves_same, serves_set, serves_twice, set_there}
 use Rattle.tp_hub.proofs.Turning.{answers_join, exact_step, grows_behind, grows_none, grows_on, grows_then, length_front, pool_join, sessions_join, text_join, turns_join}
 
 -- the front of a list, and what follows it
@@ -100,14 +99,13 @@ module _ {D : Type 0} (view : View D) where
   keeps_step n s new q p' piece sent taken ended adv is_open slots lt is serves =
       serves_set (view.outline q) (view.outline p') (view.more q) (view.more p') slots n (Some s) (Some new) lt is serves adv.geometry adv.more
       (goes_on (view.outline p') (view.more p') new.phase adv.ready is_open, adv.calm)
-      (moves_between (held_by slots) s.phase new.phase (view.outline q).holds (view.outline p').holds serves.holds adv.follows adv.holds)
+      adv.holds
 
   keeps_end : (n : ℕ) (s new : State) (q p' : D) (piece sent : List ℕ) (taken : ℕ) (ended : Bool) → Advances view s q piece taken sent ended new p' → has_ended new.phase ≡ true → KeepsServing view n (Some s) q None p'
   keeps_end n s new q p' piece sent taken ended adv over slots lt is serves =
       let end : new ≡ state Ended [] = ended_is new adv.calm over in
-      let moves = moves_between (held_by slots) s.phase new.phase (view.outline q).holds (view.outline p').holds serves.holds adv.follows adv.holds in
       serves_set (view.outline q) (view.outline p') (view.more q) (view.more p') slots n (Some s) None lt is serves adv.geometry adv.more tt
-      (subst (λ (r : State). HoldsMove (volume_in s.phase) (volume_in r.phase) (view.outline q).holds (view.outline p').holds) end moves)
+      (subst (λ (r : State). HoldsMove (volumes_in s.phase) (volumes_in r.phase) (view.outline q).holds (view.outline p').holds) end adv.holds)
 
   pub keeps_more : (n : ℕ) (old s new : State) (p q p' : D) (piece sent : List ℕ) (taken : ℕ) (ended : Bool) → KeepsServing view n (Some old) p (Some s) q
       → Advances view s q piece taken sent ended new p' → has_ended new.phase ≡ false → KeepsServing view n (Some old) p (Some new) p'

@@ -14,6 +14,7 @@ pub mod Carrying
 mod Least
 mod Asking
 mod Flushing
+mod Ending
 mod Ordering
 pub mod Living
 mod Covering

@@ -1,24 +1,23 @@
 -- Sessions at their places, and what they hold.
-use Rattle.std.proofs.Common.{◌≡◌, ◌≢◌, ℕ, zero, suc, ◌+◌, ◌*◌, ◌<◌, ◌≤◌, Bool, true, false, cond, List, [], ◌∷◌, ◌++◌, length, Option, Some, None, inl, inr, refl, sym, ap, subst, ◌∙◌, arith, length-append}
-use Rattle.std.specs.Prelude.{slice_set, if◌then◌else◌}
+use Rattle.std.proofs.Common.{◌≡◌, ◌≢◌, ℕ, zero, suc, ◌+◌, ◌*◌, ◌<◌, ◌≤◌, Bool, true, false, List, [], ◌∷◌, ◌++◌, length, Option, Some, None, inl, inr, refl, sym, ap, subst, ◌∙◌, arith, length-append}
+use Rattle.std.specs.Prelude.{slice_set, if◌then◌else◌, nat_lt}
 use Rattle.std.specs.Ordering.{nat_cmp}
 use Rattle.std.specs.FinMap.{FinMap, empty}
 use Rattle.std.proofs.lemmas.Bool.{cases_eq, eq-eqb, ne_eqb}
 use Rattle.std.proofs.lemmas.List.{get_or-set_same, get_or-set_other}
 use Rattle.tp_model.specs.Geometry.{Geometry, sectors_of_volume}
-use Rattle.tp_model.specs.Pool.{Outline, hold_count, hold_total}
-use Rattle.tp_model.specs.Calls.{Done, Hold, LetGo, holds_after, released}
+use Rattle.tp_model.specs.Pool.{Outline, hold_count}
 use Rattle.nbd_session.specs.declared.phase.Phase.{Phase}
 use Rattle.nbd_session.specs.declared.phase.Phase.TheVariants.{Flags, Options, Transmission, Ended}
 use Rattle.nbd_session.specs.Requests.{known_bytes}
-use Rattle.nbd_session.specs.Session.{State, state, has_ended}
-use Rattle.nbd_session.specs.Clauses.{Follows, HoldsFollow, IsCalm, IsReady, holds_between}
+use Rattle.nbd_session.specs.Session.{State, state, has_ended, ids_of, manner_in, volumes_in}
+use Rattle.nbd_session.specs.Clauses.{HoldsBeside, IsCalm, IsReady}
 use Rattle.nbd_session.specs.Turns.{Sessions, closed}
 use Rattle.tp_holders.specs.Holders.{counts_of}
 use Rattle.tp_hub.specs.Places.{put}
-use Rattle.tp_hub.specs.Serving.{GoesOn, IsSlot, Serves, Slots, held_by, sessions_of, shown, slot_at, volume_in, volume_of}
-use Rattle.tp_holders.proofs.Holding.{count_is, counts_released, one_at, same_times, times, times-append}
-use Rattle.tp_holders.proofs.Totals.{count_total}
+use Rattle.tp_hub.specs.Serving.{GoesOn, IsSlot, Serves, Slots, held_by, sessions_of, shown, slot_at, volumes_at}
+use Rattle.nbd_session.proofs.Counting.{few_older, held_here}
+use Rattle.tp_holders.proofs.Holding.{same_times, times, times-append}
 
 -- ---- sessions as a function of their numbers
 
@@ -55,64 +54,49 @@ sessions_set slots n new lt = same_sessions (sessions_of (slice_set slots n new)
 
 -- in place of what stood there, the volume of what stands there now is in the row
 pub times_set : (q : ℕ) (slots : Slots) (n : ℕ) (new : Option State) → n < length slots
-    → times q (held_by (slice_set slots n new)) + times q (volume_of (slot_at slots n)) ≡ times q (held_by slots) + times q (volume_of new)
+    → times q (held_by (slice_set slots n new)) + times q (volumes_at (slot_at slots n)) ≡ times q (held_by slots) + times q (volumes_at new)
 times_set q [] n new lt = absurd (omega arith)
 times_set q (slot ∷ slots) zero new lt =
-    let a = times-append q (volume_of new) (held_by slots) in
-    let b = times-append q (volume_of slot) (held_by slots) in
+    let a = times-append q (volumes_at new) (held_by slots) in
+    let b = times-append q (volumes_at slot) (held_by slots) in
     omega (arith, a, b)
 times_set q (slot ∷ slots) (suc n) new lt =
-    let a = times-append q (volume_of slot) (held_by (slice_set slots n new)) in
-    let b = times-append q (volume_of slot) (held_by slots) in
+    let a = times-append q (volumes_at slot) (held_by (slice_set slots n new)) in
+    let b = times-append q (volumes_at slot) (held_by slots) in
     let rest = times_set q slots n new (omega arith) in
     omega (arith, a, b, rest)
 
--- how many hold a volume, all together
-pub length_set : (slots : Slots) (n : ℕ) (new : Option State) → n < length slots
-    → length (held_by (slice_set slots n new)) + length (volume_of (slot_at slots n)) ≡ length (held_by slots) + length (volume_of new)
-length_set [] n new lt = absurd (omega arith)
-length_set (slot ∷ slots) zero new lt =
-    let a = length-append (volume_of new) (held_by slots) in
-    let b = length-append (volume_of slot) (held_by slots) in
-    omega (arith, a, b)
-length_set (slot ∷ slots) (suc n) new lt =
-    let a = length-append (volume_of slot) (held_by (slice_set slots n new)) in
-    let b = length-append (volume_of slot) (held_by slots) in
-    let rest = length_set slots n new (omega arith) in
-    omega (arith, a, b, rest)
+few_volumes : (phase : Phase) → length (volumes_in phase) ≤ 2
+few_volumes (Flags a) = omega arith
+few_volumes (Options z) = let a = few_older (nat_lt z.since 16777216) z.since in omega (arith, a)
+few_volumes (Transmission v size c) = let a = few_older (nat_lt (manner_in c).since 16777216) (manner_in c).since in omega (arith, a)
+few_volumes Ended = omega arith
 
-one_volume : (phase : Phase) → length (volume_in phase) ≤ 1
-one_volume (Flags a) = omega arith
-one_volume (Options z) = omega arith
-one_volume (Transmission v size c) = omega arith
-one_volume Ended = omega arith
+few_volumes_at : (slot : Option State) → length (volumes_at slot) ≤ 2
+few_volumes_at None = omega arith
+few_volumes_at (Some s) = few_volumes s.phase
 
-one_volume_of : (slot : Option State) → length (volume_of slot) ≤ 1
-one_volume_of None = omega arith
-one_volume_of (Some s) = one_volume s.phase
-
-few_held : (slots : Slots) → length (held_by slots) ≤ length slots
+few_held : (slots : Slots) → length (held_by slots) ≤ 2 * length slots
 few_held [] = omega arith
-few_held (slot ∷ slots) = let a = length-append (volume_of slot) (held_by slots) in let b = one_volume_of slot in let rest = few_held slots in omega (arith, a, b, rest)
+few_held (slot ∷ slots) = let a = length-append (volumes_at slot) (held_by slots) in let b = few_volumes_at slot in let rest = few_held slots in omega (arith, a, b, rest)
 
--- one that holds nothing leaves room for its volume
-fewer_held : (slots : Slots) (n : ℕ) → n < length slots → length (volume_of (slot_at slots n)) ≡ 0 → length (held_by slots) < length slots
-fewer_held [] n lt none = absurd (omega arith)
-fewer_held (slot ∷ slots) zero lt none = let a = length-append (volume_of slot) (held_by slots) in let rest = few_held slots in omega (arith, a, none, rest)
-fewer_held (slot ∷ slots) (suc n) lt none =
-    let a = length-append (volume_of slot) (held_by slots) in
-    let b = one_volume_of slot in
-    let rest = fewer_held slots n (omega arith) none in
+-- the others leave room for what one may hold
+few_beside : (slots : Slots) (n : ℕ) → n < length slots → length (held_by (slice_set slots n None)) + 2 ≤ 2 * length slots
+few_beside [] n lt = absurd (omega arith)
+few_beside (slot ∷ slots) zero lt = let rest = few_held slots in omega (arith, rest)
+few_beside (slot ∷ slots) (suc n) lt =
+    let a = length-append (volumes_at slot) (held_by (slice_set slots n None)) in
+    let b = few_volumes_at slot in
+    let rest = few_beside slots n (omega arith) in
     omega (arith, a, b, rest)
 
-held_there : (slots : Slots) (n v : ℕ) → n < length slots → volume_of (slot_at slots n) ≡ v ∷ [] → 0 < times v (held_by slots)
-held_there slots n v lt is =
-    let all = times_set v slots n None lt in
-    let here : times v (volume_of (slot_at slots n)) ≡ times v (v ∷ []) = ap (times v) is in
-    let one : times v (v ∷ []) ≡ one_at v v + 0 = refl in
-    let yes_ : one_at v v ≡ 1 = ap (λ (b : Bool). cond b (suc zero) zero) (eq-eqb v v refl) in
-    let none : times v (volume_of None) ≡ 0 = refl in
-    omega (arith, all, here, one, yes_, none)
+-- all that is held is what stands at one place, and what the others hold
+row_at : (slots : Slots) (n : ℕ) (slot : Option State) → n < length slots → slot_at slots n ≡ slot → counts_of (held_by slots) ≡ counts_of (volumes_at slot ++ held_by (slice_set slots n None))
+row_at slots n slot lt is = same_times (held_by slots) (volumes_at slot ++ held_by (slice_set slots n None)) (λ q.
+    let all = times_set q slots n None lt in
+    let here : times q (volumes_at (slot_at slots n)) ≡ times q (volumes_at slot) = ap (λ (s : Option State). times q (volumes_at s)) is in
+    let none : times q (volumes_at None) ≡ 0 = refl in
+    omega (arith, all, here, none, times-append q (volumes_at slot) (held_by (slice_set slots n None))))
 
 -- a place where a session stands is one of them
 inside_where : (slots : Slots) (n : ℕ) (s : State) → slot_at slots n ≡ Some s → n < length slots
@@ -123,27 +107,26 @@ inside_where (slot ∷ slots) (suc n) s is = omega (arith, inside_where slots n 
 -- ---- one session is ready
 
 -- what a session at a place holds is held of the pool
-has_hold : (o : Outline) (slots : Slots) (n v : ℕ) → o.holds ≡ counts_of (held_by slots) → n < length slots → volume_of (slot_at slots n) ≡ v ∷ [] → 0 < hold_count o.holds v
-has_hold o slots n v holds lt is =
-    let same : hold_count o.holds v ≡ times v (held_by slots) = ap (λ (h : FinMap nat_cmp ℕ). hold_count h v) holds ∙ count_is (held_by slots) v in
-    omega (arith, same, held_there slots n v lt is)
+has_hold : (o : Outline) (slots : Slots) (n v : ℕ) (older : List ℕ) → o.holds ≡ counts_of (held_by slots) → n < length slots → volumes_at (slot_at slots n) ≡ v ∷ older → 0 < hold_count o.holds v
+has_hold o slots n v older holds lt is =
+    let rest = held_by (slice_set slots n None) in
+    held_here v (older ++ rest) o.holds (holds ∙ (row_at slots n (slot_at slots n) lt refl ∙ ap (λ (l : List ℕ). counts_of (l ++ rest)) is))
 
 module _ (o : Outline) (more : ℕ → ℕ) (slots : Slots) (serves : Serves o more slots) (n : ℕ) (lt : n < length slots) where
-  few_holds : length (volume_of (slot_at slots n)) ≡ 0 → hold_total o.holds < 64
-  few_holds none =
-      let same : hold_total o.holds ≡ length (held_by slots) = ap hold_total serves.holds ∙ count_total (held_by slots) in
-      omega (arith, same, serves.count, fewer_held slots n lt none)
-
-  ready_by : (phase : Phase) → volume_of (slot_at slots n) ≡ volume_in phase → GoesOn o.geometry more phase → IsReady phase o more
-  ready_by (Flags a) is goes = few_holds (ap length is)
-  ready_by (Options z) is goes = few_holds (ap length is)
-  ready_by (Transmission v size c) is goes = (has_hold o slots n v serves.holds lt is, goes)
-  ready_by Ended is goes = absurd goes
+  ready_by : (phase : Phase) → HoldsBeside (volumes_in phase) o.holds → GoesOn o.geometry more phase → IsReady phase o more
+  ready_by (Flags a) w goes = w
+  ready_by (Options z) w goes = w
+  ready_by (Transmission v size c) w goes = (w, goes)
+  ready_by Ended w goes = absurd goes
 
   pub ready_at : (s : State) → slot_at slots n ≡ Some s → IsReady s.phase o more
   ready_at s is =
       let slot : IsSlot o.geometry more (Some s) = subst (IsSlot o.geometry more) is (serves.each n) in
-      ready_by s.phase (ap volume_of is) slot.0
+      ready_by s.phase (record {
+        others = held_by (slice_set slots n None);
+        few = omega (arith, serves.count, few_beside slots n lt);
+        all = serves.holds ∙ row_at slots n (Some s) lt is;
+      }) slot.0
 
 going_is_open : (g : Geometry) (more : ℕ → ℕ) (phase : Phase) → GoesOn g more phase → has_ended phase ≡ false
 going_is_open g more (Flags a) goes = refl
@@ -164,19 +147,20 @@ StaysKnown o o' more more' = (v : ℕ) → 0 < hold_count o.holds v → 0 < hold
 
 module _ (o o' : Outline) (more more' : ℕ → ℕ) (slots slots' : Slots) (holds : o.holds ≡ counts_of (held_by slots)) (holds' : o'.holds ≡ counts_of (held_by slots'))
     (geometry : o'.geometry ≡ o.geometry) (known : StaysKnown o o' more more') (n : ℕ) where
-  goes_still : (phase : Phase) → n < length slots → n < length slots' → volume_of (slot_at slots n) ≡ volume_in phase → volume_of (slot_at slots' n) ≡ volume_in phase
+  goes_still : (phase : Phase) → n < length slots → n < length slots' → volumes_at (slot_at slots n) ≡ volumes_in phase → volumes_at (slot_at slots' n) ≡ volumes_in phase
       → GoesOn o.geometry more phase → GoesOn o'.geometry more' phase
   goes_still (Flags a) lt lt' is is' goes = tt
   goes_still (Options z) lt lt' is is' goes = tt
   goes_still (Transmission v size c) lt lt' is is' goes =
-      let m = known v (has_hold o slots n v holds lt is) (has_hold o' slots' n v holds' lt' is') in
+      let older = ids_of (manner_in c).since in
+      let m = known v (has_hold o slots n v older holds lt is) (has_hold o' slots' n v older holds' lt' is') in
       goes ∙ (ap (λ (g : Geometry). known_bytes g more v) (sym geometry) ∙ ap (λ (x : ℕ). 512 * (sectors_of_volume o'.geometry + x)) (sym m))
   goes_still Ended lt lt' is is' goes = absurd goes
 
   slot_by : (slot : Option State) → slot_at slots n ≡ slot → slot_at slots' n ≡ slot → IsSlot o.geometry more slot → IsSlot o'.geometry more' slot
   slot_by None is is' goes = tt
   slot_by (Some s) is is' goes =
-      (goes_still s.phase (inside_where slots n s is) (inside_where slots' n s is') (ap volume_of is) (ap volume_of is') goes.0, goes.1)
+      (goes_still s.phase (inside_where slots n s is) (inside_where slots' n s is') (ap volumes_at is) (ap volumes_at is') goes.0, goes.1)
 
   -- what stands at a place as before
   pub slot_still : slot_at slots' n ≡ slot_at slots n → IsSlot o.geometry more (slot_at slots n) → IsSlot o'.geometry more' (slot_at slots' n)
@@ -184,39 +168,14 @@ module _ (o o' : Outline) (more more' : ℕ → ℕ) (slots slots' : Slots) (hol
 
 -- ---- one place changes
 
--- how what is held changes with the volumes of a place
+-- How what is held changes with the volumes of a place: others hold what they held.
 abbrev pub HoldsMove : List ℕ → List ℕ → FinMap nat_cmp ℕ → FinMap nat_cmp ℕ → Type 0
-HoldsMove [] [] h h' = h' ≡ h
-HoldsMove [] (w ∷ []) h h' = h' ≡ holds_after h (Hold w) Done
-HoldsMove (v ∷ []) [] h h' = h' ≡ holds_after h (LetGo v) Done
-HoldsMove (v ∷ []) (w ∷ []) h h' = (v ≡ w) × (h' ≡ h)
-HoldsMove _ _ h h' = ⊥
+HoldsMove old new h h' = (others : List ℕ) → h ≡ counts_of (old ++ others) → h' ≡ counts_of (new ++ others)
 
--- a row with one volume more, or one less, or the same
-moved : (old new rows rows' : List ℕ) (h h' : FinMap nat_cmp ℕ) → ((q : ℕ) → times q rows' + times q old ≡ times q rows + times q new) → h ≡ counts_of rows → HoldsMove old new h h' → h' ≡ counts_of rows'
-unfolding counts_of
-moved [] [] rows rows' h h' all is moves = moves ∙ (is ∙ same_times rows rows' (λ q. let e = all q in omega (arith, e)))
-moved [] (w ∷ []) rows rows' h h' all is moves =
-    moves ∙ (ap (λ (m : FinMap nat_cmp ℕ). holds_after m (Hold w) Done) is ∙ same_times (w ∷ rows) rows' (λ q.
-    let e = all q in
-    let a : times q (w ∷ rows) ≡ one_at q w + times q rows = refl in
-    let b : times q (w ∷ []) ≡ one_at q w + 0 = refl in
-    omega (arith, e, a, b)))
-moved (v ∷ []) [] rows rows' h h' all is moves =
-    let same : counts_of rows ≡ counts_of (v ∷ rows') = same_times rows (v ∷ rows') (λ q.
-    let e = all q in
-    let a : times q (v ∷ rows') ≡ one_at q v + times q rows' = refl in
-    let b : times q (v ∷ []) ≡ one_at q v + 0 = refl in
-    omega (arith, e, a, b)) in
-    moves ∙ (ap (λ (m : FinMap nat_cmp ℕ). released m v) (is ∙ same) ∙ sym (counts_released (v ∷ rows') 0 v (omega arith) refl))
-moved (v ∷ []) (w ∷ []) rows rows' h h' all is moves =
-    moves.1 ∙ (is ∙ same_times rows rows' (λ q.
-    let e = all q in
-    let one : times q (v ∷ []) ≡ times q (w ∷ []) = ap (λ x. times q (x ∷ [])) moves.0 in
-    omega (arith, e, one)))
-moved [] (w ∷ x ∷ new) rows rows' h h' all is moves = absurd moves
-moved (v ∷ []) (w ∷ x ∷ new) rows rows' h h' all is moves = absurd moves
-moved (v ∷ y ∷ old) new rows rows' h h' all is moves = absurd moves
+set_set : (slots : Slots) (n : ℕ) (one two : Option State) → slice_set (slice_set slots n one) n two ≡ slice_set slots n two
+set_set [] n one two = refl
+set_set (slot ∷ slots) zero one two = refl
+set_set (slot ∷ slots) (suc n) one two = ap (λ l. slot ∷ l) (set_set slots n one two)
 
 length_kept : (slots : Slots) (n : ℕ) (new : Option State) → length (slice_set slots n new) ≡ length slots
 length_kept [] n new = refl
@@ -224,13 +183,19 @@ length_kept (slot ∷ slots) zero new = refl
 length_kept (slot ∷ slots) (suc n) new = ap suc (length_kept slots n new)
 
 pub serves_set : (o o' : Outline) (more more' : ℕ → ℕ) (slots : Slots) (n : ℕ) (old new : Option State) → n < length slots → slot_at slots n ≡ old → Serves o more slots → o'.geometry ≡ o.geometry → StaysKnown o o' more more'
-    → IsSlot o'.geometry more' new → HoldsMove (volume_of old) (volume_of new) o.holds o'.holds → Serves o' more' (slice_set slots n new)
+    → IsSlot o'.geometry more' new → HoldsMove (volumes_at old) (volumes_at new) o.holds o'.holds → Serves o' more' (slice_set slots n new)
 serves_set o o' more more' slots n old new lt is serves geometry known slot moves = record { count = length_kept slots n new ∙ serves.count; holds = holds'; each = each }
   where
+    set : Slots
+    set = slice_set slots n new
+
+    inside : n < length set
+    inside = omega (arith, lt, length_kept slots n new)
+
     holds' : o'.holds ≡ counts_of (held_by (slice_set slots n new))
     holds' =
-        moved (volume_of old) (volume_of new) (held_by slots) (held_by (slice_set slots n new)) o.holds o'.holds
-        (λ q. let e = times_set q slots n new lt in let f : times q (volume_of (slot_at slots n)) ≡ times q (volume_of old) = ap (λ s. times q (volume_of s)) is in omega (arith, e, f)) serves.holds moves
+        moves (held_by (slice_set slots n None)) (serves.holds ∙ row_at slots n old lt is)
+        ∙ sym (row_at set n new inside (get_or-set_same slots n new None lt) ∙ ap (λ (l : Slots). counts_of (volumes_at new ++ held_by l)) (set_set slots n new None))
 
     each : (i : ℕ) → IsSlot o'.geometry more' (slot_at (slice_set slots n new) i)
     each i = elim (cases_eq i n) [
@@ -245,37 +210,6 @@ serves_kept o o' more more' slots geometry holds known serves = record {
   holds = holds ∙ serves.holds;
   each = λ n. slot_still o o' more more' slots slots serves.holds (holds ∙ serves.holds) geometry known n refl (serves.each n);
 }
-
--- a volume that is held once more and let go is held as before
-held_again : (rows : List ℕ) (h : FinMap nat_cmp ℕ) (v : ℕ) → h ≡ counts_of rows → holds_after (holds_after h (Hold v) Done) (LetGo v) Done ≡ h
-unfolding counts_of
-held_again rows h v is = ap (λ (m : FinMap nat_cmp ℕ). released (holds_after m (Hold v) Done) v) is ∙ (sym (counts_released (v ∷ rows) 0 v (omega arith) refl) ∙ sym is)
-
--- the holds move as a session's phases say
-pub moves_between : (rows : List ℕ) (old new : Phase) (h h' : FinMap nat_cmp ℕ) → h ≡ counts_of rows → Follows old new → HoldsFollow old new h h' → HoldsMove (volume_in old) (volume_in new) h h'
-moves_between rows (Flags a) (Flags b) h h' is f e = e
-moves_between rows (Flags a) (Options z) h h' is f e = e
-moves_between rows (Flags a) (Transmission v size c) h h' is f e = absurd f
-moves_between rows (Flags a) Ended h h' is f e = e
-moves_between rows (Options z) (Flags a) h h' is f e = absurd f
-moves_between rows (Options z) (Options y) h h' is f e = e
-moves_between rows (Options z) (Transmission v size c) h h' is f e = e
-moves_between rows (Options z) Ended h h' is f (inl e) = e
-moves_between rows (Options z) Ended h h' is f (inr (v, e)) = e ∙ held_again rows h v is
-moves_between rows (Transmission v size c) (Flags a) h h' is f e = absurd f
-moves_between rows (Transmission v size c) (Options z) h h' is f e = absurd f
-moves_between rows (Transmission v size c) (Transmission w also d) h h' is f e = (f.0, e)
-moves_between rows (Transmission v size c) Ended h h' is f e = e
-moves_between rows Ended (Flags a) h h' is f e = absurd f
-moves_between rows Ended (Options z) h h' is f e = absurd f
-moves_between rows Ended (Transmission v size c) h h' is f e = absurd f
-moves_between rows Ended Ended h h' is f e = e
-
-pub leaves_between : (phase : Phase) (h h' : FinMap nat_cmp ℕ) → h' ≡ holds_between phase Ended h → HoldsMove (volume_in phase) [] h h'
-leaves_between (Flags a) h h' e = e
-leaves_between (Options z) h h' e = e
-leaves_between (Transmission v size c) h h' e = e
-leaves_between Ended h h' e = e
 
 -- where it goes on
 pub goes_on : (o : Outline) (more : ℕ → ℕ) (phase : Phase) → IsReady phase o more → has_ended phase ≡ false → GoesOn o.geometry more phase
@@ -299,7 +233,7 @@ ended_is s calm over = by_phase s.phase s.held calm over
 
 none_held : (slots : Slots) → ((n : ℕ) → slot_at slots n ≡ None) → held_by slots ≡ []
 none_held [] none = refl
-none_held (slot ∷ slots) none = ap (λ (s : Option State). volume_of s ++ held_by slots) (none 0) ∙ none_held slots (λ n. none (suc n))
+none_held (slot ∷ slots) none = ap (λ (s : Option State). volumes_at s ++ held_by slots) (none 0) ∙ none_held slots (λ n. none (suc n))
 
 pub none_hold : (slots : Slots) → ((n : ℕ) → slot_at slots n ≡ None) → counts_of (held_by slots) ≡ empty
 unfolding counts_of
@@ -320,11 +254,6 @@ none_by [] count long none n = refl
 none_by (slot ∷ slots) count long none zero = none zero (omega (arith, long))
 none_by (slot ∷ slots) count long none (suc n) = none_by slots (length slots) refl (λ i lt. none (suc i) (omega (arith, lt, long))) n
 
-set_set : (slots : Slots) (n : ℕ) (one two : Option State) → slice_set (slice_set slots n one) n two ≡ slice_set slots n two
-set_set [] n one two = refl
-set_set (slot ∷ slots) zero one two = refl
-set_set (slot ∷ slots) (suc n) one two = ap (λ l. slot ∷ l) (set_set slots n one two)
-
 -- one change of a place and then another are one
 pub serves_twice : (o : Outline) (more : ℕ → ℕ) (slots : Slots) (n : ℕ) (one two : Option State) → Serves o more (slice_set (slice_set slots n one) n two) → Serves o more (slice_set slots n two)
 serves_twice o more slots n one two serves = subst (Serves o more) (set_set slots n one two) serves
@@ -333,7 +262,7 @@ pub set_there : (slots : Slots) (n : ℕ) (one : Option State) → n < length sl
 set_there slots n one lt = let e = length_kept slots n one in (omega (arith, e, lt), get_or-set_same slots n one None lt)
 
 -- what stands there is left there
-set_same : (slots : Slots) (n : ℕ) → slice_set slots n (slot_at slots n) ≡ slots
+pub set_same : (slots : Slots) (n : ℕ) → slice_set slots n (slot_at slots n) ≡ slots
 set_same [] n = refl
 set_same (slot ∷ slots) zero = refl
 set_same (slot ∷ slots) (suc n) = ap (λ l. slot ∷ l) (set_same slots n)

@@ -16,7 +16,7 @@ use Rattle.nbd_wire.specs.Replies.{greeting}
 use Rattle.nbd_session.specs.declared.phase.Phase.TheVariants.{Flags, Ended}
 use Rattle.nbd_session.specs.declared.phase.Phase.{Phase}
 use Rattle.nbd_session.specs.declared.phase.Profile.{Profile}
-use Rattle.nbd_session.specs.Session.{State, state, LetsGo, has_ended, is_at_work}
+use Rattle.nbd_session.specs.Session.{State, state, LetsGo, has_ended, is_at_work, volumes_in}
 use Rattle.nbd_session.specs.Clauses.{IsCalm, Leaves}
 use Rattle.nbd_session.specs.Turns.{AreTurns, Happened, Opens, Sessions, TakesTurn, Turn, closed, pool_after, sessions_after}
 use Rattle.nbd_session.specs.Turns as turns
@@ -25,8 +25,8 @@ use Rattle.tp_hub.specs.declared.event.Event.{Event}
 use Rattle.tp_pages.specs.Pages.{unit_of}
 use Rattle.tp_hub.specs.Runs.{AreServed, AsksDeltaOf, AsksFlush, AsksLine, AsksLineOf, AsksMapOf, AsksSizeOf, Brings, Comes, Goes, Incoming, Orders, IsAnswered, is_busy, IsPart, IsPartOfNext, IsShort, IsShortOfNext, Runs, Served, answered_in, answers_in, events_in, front_of, front_of_next, incoming, session_in, taken_of, turns_in}
 use Rattle.tp_hub.specs.Places.{HearsAnywhere, IsRest, IsTaken, KeepsServing, SlotTakes, put, taken_part, IsOpenSlot, IsReadySlot, TakesEvent}
-use Rattle.tp_hub.specs.Serving.{AreLeaving, LeaveTo, Serves, Slots, sessions_of, shown, slot_at, volume_in, volume_of, GoesOn}
-use Rattle.tp_hub.proofs.Placing.{HoldsMove, leaves_between, none_by, none_hold, none_open, open_at, put_is, put_other, put_same, ready_at, serves_set, sessions_set}
+use Rattle.tp_hub.specs.Serving.{AreLeaving, LeaveTo, Serves, Slots, sessions_of, shown, slot_at, volumes_at, GoesOn}
+use Rattle.tp_hub.proofs.Placing.{HoldsMove, none_by, none_hold, none_open, open_at, put_is, put_other, put_same, ready_at, serves_set, sessions_set}
 use Rattle.tp_hub.proofs.Turning.{grows_then, no_text, pool_join, sessions_join, turns_join}
 use Rattle.tp_hub.proofs.Hearing.{keeps_none}
 
@@ -142,8 +142,8 @@ module _ {D : Type 0} (view : View D) where
     part = λ at is. refl;
     keeps = λ slots lt is serves.
         serves_set (view.outline p) (view.outline p) (view.more p) (view.more p) slots n slot (Some s) lt is serves refl (λ v before after. refl) (subst (λ (r : State). GoesOn (view.outline p).geometry (view.more p) r.phase) (sym fresh) tt, calm)
-        (subst (λ (o : Option State). HoldsMove (volume_of o) (volume_of (Some s)) (view.outline p).holds (view.outline p).holds) (sym none)
-        (subst (λ (r : State). HoldsMove [] (volume_in r.phase) (view.outline p).holds (view.outline p).holds) (sym fresh) refl));
+        (subst (λ (o : Option State). HoldsMove (volumes_at o) (volumes_at (Some s)) (view.outline p).holds (view.outline p).holds) (sym none)
+        (subst (λ (r : State). HoldsMove [] (volumes_in r.phase) (view.outline p).holds (view.outline p).holds) (sym fresh) (λ others all. all)));
   }
 
   -- ---- a client sends a piece
@@ -239,7 +239,7 @@ module _ {D : Type 0} (view : View D) where
   pub keeps_left : (n : ℕ) (slot : Option State) (s : State) (p p' : D) → slot ≡ Some s → Leaves view s.phase p p' → KeepsServing view n slot p None p'
   keeps_left n slot s p p' some left slots lt is serves =
       serves_set (view.outline p) (view.outline p') (view.more p) (view.more p') slots n (Some s) None lt (is ∙ some) serves left.geometry left.more tt
-      (leaves_between s.phase (view.outline p).holds (view.outline p').holds left.holds)
+      left.holds
 
   pub goes_from_none : (n : ℕ) (slot new : Option State) (p : D) (before after : Told) → slot ≡ None → new ≡ None → Grows before after (Refuses NoSession ∷ []) → SlotTakes view (Goes n) slot p true 0 before after new p
   goes_from_none n slot new p before after none gone grows =

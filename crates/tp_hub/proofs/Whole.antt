@@ -1,5 +1,5 @@
 -- All parts of a long request are made.
-use Rattle.std.proofs.Common.{◌≡◌, ◌≢◌, ◌⊎◌, ℕ, zero, suc, ◌+◌, ◌<◌, ◌≤◌, Bool, true, false, List, [], ◌∷◌, ◌++◌, length, take, Option, Some, None, inl, inr, refl, sym, ap, ap₂, subst, ◌∙◌, arith, append_assoc, append-nil, length-append, true≢false}
+use Rattle.std.proofs.Common.{◌≡◌, ◌⊎◌, ℕ, suc, ◌+◌, ◌<◌, Bool, true, false, List, [], ◌∷◌, ◌++◌, length, take, Option, None, inl, inr, refl, sym, ap, ap₂, subst, ◌∙◌, arith, append_assoc, append-nil, length-append, true≢false}
 use Rattle.std.specs.Prelude.{◌&&◌, ◌||◌, ◌==◌, MatchBool, if◌then◌else◌, nat_lt}
 use Rattle.std.specs.Option.{option_map_or}
 use Rattle.std.proofs.lemmas.Bool.{cases_eq, ne_eqb}
@@ -12,7 +12,7 @@ use Rattle.nbd_wire.specs.declared.Kind.TheVariants as kinds
 use Rattle.nbd_wire.specs.declared.Request.{Request}
 use Rattle.nbd_wire.specs.declared.TheConstants.{REQUEST_MAGIC}
 use Rattle.nbd_wire.specs.Reading.{wanted}
-use Rattle.nbd_wire.specs.Grammar.{Message, command, FitsRequest, IsFrame, IsPartial, IsRequest, payload_len, request_text}
+use Rattle.nbd_wire.specs.Grammar.{Message, command, FitsRequest, IsFrame, IsPartial, payload_len, request_text}
 use Rattle.nbd_wire.proofs.Frames.{one_frame, wanted_fixed, wants_more}
 use Rattle.nbd_session.specs.declared.phase.Course.TheVariants.{Listens, Works}
 use Rattle.nbd_session.specs.declared.phase.Manner.{Manner}
@@ -22,12 +22,12 @@ use Rattle.nbd_session.specs.declared.request.Verdict.{Verdict}
 use Rattle.nbd_session.specs.declared.request.Verdict.TheVariants as verdicts
 use Rattle.nbd_session.specs.Requests.{form_of, is_last, is_long, long_error, plainly, rest_of, status_error, verdict_in, verdict_on}
 use Rattle.nbd_session.proofs.Judging.{status_other}
-use Rattle.nbd_session.specs.Session.{Answers, GoesOn, IsMade, MakesPart, Serves, State, Steps, TakesFrame, Waits, has_ended, is_at_work, reply_to, state}
+use Rattle.nbd_session.specs.Session.{Answers, GoesOn, IsMade, Serves, State, Steps, TakesFrame, Waits, has_ended, is_at_work, state}
 use Rattle.nbd_session.specs.Turns.{AreTurns, Happened, Sessions, TakesTurn, Turn, pool_after, sessions_after}
 use Rattle.nbd_session.specs.Turns as turns
 use Rattle.tp_hub.specs.Told.{Answer, Told}
 use Rattle.tp_pages.specs.Pages.{unit_of}
-use Rattle.tp_hub.specs.Runs.{AreServed, Brings, Incoming, IsAnswered, Runs, Served, TakesPiece, TakesText, answers_in, answers_of, closed_if, events_in, is_busy, said, turns_in}
+use Rattle.tp_hub.specs.Runs.{AreServed, Brings, Incoming, IsAnswered, Runs, Served, TakesText, answers_in, answers_of, closed_if, events_in, is_busy, said, turns_in}
 use Rattle.tp_hub.proofs.Taking.{idle_is_free}
 use Rattle.tp_hub.specs.Parts.{AreParts, IsIdle, IsMadeWhole}
 

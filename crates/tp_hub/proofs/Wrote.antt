@@ -1,6 +1,6 @@
 -- What a client was answered for a WRITE, and another one then for its FLUSH, is found behind a stop.
-use Rattle.std.proofs.Common.{◌≡◌, ◌≢◌, ◌⊎◌, ℕ, zero, ◌+◌, ◌-◌, ◌/◌, ◌<◌, ◌≤◌, ◌^◌, Bool, true, false, List, [], ◌∷◌, ◌++◌, length, get_or, Option, Some, None, inl, inr, refl, sym, ap, ap₂, subst, ◌∙◌, arith, append_assoc, append-nil, true≢false}
-use Rattle.std.specs.Prelude.{◌&&◌, ◌||◌, ◌==◌, MatchBool, MatchOption, if◌then◌else◌, nat_le, nat_lt, slice_get, slice_index_or, not}
+use Rattle.std.proofs.Common.{◌≡◌, ◌⊎◌, ℕ, ◌+◌, ◌-◌, ◌/◌, ◌<◌, ◌≤◌, ◌^◌, Bool, true, false, List, [], ◌∷◌, ◌++◌, length, Option, Some, None, inl, inr, refl, sym, ap, ap₂, subst, ◌∙◌, arith, append_assoc, append-nil, true≢false}
+use Rattle.std.specs.Prelude.{◌&&◌, ◌||◌, ◌==◌, MatchBool, MatchOption, if◌then◌else◌, nat_lt, slice_get, slice_index_or}
 use Rattle.std.specs.Option.{option_map, option_map_or}
 use Rattle.std.proofs.lemmas.Bool.{and_from, cases_eq, eq-eqb, le-leb, lt-ltb, ne_eqb}
 use Rattle.std.proofs.lemmas.Option.{get_or_from_slice_get, slice_get_within}
@@ -34,7 +34,7 @@ use Rattle.nbd_session.proofs.Judging.{error_other, plainly_other, status_other}
 use Rattle.nbd_session.specs.Session.{Answers, Begins, IsMade, Performs, Serves, State, Steps, TakesFrame, Waits, is_at_work, reply_to, state}
 use Rattle.nbd_session.specs.Turns.{AreTurns, Happened, IsFoundIn, Sessions, TakesTurn, Turn, closed, pool_after, sessions_after}
 use Rattle.tp_hub.proofs.Whole.{all_taken, state_is}
-use Rattle.tp_hub.proofs.Covering.{all_kept, and_false, events_join, flush_covers, no_error, no_read, no_status, pool_at, sessions_at, turn_in, turns_grow, written_stays}
+use Rattle.tp_hub.proofs.Covering.{all_kept, and_false, events_join, flush_covers, no_error, no_read, no_status, pool_at, turn_in, turns_grow, written_stays}
 use Rattle.tp_hub.specs.Covered.{Covers, IsCovered, IsKeptThere, IsNewer, IsThere, IsWritten, KeepsAll}
 
 -- ---- the sector that a WRITE gives

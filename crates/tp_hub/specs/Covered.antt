@@ -1,5 +1,5 @@
 -- Trusted reading: what the reply to one client's FLUSH says of what all clients were answered before (NBD's proto.md, "NBD_FLAG_CAN_MULTI_CONN").
-use Rattle.std.specs.Prelude.{◌≡◌, ◌⊎◌, ℕ, ◌<◌, ◌^◌, Bool, false, List, [], ◌∷◌, ◌++◌, length, Option, None, Some}
+use Rattle.std.specs.Prelude.{◌≡◌, ◌⊎◌, ℕ, ◌<◌, ◌^◌, false, List, [], ◌∷◌, ◌++◌, length, Option, None, Some}
 use Rattle.tp_model.specs.Sectors.{Sector}
 use Rattle.tp_model.specs.Pool.{PlainPool, volume_sector}
 use Rattle.tp_model.specs.PoolStops.{Event, GivenBy, GivenIn, MayReopen, state_after}

@@ -1,9 +1,10 @@
--- Trusted reading: a flush that a hub makes unasked, in parts (own).
+-- Trusted reading: a flush that a hub makes in parts (own).
 use Rattle.std.specs.Prelude.{◌≡◌, [], ◌∷◌, Err, Ok, Result}
 use Rattle.tp_model.specs.declared.refusal.Refusal.{Refusal}
 use Rattle.tp_model.specs.declared.volumes.Flushing.{Flushing}
 use Rattle.tp_model.specs.declared.volumes.Flushing.TheVariants as flushing
 use Rattle.tp_model.specs.Clauses.{View}
+use Rattle.tp_model.specs.Flushing.{IsFlushed}
 use Rattle.tp_hub.specs.Told.{Accepts, Answer, Refuses}
 use Rattle.tp_hub.specs.Runs.{AsksFlush}
 use Rattle.tp_hub.specs.Serve.{HubRuns}
@@ -15,9 +16,11 @@ flush_told (Ok done) = Accepts
 flush_told (Err reason) = Refuses reason
 
 module _ {D : Type 0} (view : View D) where
-  -- One run of the hub by a flush, of which nobody is told.
-  abbrev pub IsHubFlushed : HubState D → HubState D → Result (Unit {0}) Refusal → Type 0
-  IsHubFlushed old new result = HubRuns view old (AsksFlush ∷ []) (flush_told result ∷ []) new
+  -- One run of the hub by a flush: one call of its pool. The sessions stay as they are.
+  pub record IsHubFlushed (old new : HubState D) (result : Result (Unit {0}) Refusal) : Type 0 where
+    pub run : HubRuns view old (AsksFlush ∷ []) (flush_told result ∷ []) new
+    pub pool : IsFlushed view old.pool new.pool result
+    pub slots : new.slots ≡ old.slots
 
   -- It is done; or parts of it are left, and then the hub is, for its READs, still the one before it.
   abbrev pub IsHubFlushing : HubState D → Flushing (HubState D) (HubState D) → Type 0

@@ -13,4 +13,5 @@ pub mod Lives
 pub mod Covered
 pub mod Seats
 pub mod Flushes
+pub mod Flushed
 pub mod Unkept

@@ -8,7 +8,7 @@ use Rattle.tp_model.specs.Clauses.{PoolCall, View}
 use Rattle.nbd_session.specs.declared.phase.Phase.{Phase}
 use Rattle.nbd_session.specs.declared.phase.Phase.TheVariants.{Flags, Options, Transmission, Ended}
 use Rattle.nbd_session.specs.Requests.{known_bytes}
-use Rattle.nbd_session.specs.Session.{State, state, has_ended}
+use Rattle.nbd_session.specs.Session.{State, state, has_ended, volumes_in}
 use Rattle.nbd_session.specs.Clauses.{IsCalm}
 use Rattle.nbd_session.specs.Turns.{AreTurns, Happened, Leaves, Sessions, closed, pool_after, sessions_after}
 use Rattle.tp_holders.specs.Holders.{counts_of}
@@ -33,20 +33,14 @@ sessions_of slots n = shown (slot_at slots n)
 
 -- ---- what they hold
 
-abbrev pub volume_in : Phase → List ℕ
-volume_in (Flags profile) = []
-volume_in (Options terms) = []
-volume_in (Transmission volume size course) = volume ∷ []
-volume_in Ended = []
-
-abbrev pub volume_of : Option State → List ℕ
-volume_of None = []
-volume_of (Some s) = volume_in s.phase
+abbrev pub volumes_at : Option State → List ℕ
+volumes_at None = []
+volumes_at (Some s) = volumes_in s.phase
 
 -- the volumes that the sessions hold, in the order of their places
 abbrev pub held_by : Slots → List ℕ
 held_by [] = []
-held_by (slot ∷ slots) = volume_of slot ++ held_by slots
+held_by (slot ∷ slots) = volumes_at slot ++ held_by slots
 
 -- a session that goes on, over a pool of this geometry, of whose volumes so many sectors more than its own size are known
 abbrev pub GoesOn : Geometry → (ℕ → ℕ) → Phase → Type 0

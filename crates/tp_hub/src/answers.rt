@@ -2,6 +2,8 @@
 
 ghost use Rattle.std.specs.Prelude.{◌≡◌, ℕ, List, ◌+◌, ◌<◌, ◌≤◌, [], ◌∷◌, ◌++◌, length, take, false, None, IfSome, OnErr, OnOk, IsOk, vec_len, vec_capacity};
 ghost use Rattle.nbd_session.specs.Clauses.{Advances, IsReady};
+ghost use Rattle.nbd_session.specs.Session.{is_at_work};
+ghost use Rattle.tp_hub.specs.Flushed.{EndsFlush};
 ghost use Rattle.tp_hub.specs.Places.{IsRead};
 ghost use Rattle.tp_hub.specs.Runs.{closed_if, said};
 ghost use Rattle.std.specs.List.{list_any};
@@ -11,7 +13,7 @@ ghost use Rattle.tp_hub.specs.Told.{Grows, HasRoom, IsFull, Lines, Says, all_sen
 use nbd_session::{Answered, MAX_ANSWER, Session};
 use std::alloc::{AllocError, Global};
 use std::marker::Model;
-use tp_model::{Cloned, Refusal, SharedReads, Volumes};
+use tp_model::{Cloned, Geometry, Refusal, SharedReads, Volumes};
 
 /// The most bytes that a list of answers has: it takes no answer more once it has those of one longest.
 pub const MOST_BYTES: usize = 2 * MAX_ANSWER;
@@ -155,6 +157,34 @@ impl Answers {
         Some(read.taken)
     }
 
+    /// Answers the FLUSH that a session would make next by a piece, as a flush was answered that was
+    /// made for it, of a pool of these sizes: how many bytes of the piece that took. None where its
+    /// next step makes no FLUSH, and then nothing changes.
+    pub(crate) fn end_flush<V: Volumes>(
+        &mut self,
+        session: &mut Session,
+        geometry: &Geometry,
+        number: u8,
+        piece: &[u8],
+        answer: Result<(), Refusal>,
+    ) -> Option<usize>
+        requires room { HasRoom self.old }
+        ensures ended { IfSome result (λ taken. (sent : List ℕ) × EndsFlush V.view geometry.now answer session.old piece.now taken sent session.new
+            × Grows self.old self.new (said number sent ++ closed_if number false)) }
+        ensures inside { IfSome result (λ taken. (taken ≤ length piece.now) × (is_at_work session.old.phase ≡ false → 0 < taken)) }
+        ensures none { result ≡ None → (self.new ≡ self.old) × (session.new ≡ session.old) }
+    {
+        let at = self.used;
+        match end_at::<V>(session, geometry, piece, answer, &mut self.bytes, at) {
+            None => None,
+            Some(end) => {
+                self.used += end.sent;
+                tell_sent(&mut self.marks, number, end.sent);
+                Some(end.taken)
+            }
+        }
+    }
+
     /// The marks of the answers, in order: what each says, where those that send or tell a line take their bytes from `bytes()`, one after another.
     pub fn marks(&self) -> &[Mark]
         ensures says { told result.now (all_sent self.now.list) ≡ self.now.list }
@@ -262,6 +292,27 @@ fn read_at<V: Volumes, S: SharedReads<V>>(
     ensures len { length bytes.new ≡ length bytes.old }
 {
     session.read_shared(pool, piece, &mut bytes[at..])
+}
+
+/// Answers the FLUSH that a session would make next, whose answer is put at a place.
+fn end_at<V: Volumes>(
+    session: &mut Session,
+    geometry: &Geometry,
+    piece: &[u8],
+    answer: Result<(), Refusal>,
+    bytes: &mut [u8],
+    at: usize,
+) -> Option<Answered>
+    requires room { at + MAX_ANSWER ≤ length bytes.old }
+    ensures ended { IfSome result (λ a. (sent : List ℕ) × (length sent ≡ a.sent) × (take (at + a.sent) bytes.new ≡ take at bytes.old ++ sent)
+        × EndsFlush V.view geometry.now answer session.old piece.now a.taken sent session.new) }
+    ensures inside { IfSome result (λ a. (a.taken ≤ length piece.now) × (is_at_work session.old.phase ≡ false → 0 < a.taken)) }
+    ensures fits { IfSome result (λ a. at + a.sent ≤ length bytes.new) }
+    ensures kept { take at bytes.new ≡ take at bytes.old }
+    ensures none { result ≡ None → session.new ≡ session.old }
+    ensures len { length bytes.new ≡ length bytes.old }
+{
+    session.end_flush::<V>(geometry, piece, answer, &mut bytes[at..])
 }
 
 /// Says that so many bytes are sent, if there are any.

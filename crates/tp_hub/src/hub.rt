@@ -6,12 +6,14 @@ ghost use Rattle.tp_model.specs.Clauses.{PoolCall};
 ghost use Rattle.tp_hub.specs.Runs.{Brings, IsPartOfNext, IsShortOfNext, Runs, incoming, session_of, taken_of};
 ghost use Rattle.tp_hub.specs.Parts.{BringIdle, IsIdle, StayIdle, is_parted_to};
 ghost use Rattle.tp_hub.specs.Places.{TakesEvent, one_if};
-ghost use Rattle.nbd_session.specs.Session.{has_older, is_at_work, is_to_flush, keeps_apart};
+ghost use Rattle.nbd_session.specs.Flushes.{IsAtFlush};
+ghost use Rattle.nbd_session.specs.Session.{has_older, is_at_work, is_to_flush};
 ghost use Rattle.tp_hub.specs.Serve.{AreAllOpen, IsLeastFree};
 ghost use Rattle.tp_hub.specs.Serving.{AllLeave, Serves, sessions_of, slot_at};
 
 use crate::answers::Answers;
 use crate::event::Event;
+use crate::flushed::take_flushed;
 use crate::orders::{
     take_delta, take_flush, take_map, take_message, take_size, take_status, take_thin_status,
 };
@@ -21,7 +23,7 @@ use crate::slot::{Took, hear_slot, leave_place, leave_slot, open_slot};
 use nbd_session::Session;
 use std::alloc::Global;
 use std::marker::Model;
-use tp_model::{Cloned, Mode, SharedVolumes, Volumes};
+use tp_model::{Cloned, Mode, Refusal, SharedVolumes, Volumes};
 use tp_msg::Managed;
 
 /// A hub has at most this many sessions.
@@ -52,13 +54,19 @@ impl<V: Volumes> Model for Hub<V> {
 }
 
 impl<V: Volumes> Hub<V> {
-    ghost use Rattle.std.specs.Prelude.{◌≡◌, ◌<◌, None, IfSome};
-    ghost use Rattle.nbd_session.specs.Session.{is_at_work, is_to_flush, keeps_apart};
-    ghost use Rattle.tp_hub.specs.Serve.{AreAllOpen, IsLeastFree};
+    ghost use Rattle.std.specs.Prelude.{◌≡◌, ◌<◌, ℕ, [], None, IfSome, false, true};
+    ghost use Rattle.nbd_session.specs.Flushes.{IsAtFlush};
+    ghost use Rattle.nbd_session.specs.Session.{is_at_work, is_to_flush};
+    ghost use Rattle.tp_hub.specs.Desks.{IsAsked};
+    ghost use Rattle.tp_hub.specs.Flushes.{IsHubFlushed};
+    ghost use Rattle.tp_hub.specs.Parts.{is_parted_to};
+    ghost use Rattle.tp_hub.specs.Runs.{Brings, incoming, session_of};
+    ghost use Rattle.tp_hub.specs.Told.{HasRoom};
+    ghost use Rattle.tp_hub.specs.Serve.{AreAllOpen, HubRuns, IsLeastFree};
     ghost use Rattle.std.specs.FinMap.{empty};
     ghost use Rattle.nbd_session.specs.Turns.{closed};
     ghost use Rattle.tp_hub.specs.Seats.{seat_at};
-    ghost use Rattle.tp_hub.specs.Serving.{Serves, sessions_of};
+    ghost use Rattle.tp_hub.specs.Serving.{HubState, Serves, sessions_of};
 
     /// A hub with no session. It takes no memory.
     pub fn new(pool: V) -> Hub<V>
@@ -96,12 +104,14 @@ impl<V: Volumes> Hub<V> {
         to_flush(&self.sessions, number)
     }
 
-    /// Whether a session's WRITEs, TRIMs and WRITE_ZEROES with FUA are kept apart.
-    pub fn keeps_apart(&self, number: u8) -> bool
+    /// Whether the next frame of a session is a FLUSH that passes its tests and stands whole at the
+    /// front of a piece.
+    pub fn begins_flush(&self, number: u8, piece: &[u8]) -> bool
         requires { number < 64 }
-        ensures { result ≡ keeps_apart (sessions_of self.now.slots number).phase }
+        ensures at { result ≡ true → IsAtFlush (sessions_of self.now.slots number) piece.now }
+        ensures not_at { result ≡ false → IsAtFlush (sessions_of self.now.slots number) piece.now → ⊥ }
     {
-        apart(&self.sessions, number)
+        at_flush(&self.sessions, number, piece)
     }
 
     /// The mode of its pool.
@@ -124,6 +134,27 @@ impl<V: Volumes> Hub<V> {
         ensures { result.now ≡ self.now.pool }
     {
         &self.pool
+    }
+
+    /// Takes an event that asks for a flush, where one was made for it, and answers it as that flush
+    /// was answered: `Flush`, or `Parted` with a FLUSH of the session at the front of its piece, or
+    /// with no bytes where nothing but a FLUSH is left of the session's request. None where the event
+    /// asks for anything else, and then nothing was done.
+    pub fn take_flushed(
+        &mut self,
+        event: &Event<'_>,
+        answer: Result<(), Refusal>,
+        out: &mut Answers,
+    ) -> Option<Ran>
+        requires number { session_of event.now < 64 }
+        requires room { HasRoom out.old }
+        requires flushed { (old : HubState V) × IsHubFlushed V.view old self.old answer }
+        ensures asked { IfSome result (λ ran. (old : HubState V) → IsHubFlushed V.view old self.old answer
+            → IsAsked (λ took answers. HubRuns V.view old took answers self.new) (incoming event.now) ran.events ran.bytes out.old out.new) }
+        ensures parted { IfSome result (λ ran. (n : ℕ) → is_parted_to n event.now ≡ false → incoming event.now ≡ Brings n [] → ⊥) }
+        ensures none { result ≡ None → (out.new ≡ out.old) × (self.new ≡ self.old) }
+    {
+        take_flushed(&mut self.sessions, &self.pool, event, answer, out)
     }
 
     /// Its pool and its sessions, which go on. Inlined, its moves of all sessions cost LLVM minutes.
@@ -290,15 +321,17 @@ fn to_flush(sessions: &[Option<Session>; SESSIONS], number: u8) -> bool
     }
 }
 
-/// Whether WRITEs, TRIMs and WRITE_ZEROES with FUA of the session of a number are kept apart.
-pub(crate) fn apart(sessions: &[Option<Session>; SESSIONS], number: u8) -> bool
+/// Whether the next frame of the session of a number is a FLUSH that stands whole at the front of a
+/// piece.
+pub(crate) fn at_flush(sessions: &[Option<Session>; SESSIONS], number: u8, piece: &[u8]) -> bool
     requires count { length sessions.now ≡ 64 }
     requires number { number < 64 }
-    ensures { result ≡ keeps_apart (sessions_of sessions.now number).phase }
+    ensures at { result ≡ true → IsAtFlush (sessions_of sessions.now number) piece.now }
+    ensures not_at { result ≡ false → IsAtFlush (sessions_of sessions.now number) piece.now → ⊥ }
 {
     match &sessions[usize::from(number)] {
         None => false,
-        Some(session) => session.keeps_apart(),
+        Some(session) => session.begins_flush(piece),
     }
 }
 

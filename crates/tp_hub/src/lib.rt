@@ -5,8 +5,8 @@
 //!
 //! A [`Desk`] takes one event at a time, as a hub does; a [`Stream`] is read and written, and tells its calls. [`carry`] carries one client over both.
 //!
-//! Messages to the pool, and its status lines, are events too: each is one call of the pool between the turns of its sessions. A hub may also make a flush that
-//! no event asked for, in parts, between which READs go on ([`MidHub`]), and keep a message so ([`MidMessage`]).
+//! Messages to the pool, and its status lines, are events too: each is one call of the pool between the turns of its sessions. A hub may also make a flush
+//! in parts, between which READs go on ([`MidHub`]), and then take the event that asked for it ([`Hub::take_flushed`]). It keeps a message so, too ([`MidMessage`]).
 #![tactic(auto)]
 
 mod alone;
@@ -14,6 +14,7 @@ mod answers;
 mod client;
 mod desk;
 mod event;
+mod flushed;
 mod hub;
 mod laws;
 mod log;

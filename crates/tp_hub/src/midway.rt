@@ -1,4 +1,4 @@
-//! A hub in the middle of a flush that it makes unasked, or of the one that keeps a message.
+//! A hub in the middle of a flush, or of the one that keeps a message.
 
 ghost use Rattle.std.specs.Prelude.{◌≡◌, ◌<◌, ◌≤◌, None, IfSome};
 ghost use Rattle.tp_model.specs.Clauses.{Unkept};
@@ -9,7 +9,7 @@ ghost use Rattle.tp_hub.specs.Serving.{HubState, Serves};
 ghost use Rattle.tp_hub.specs.Unkept.{IsHubOrdered, IsOrdering, IsUnkept};
 
 use crate::answers::Answers;
-use crate::hub::{Hub, Ran, SESSIONS, apart, older};
+use crate::hub::{Hub, Ran, SESSIONS, at_flush, older};
 use crate::seat::{Seat, seat_at};
 use crate::shared::ask_place;
 use nbd_session::Session;
@@ -17,8 +17,8 @@ use std::marker::Model;
 use tp_model::{Flushing, Refusal, SharedReads, Staged};
 use tp_msg::{Managed, Message};
 
-/// A hub of which a flush was begun that no event asked for, and parts are left. For READs and BLOCK_STATUSes it is still the hub of which the flush was begun.
-/// Nobody is told the answer of such a flush: behind it the FLUSH of a client has less to wait for, or nothing.
+/// A hub of which a flush was begun, and parts are left. For READs and BLOCK_STATUSes it is still the
+/// hub of which the flush was begun. `Hub::take_flushed` answers the event that asked for the flush.
 #[derive(Drop)]
 pub struct MidHub<V: Staged> {
     midway: V::Midway,
@@ -38,7 +38,7 @@ impl<V: Staged> Model for MidHub<V> {
 impl<V: Staged> Hub<V> {
     ghost use Rattle.tp_hub.specs.Flushes.{IsHubFlushing};
 
-    /// Begins a flush that no event asked for: its first part, or the whole of it, with the answer of which nobody is told.
+    /// Begins a flush: its first part, or the whole of it, with its answer.
     pub fn begin_flush(self) -> Flushing<Hub<V>, MidHub<V>>
         ensures { IsHubFlushing V.view self result }
     {
@@ -51,10 +51,11 @@ impl<V: Staged> Hub<V> {
 }
 
 impl<V: Staged> MidHub<V> {
-    ghost use Rattle.std.specs.Prelude.{◌≡◌, ◌<◌, ◌≤◌, None, IfSome};
+    ghost use Rattle.std.specs.Prelude.{◌≡◌, ◌<◌, ◌≤◌, None, IfSome, false, true};
     ghost use Rattle.tp_model.specs.Clauses.{TracedCall, outline_of_traced};
     ghost use Rattle.nbd_session.specs.Clauses.{GoesWithTrace};
-    ghost use Rattle.nbd_session.specs.Session.{has_older, keeps_apart};
+    ghost use Rattle.nbd_session.specs.Flushes.{IsAtFlush};
+    ghost use Rattle.nbd_session.specs.Session.{has_older};
     ghost use Rattle.tp_hub.specs.Desks.{IsAsked, RanSo, RunsSo};
     ghost use Rattle.tp_hub.specs.Flushes.{IsHubFlushed, IsHubFlushing};
     ghost use Rattle.tp_hub.specs.Runs.{Brings};
@@ -82,12 +83,14 @@ impl<V: Staged> MidHub<V> {
         seat_at(&self.sessions, number)
     }
 
-    /// Whether a session's WRITEs, TRIMs and WRITE_ZEROES with FUA are kept apart.
-    pub fn keeps_apart(&self, number: u8) -> bool
+    /// Whether the next frame of a session is a FLUSH that passes its tests and stands whole at the
+    /// front of a piece.
+    pub fn begins_flush(&self, number: u8, piece: &[u8]) -> bool
         requires { number < 64 }
-        ensures { result ≡ keeps_apart (sessions_of self.now.slots number).phase }
+        ensures at { result ≡ true → IsAtFlush (sessions_of self.now.slots number) piece.now }
+        ensures not_at { result ≡ false → IsAtFlush (sessions_of self.now.slots number) piece.now → ⊥ }
     {
-        apart(&self.sessions, number)
+        at_flush(&self.sessions, number, piece)
     }
 
     /// Whether a session is told since an older volume.
@@ -126,7 +129,7 @@ impl<V: Staged> MidHub<V> {
         (midway, sessions)
     }
 
-    /// All parts that are left, one behind the other: the hub behind the flush, and the answer of which nobody is told.
+    /// All parts that are left, one behind the other: the hub behind the flush, and its answer.
     pub fn end_flush(self) -> (Hub<V>, Result<(), Refusal>)
         ensures { IsHubFlushed V.view self result.0 result.1 }
     {
@@ -181,9 +184,10 @@ impl<V: Managed + Staged> Hub<V> {
 }
 
 impl<V: Staged> MidMessage<V> {
-    ghost use Rattle.std.specs.Prelude.{◌≡◌, ◌<◌, ◌≤◌, None, IfSome, true};
+    ghost use Rattle.std.specs.Prelude.{◌≡◌, ◌<◌, ◌≤◌, None, IfSome, false, true};
     ghost use Rattle.tp_msg.specs.declared.message.Message as messages;
-    ghost use Rattle.nbd_session.specs.Session.{has_older, keeps_apart};
+    ghost use Rattle.nbd_session.specs.Flushes.{IsAtFlush};
+    ghost use Rattle.nbd_session.specs.Session.{has_older};
     ghost use Rattle.tp_hub.specs.Desks.{IsAsked, RunsSo};
     ghost use Rattle.tp_hub.specs.Runs.{Brings};
     ghost use Rattle.tp_hub.specs.Seats.{seat_at};
@@ -213,12 +217,14 @@ impl<V: Staged> MidMessage<V> {
         self.mid.seat(number)
     }
 
-    /// Whether a session's WRITEs, TRIMs and WRITE_ZEROES with FUA are kept apart.
-    pub fn keeps_apart(&self, number: u8) -> bool
+    /// Whether the next frame of a session is a FLUSH that passes its tests and stands whole at the
+    /// front of a piece.
+    pub fn begins_flush(&self, number: u8, piece: &[u8]) -> bool
         requires { number < 64 }
-        ensures { result ≡ keeps_apart (sessions_of self.now.slots number).phase }
+        ensures at { result ≡ true → IsAtFlush (sessions_of self.now.slots number) piece.now }
+        ensures not_at { result ≡ false → IsAtFlush (sessions_of self.now.slots number) piece.now → ⊥ }
     {
-        self.mid.keeps_apart(number)
+        self.mid.begins_flush(number, piece)
     }
 
     /// Brings to the device what was written so far, while READs are taken beside it. Nothing is promised of it.

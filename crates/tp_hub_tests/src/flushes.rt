@@ -1,4 +1,4 @@
-//! Flushes that a hub makes unasked, in parts, and one that it is asked for.
+//! Flushes that a hub makes in parts, and one that it is asked for.
 
 use crate::talk::{GIVEN, GO_0, HALF, READ, WRITE, refused, sent};
 use nbd_session::Profile;

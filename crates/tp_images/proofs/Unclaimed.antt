@@ -1,8 +1,8 @@
 -- Images over files: nothing that was closed is claimed to be honest, so nothing is claimed to last.
-use Rattle.std.proofs.Common.{◌≡◌, ℕ, Bool, true, false, List, [], ◌∷◌, Option, None, Some, Result, Ok, Err, refl, sym, ◌∙◌, ap, true≢false}
+use Rattle.std.proofs.Common.{◌≡◌, ℕ, Bool, true, false, List, [], ◌∷◌, Option, None, Some, Result, Ok, Err, refl, subst, sym, ◌∙◌, ap, true≢false}
 use Rattle.std.specs.Prelude.{IfOk, bytes_eq, is_some, unwrap_or, if◌then◌else◌}
 use Rattle.std.specs.List.{All, AllByRecursion}
-use Rattle.std.proofs.lemmas.List.Elements.{recursion_from_All}
+use Rattle.std.proofs.lemmas.List.Elements.{All-cons, recursion_from_All}
 use Rattle.tp_model.specs.Disk.{DiskState}
 use Rattle.tp_disk.specs.File.{file_state}
 use Rattle.tp_disk.specs.HandedOut.{IsHandedOut}
@@ -47,3 +47,28 @@ pub answers_unclaimed : (way : Way) (name : List ℕ) (old new : List Deed) (res
     → IfOk result (λ disk. IsHandedOut (file_state disk)) → Answers way name old new file_state result
 answers_unclaimed way name old new (Ok disk) all e handed = record { deeds = e; handed_out = handed; lasts = lasts_unclaimed way name old (file_state disk) all }
 answers_unclaimed way name old new (Err error) all e handed = e
+
+-- the disk of a deed that closes one
+abbrev disk_of : Deed → DiskState → DiskState
+disk_of (Opens way name disk) other = other
+disk_of (Refuses way name) other = other
+disk_of (Closes name disk) other = disk
+
+abbrev closes : Deed → Bool
+closes (Opens way name disk) = false
+closes (Refuses way name) = false
+closes (Closes name disk) = true
+
+answer_claims_nothing : (way : Way) (name : List ℕ) (result : Result FileDisk OpenError) → ClaimsNothing (answer_deed way name file_state result)
+answer_claims_nothing way name (Ok disk) other closed e = absurd (true≢false (sym (ap closes e)))
+answer_claims_nothing way name (Err error) other closed e = absurd (true≢false (sym (ap closes e)))
+
+-- What is opened claims nothing either, nor what is closed.
+pub opened_unclaimed : (way : Way) (name : List ℕ) (old new : List Deed) (result : Result FileDisk OpenError) → All ClaimsNothing old → new ≡ answer_deed way name file_state result ∷ old
+    → All ClaimsNothing new
+opened_unclaimed way name old new result all e = subst (λ (deeds : List Deed). All ClaimsNothing deeds) (sym e) (All-cons ClaimsNothing (answer_deed way name file_state result) old (answer_claims_nothing way name result) all)
+
+pub closed_unclaimed : (name : List ℕ) (old new : List Deed) (disk : FileDisk) → All ClaimsNothing old → new ≡ Closes name (file_state disk) ∷ old → All ClaimsNothing new
+closed_unclaimed name old new disk all e =
+    subst (λ (deeds : List Deed). All ClaimsNothing deeds) (sym e)
+    (All-cons ClaimsNothing (Closes name (file_state disk)) old (λ other closed is. sym (ap (λ deed. (disk_of deed closed).is_honest) is) ∙ disk.unclaimed) all)

@@ -4,3 +4,4 @@ mod Keeping
 mod Ordering
 mod Ends
 mod Counting
+mod Seeing

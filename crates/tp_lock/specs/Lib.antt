@@ -4,3 +4,4 @@ pub mod Locked
 pub mod Ordered
 pub mod Stages
 pub mod Census
+pub mod Seen

@@ -1,13 +1,15 @@
--- Internal: whose a piece is, what it begins with, and what it wants the hub alone for.
-use Rattle.std.specs.Prelude.{◌≡◌, ℕ, Bool, false, ◌==◌, ◌&&◌, ◌||◌, not, ◌⊎◌, List, Option, None, Some, slice_index_or, if◌then◌else◌}
+-- Internal: whose a piece is, what it begins with, and which events ask for a flush.
+use Rattle.std.specs.Prelude.{◌≡◌, ℕ, Bool, true, false, ◌⊎◌, List, Option, None, Some, if◌then◌else◌}
+use Rattle.nbd_session.specs.Flushes.{IsAtFlush}
 use Rattle.nbd_session.specs.Requests.{BeginsWithLook}
 use Rattle.nbd_session.specs.Session.{is_to_flush}
 use Rattle.nbd_session.specs.Turns.{Sessions}
 use Rattle.tp_hub.specs.Runs.{AsksDeltaOf, AsksFlush, AsksLine, AsksLineOf, AsksMapOf, AsksSizeOf, Brings, Comes, Goes, Incoming, Orders}
+use Rattle.tp_hub.specs.Serving.{Slots, sessions_of}
 use Rattle.tp_lock.specs.declared.order.HubUse.{HubUse}
 use Rattle.tp_lock.specs.declared.order.HubUse.TheVariants as purposes
 use Rattle.tp_lock.specs.declared.turns.PieceKind.{PieceKind}
-use Rattle.tp_lock.specs.declared.turns.PieceKind.TheVariants.{Keep, Look, Other, ChangeWithFua}
+use Rattle.tp_lock.specs.declared.turns.PieceKind.TheVariants.{Look, MayFlush, Other}
 use Rattle.tp_lock.specs.Framing.{is_to_keep}
 
 -- the session of an event that brings bytes
@@ -28,25 +30,34 @@ abbrev pub has_flush : Sessions → Option ℕ → Bool
 has_flush at None = false
 has_flush at (Some n) = is_to_flush (at n).phase
 
--- a WRITE, a TRIM or a WRITE_ZEROES, by its type, which stands behind the flags
-abbrev pub is_change : List ℕ → Bool
-is_change bytes = slice_index_or bytes 6 0 == 0 && ((slice_index_or bytes 7 0 == 1 || slice_index_or bytes 7 0 == 4) || slice_index_or bytes 7 0 == 6)
-
 -- what a piece begins with that is no READ and no BLOCK_STATUS
 abbrev pub kind_but_look : List ℕ → PieceKind
-kind_but_look bytes = if is_to_keep bytes then (if is_change bytes then ChangeWithFua else Keep) else Other
+kind_but_look bytes = if is_to_keep bytes then MayFlush else Other
 
 -- what it begins with
 abbrev pub IsKindOf : List ℕ → PieceKind → Type 0
 IsKindOf bytes kind = (BeginsWithLook bytes × (kind ≡ Look)) ⊎ ((BeginsWithLook bytes → ⊥) × (kind ≡ kind_but_look bytes))
 
--- what a request wants the hub alone for that is to keep what was written, or is not
+-- what is wanted of the hub alone by what asks for a flush, and by what does not
 abbrev pub purpose_if : Bool → HubUse
-purpose_if is_to_keep = if is_to_keep then purposes.Keep else purposes.Change
+purpose_if is_flush = if is_flush then purposes.Keep else purposes.Change
 
--- What a piece wants it for that begins so. is_apart: whether changes with FUA of its session are kept apart.
-abbrev pub purpose_of_kind : Bool → PieceKind → HubUse
-purpose_of_kind is_apart Look = purposes.Change
-purpose_of_kind is_apart ChangeWithFua = purpose_if (not is_apart)
-purpose_of_kind is_apart Keep = purposes.Keep
-purpose_of_kind is_apart Other = purposes.Change
+-- ---- what asks for a flush
+
+-- An event asks for a flush: it is the control line `flush`, or brings a session a piece that begins with a whole FLUSH, or has a session go on with a request
+-- of which nothing but a FLUSH is left. No other event does.
+abbrev pub AsksForFlush : Sessions → Incoming → Type 0
+AsksForFlush at AsksFlush = Unit {0}
+AsksForFlush at (Brings session piece) = IsAtFlush (at session) piece ⊎ (is_to_flush (at session).phase ≡ true)
+AsksForFlush at (Comes session profile) = ⊥
+AsksForFlush at (Goes session) = ⊥
+AsksForFlush at (Orders line) = ⊥
+AsksForFlush at AsksLine = ⊥
+AsksForFlush at (AsksLineOf volume) = ⊥
+AsksForFlush at (AsksSizeOf volume) = ⊥
+AsksForFlush at (AsksMapOf volume from) = ⊥
+AsksForFlush at (AsksDeltaOf old new from) = ⊥
+
+-- It did so of some sessions that stood behind the lock.
+abbrev pub WantsFlush : Incoming → Type 0
+WantsFlush event = (slots : Slots) × AsksForFlush (sessions_of slots) event

@@ -1,8 +1,6 @@
--- Internal: how far a hub is with a flush that nobody asked for, or with a message.
+-- Internal: how far a hub is with a flush, or with a message.
 use Rattle.std.specs.Prelude.{◌≡◌, Bool, true, false, [], Result}
 use Rattle.tp_model.specs.declared.refusal.Refusal.{Refusal}
-use Rattle.tp_model.specs.declared.volumes.Flushing.{Flushing}
-use Rattle.tp_model.specs.declared.volumes.Flushing.TheVariants as flushing
 use Rattle.tp_model.specs.Clauses.{View}
 use Rattle.tp_hub.specs.Flushes.{IsHubFlushed}
 use Rattle.tp_hub.specs.Serving.{HubState, Slots}
@@ -24,12 +22,6 @@ is_whole (Midway m) = false
 is_whole (Ordered o) = false
 is_whole Away = false
 
-abbrev pub is_midway : {W M O : Type 0} → Stage W M O → Bool
-is_midway (Whole w) = false
-is_midway (Midway m) = true
-is_midway (Ordered o) = false
-is_midway Away = false
-
 -- who is at its numbers: those of the hub, or of the one that it still is for READs
 abbrev pub slots_of : {D : Type 0} → Stage (HubState D) (HubState D) (HubState D) → Slots
 slots_of (Whole hub) = hub.slots
@@ -37,15 +29,23 @@ slots_of (Midway mid) = mid.slots
 slots_of (Ordered mid) = mid.slots
 slots_of Away = []
 
--- The hub behind a part of a flush, or the one that it still is for READs, came of such a start.
-abbrev pub IsFromFlushing : {D : Type 0} → View D → (HubState D → Type 0) → Flushing (HubState D) (HubState D) → Type 0
-IsFromFlushing view IsStart (flushing.Done new answer) = IsFrom view IsStart new
-IsFromFlushing view IsStart (flushing.Midway mid) = IsFrom view IsStart mid
-
 module _ {D : Type 0} (view : View D) where
   -- A hub behind another one: a flush was made between them, whatever it was answered.
   abbrev pub IsBehindFlush : HubState D → HubState D → Type 0
   IsBehindFlush old new = (answer : Result (Unit {0}) Refusal) × IsHubFlushed view old new answer
+
+  -- A hub behind another one that came of such a start: a flush was made between them, and was answered so.
+  pub record IsFlushedHub (IsStart : HubState D → Type 0) (answer : Result (Unit {0}) Refusal) (new : HubState D) : Type 0 where
+    pub old : HubState D
+    pub from : IsFrom view IsStart old
+    pub flushed : IsHubFlushed view old new answer
+
+  -- The same in its stage: nothing of the flush is left.
+  abbrev pub IsFlushedFrom : (HubState D → Type 0) → Result (Unit {0}) Refusal → Stage (HubState D) (HubState D) (HubState D) → Type 0
+  IsFlushedFrom IsStart answer (Whole hub) = IsFlushedHub IsStart answer hub
+  IsFlushedFrom IsStart answer (Midway mid) = ⊥
+  IsFlushedFrom IsStart answer (Ordered mid) = ⊥
+  IsFlushedFrom IsStart answer Away = ⊥
 
   -- A hub behind another one that was in the middle of a message: that message was done, whatever it was answered.
   abbrev pub IsBehindOrder : HubState D → Type 0

@@ -1,8 +1,8 @@
 //! A hub that many threads ask, behind a lock.
 //!
 //! A [`LockedDesk`] asks the hub behind a [`HubLock`], which is taken for one ask at a time, and shared by READs and BLOCK_STATUSes. An [`Alarm`] is told
-//! when the pool behind it fails. Who wants the hub alone has its turn first, and waits awake only where that pays ([`Patience`]); a flush that nobody asked for is
-//! made in parts, between which READs go on.
+//! when the pool behind it fails. Who wants the hub alone has its turn first, and waits awake only where that pays ([`Patience`]); a flush is made
+//! in parts, between which READs go on, for the event that asks for it.
 //!
 //! [`put_census`] writes a line of who is served. Threads, streams and clients are those of `tp_crowd`.
 #![tactic(auto)]

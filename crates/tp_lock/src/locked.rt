@@ -1,23 +1,24 @@
 //! A hub that many clients ask.
 
-ghost use Rattle.std.specs.Prelude.{◌≡◌, ◌<◌, ◌∷◌, [], IfSome, List, None, Ok, false, length, true, ℕ};
+ghost use Rattle.std.specs.Prelude.{◌≡◌, ◌<◌, ◌∷◌, [], IfSome, List, None, Ok, length, true, ℕ};
 ghost use Rattle.tp_model.specs.Calls.{is_failed};
 ghost use Rattle.tp_msg.specs.Messages.{reading};
-ghost use Rattle.nbd_session.specs.Session.{keeps_apart};
+ghost use Rattle.nbd_session.specs.Flushes.{IsAtFlush};
 ghost use Rattle.tp_hub.specs.Flushes.{flush_told};
-ghost use Rattle.tp_hub.specs.Told.{Grows};
+ghost use Rattle.tp_hub.specs.Told.{Grows, HasRoom};
 ghost use Rattle.tp_hub.specs.Runs.{Brings, Orders, incoming, session_of};
-ghost use Rattle.tp_hub.specs.Parts.{is_parted_to};
 ghost use Rattle.tp_hub.specs.Desks.{IsAsked};
 ghost use Rattle.tp_hub.specs.Places.{IsWider};
 ghost use Rattle.tp_hub.specs.Serve.{HubRuns};
 ghost use Rattle.tp_hub.specs.Serving.{HubState, Slots, sessions_of};
 ghost use Rattle.tp_lock.specs.Census.{AreSeats};
-ghost use Rattle.tp_lock.specs.Locked.{AsksInParts, IsFrom, MakesParts, SomeRun, SomeRunTo, SomeRuns, has_left};
+ghost use Rattle.tp_lock.specs.Locked.{AsksInParts, IsFrom, MakesParts, SomeRun, SomeRuns, has_left};
 ghost use Rattle.tp_lock.specs.declared.midway.Stage.TheVariants.{Whole};
+ghost use Rattle.tp_lock.specs.declared.order.HubUse.TheVariants.{Keep};
 ghost use Rattle.tp_lock.specs.Ordered.{IsMessageTold};
-ghost use Rattle.tp_lock.specs.Pieces.{has_flush, hearer_in, purpose_if, purpose_of_kind};
-ghost use Rattle.tp_lock.specs.Stages.{is_whole, slots_of};
+ghost use Rattle.tp_lock.specs.Pieces.{WantsFlush, has_flush, hearer_in, purpose_if};
+ghost use Rattle.tp_lock.specs.Seen.{IsSeen};
+ghost use Rattle.tp_lock.specs.Stages.{IsFlushedFrom, is_whole, slots_of};
 
 use crate::midway::{Guarded, Stage};
 use crate::order::{HubUse, Order};
@@ -57,8 +58,9 @@ pub trait Alarm<V> {
 /// Who wants the hub alone has its turn first, one behind another: READs come between two of them, and go on while the one whose turn it is waits for the
 /// device.
 ///
-/// Who is to keep what was written has the hub make a flush before, in parts, that nobody asked for: READs go on while the device brings what a part wrote, and
-/// behind it what is kept has nothing to wait for. What a message does itself is kept in parts too, between which READs go on.
+/// A flush is made in parts for an event that asks for one, and for no other: a FLUSH of a session, the
+/// FLUSH that is left of its request, and the event `Flush`. READs go on while the device brings what a
+/// part wrote. The event is answered as that flush was. A message is kept in parts too.
 ///
 /// What is known of the hub each time that somebody has it: it came of the one that was put behind the lock, of which `K` says which it was, by asks one
 /// behind another, of which those flushes are some.
@@ -74,7 +76,7 @@ pub struct HubLock<'a, V: Staged, A: Alarm<V>, K: Start<V>> {
 
 impl<'a, V: Staged, A: Alarm<V>, K: Start<V>> HubLock<'a, V, A, K> {
     ghost use Rattle.std.specs.Prelude.{◌≡◌, ◌<◌, IfSome, true};
-    ghost use Rattle.nbd_session.specs.Session.{keeps_apart};
+    ghost use Rattle.nbd_session.specs.Flushes.{IsAtFlush};
     ghost use Rattle.tp_hub.specs.Seats.{seat_at};
     ghost use Rattle.tp_hub.specs.Serving.{Slots, sessions_of};
     ghost use Rattle.tp_lock.specs.Census.{AreSeats};
@@ -157,12 +159,13 @@ impl<'a, V: Staged, A: Alarm<V>, K: Start<V>> HubLock<'a, V, A, K> {
         seats_of(&hub)
     }
 
-    /// Whether a session's WRITEs, TRIMs and WRITE_ZEROES with FUA are kept apart.
-    fn keeps_apart<R: Wait>(&self, rt: &R, number: u8) -> bool
+    /// Whether the next frame of a session is a FLUSH that passes its tests and stands whole at the
+    /// front of a piece.
+    fn begins_flush<R: Wait>(&self, rt: &R, number: u8, piece: &[u8]) -> bool
         requires { number < 64 }
-        ensures { (slots : Slots) × (result ≡ keeps_apart (sessions_of slots number).phase) }
+        ensures { result ≡ true → (slots : Slots) × IsAtFlush (sessions_of slots number) piece.now }
     {
-        self.shared(rt).keeps_apart(number)
+        self.shared(rt).begins_flush(number, piece)
     }
 
     /// Lets READs that wait go first, as long as it takes to wake them.
@@ -200,33 +203,6 @@ impl<'a, V: Staged, A: Alarm<V>, K: Start<V>> HubLock<'a, V, A, K> {
     fn sync_ahead<R: Wait>(&self, rt: &R, _turn: &MutexGuard<'_, ()>) {
         self.shared(rt).sync_ahead();
     }
-
-    /// The hub alone, in one's turn. For what is to be kept, where anything was written since that was done last, a flush is made before that nobody asked for, so
-    /// that what is kept then has nothing to wait for. READs go on while the device brings what each part of it wrote.
-    fn alone_for<R: Wait>(
-        &self,
-        rt: &R,
-        is_to_flush: bool,
-        turn: &MutexGuard<'_, ()>,
-    ) -> RwLockWriteGuard<'_, Guarded<V, K>> {
-        if !is_to_flush {
-            return self.alone(rt, turn);
-        }
-        self.sync_ahead(rt, turn);
-        let mut begun = self.alone(rt, turn);
-        if !begun.begin_flush() {
-            return begun;
-        }
-        drop(begun);
-        self.sync_ahead(rt, turn);
-        let mut behind = self.alone(rt, turn);
-        if !behind.go_on() {
-            return behind;
-        }
-        drop(behind);
-        self.sync_ahead(rt, turn);
-        self.alone(rt, turn)
-    }
 }
 
 impl<'a, V: Managed + Staged, A: Alarm<V>, K: Start<V>> HubLock<'a, V, A, K> {
@@ -238,14 +214,13 @@ impl<'a, V: Managed + Staged, A: Alarm<V>, K: Start<V>> HubLock<'a, V, A, K> {
     fn begin_order<R: Wait>(
         &self,
         rt: &R,
-        is_to_flush: bool,
         message: &Message,
         turn: &MutexGuard<'_, ()>,
     ) -> Option<Result<(), Refusal>>
         requires { (line : List ℕ) × (reading line ≡ Ok message.now) }
         ensures { IfSome result (λ answer. IsMessageTold V.view message.now answer) }
     {
-        let mut guard = self.alone_for(rt, is_to_flush, turn);
+        let mut guard = self.alone(rt, turn);
         guard.end_flush();
         guard.begin_order(message)
     }
@@ -283,14 +258,13 @@ impl<'a, V: Managed + Staged, A: Alarm<V>, K: Start<V>> HubLock<'a, V, A, K> {
     fn make_order<R: Wait>(
         &self,
         rt: &R,
-        is_to_flush: bool,
         message: &Message,
         turn: &MutexGuard<'_, ()>,
     ) -> Option<Result<(), Refusal>>
         requires { (line : List ℕ) × (reading line ≡ Ok message.now) }
         ensures { IfSome result (λ answer. IsMessageTold V.view message.now answer) }
     {
-        if let Some(answer) = self.begin_order(rt, is_to_flush, message, turn) {
+        if let Some(answer) = self.begin_order(rt, message, turn) {
             return Some(answer);
         }
         if let Some(answer) = self.go_on_order(rt, message, turn) {
@@ -405,6 +379,31 @@ fn hearer_of(event: &Event<'_>) -> Option<u8>
     }
 }
 
+/// What is so behind an event of this session, and the cause for the alarm, where the pool has failed
+/// and the alarm has not sounded yet.
+fn look<V: Staged, A: Alarm<V>, K: Start<V>>(
+    lock: &HubLock<'_, V, A, K>,
+    hub: &Since<V, K>,
+    hearer: Option<u8>,
+    ran: Ran,
+) -> (Seen, Option<A::Cause>)
+    requires { IfSome hearer (λ number. number < 64) }
+    ensures ran { result.0.ran ≡ ran }
+    ensures work { result.0.is_at_work ≡ has_left (sessions_of hub.now.slots) hearer }
+    ensures flush { result.0.is_to_flush ≡ has_flush (sessions_of hub.now.slots) hearer }
+{
+    let is_at_work = has_work(hub, hearer);
+    let is_to_flush = has_flush(hub, hearer);
+    let is_failed = has_failed(hub);
+    let cause = lock.cause(hub, is_failed);
+    let seen = Seen {
+        ran,
+        is_at_work,
+        is_to_flush,
+    };
+    (seen, cause)
+}
+
 /// Asks a hub once that makes no flush and no message, and tells what is so behind it, and the cause for the alarm, where the pool has failed and the alarm has
 /// not sounded yet.
 fn ask_and_look<V: Managed + Staged, A: Alarm<V>, K: Start<V>>(
@@ -416,73 +415,278 @@ fn ask_and_look<V: Managed + Staged, A: Alarm<V>, K: Start<V>>(
 ) -> (Seen, Option<A::Cause>)
     requires session { session_of event < 64 }
     requires whole { is_whole hub.old.stage ≡ true }
-    ensures asked { IsAsked (λ took answers. SomeRun V.view took answers) (incoming event.entry) result.0.ran.events result.0.ran.bytes out.old out.new }
     ensures did { (old : HubState V) × (new : HubState V) × (hub.old.stage ≡ Whole old) × (hub.new.stage ≡ Whole new)
         × IsAsked (λ took answers. HubRuns V.view old took answers new) (incoming event.entry) result.0.ran.events result.0.ran.bytes out.old out.new
         × (result.0.is_at_work ≡ has_left (sessions_of new.slots) (hearer_in (incoming event.entry)))
         × (result.0.is_to_flush ≡ has_flush (sessions_of new.slots) (hearer_in (incoming event.entry))) }
-    ensures told { IsAsked (λ took answers. SomeRunTo V.view (hearer_in (incoming event.entry)) result.0.is_at_work took answers) (incoming event.entry) result.0.ran.events result.0.ran.bytes
-        out.old out.new }
-    ensures made { (n : ℕ) → is_parted_to n event.entry ≡ false → incoming event.entry ≡ Brings n [] → 0 < result.0.ran.events → result.0.is_at_work ≡ false }
+    ensures seen { IsSeen V.view event.entry result.0 out.old out.new }
 {
     let hearer = hearer_of(&event);
     match &mut hub.stage {
         Stage::Whole(since) => {
             let ran = since.ask(alloc, event, out);
-            let is_at_work = has_work(since, hearer);
-            let is_to_flush = has_flush(since, hearer);
-            let is_failed = has_failed(since);
-            let cause = lock.cause(since, is_failed);
-            let seen = Seen {
-                ran,
-                is_at_work,
-                is_to_flush,
-            };
-            (seen, cause)
+            look(lock, since, hearer, ran)
         }
         Stage::Midway(_) | Stage::Ordered(_) | Stage::Away => unreachable!(),
     }
 }
 
-/// What an event without a request wants the hub alone for: a message and a flush keep what was written.
-fn purpose_of(event: &Event<'_>) -> HubUse {
+/// Answers an event that asks for the flush that was made last, as that flush was answered. None where
+/// the event asks for anything else, and then nothing was done.
+fn tell_flush<V: Staged, A: Alarm<V>, K: Start<V>>(
+    lock: &HubLock<'_, V, A, K>,
+    hub: &mut Guarded<V, K>,
+    event: &Event<'_>,
+    answer: Result<(), Refusal>,
+    out: &mut Answers,
+) -> Option<(Seen, Option<A::Cause>)>
+    requires session { session_of event.now < 64 }
+    requires room { HasRoom out.old }
+    requires flushed { IsFlushedFrom V.view K.is_start answer hub.old.stage }
+    ensures seen { IfSome result (λ r. IsSeen V.view event.now r.0 out.old out.new) }
+    ensures none { result ≡ None → out.new ≡ out.old }
+{
+    let hearer = hearer_of(event);
+    match &mut hub.stage {
+        Stage::Whole(since) => match since.take_flushed(event, answer, out) {
+            None => None,
+            Some(ran) => Some(look(lock, since, hearer, ran)),
+        },
+        Stage::Midway(_) | Stage::Ordered(_) | Stage::Away => unreachable!(),
+    }
+}
+
+/// What an event without a request wants the hub alone for.
+fn purpose_of(event: &Event<'_>) -> HubUse
+    ensures { result ≡ Keep → WantsFlush (incoming event.now) }
+{
     match *event {
-        Event::Message(_) | Event::Flush => HubUse::Keep,
+        Event::Flush => HubUse::Keep,
         _ => HubUse::Change,
     }
 }
 
-/// `Keep` for what is to keep what was written, as a FLUSH that is left of a request is, and else `Change`.
-fn purpose_if(is_to_keep: bool) -> HubUse
-    ensures { result ≡ purpose_if is_to_keep }
+/// `Keep` for what asks for a flush, and else `Change`.
+fn purpose_if(is_flush: bool) -> HubUse
+    ensures { result ≡ purpose_if is_flush }
 {
-    if is_to_keep {
+    if is_flush {
         HubUse::Keep
     } else {
         HubUse::Change
     }
 }
 
-/// What a piece of a session wants it for. A request with FUA that is kept apart is made first, as any other, and the FLUSH that is left of it keeps it then.
+/// What a piece of a session wants it for. Its session tells whether what may be a FLUSH is one.
 fn purpose_of_piece<R: Wait, V: Staged, A: Alarm<V>, K: Start<V>>(
     rt: &R,
     hub: &HubLock<'_, V, A, K>,
     number: u8,
     kind: PieceKind,
+    piece: &[u8],
 ) -> HubUse
     requires { number < 64 }
-    ensures { (slots : Slots) × (result ≡ purpose_of_kind (keeps_apart (sessions_of slots number).phase) kind) }
+    ensures { result ≡ Keep → WantsFlush (Brings number piece.now) }
 {
     match kind {
         PieceKind::Look => HubUse::Change,
-        PieceKind::ChangeWithFua => purpose_if(!hub.keeps_apart(rt, number)),
-        PieceKind::Keep => HubUse::Keep,
+        PieceKind::MayFlush => purpose_if(hub.begins_flush(rt, number, piece)),
         PieceKind::Other => HubUse::Change,
     }
 }
 
-/// Asks a hub behind a lock alone, for this. What was written before is kept already where that is to keep it, and what is left of a flush or of a message is made
-/// first. The alarm sounds when the lock is let go.
+/// Asks a hub behind a lock in one's turn, behind what is left of a flush or of a message.
+fn ask_in_turn<R: Wait, V: Managed + Staged, A: Alarm<V>, K: Start<V>>(
+    rt: &R,
+    alloc: Global,
+    hub: &HubLock<'_, V, A, K>,
+    event: Event<'_>,
+    out: &mut Answers,
+    turn: &MutexGuard<'_, ()>,
+) -> (Seen, Option<A::Cause>)
+    requires { session_of event < 64 }
+    ensures { IsSeen V.view event.entry result.0 out.old out.new }
+{
+    let mut guard = hub.alone(rt, turn);
+    guard.end_flush();
+    ask_and_look(alloc, hub, &mut guard, event, out)
+}
+
+/// Begins a flush for an event, behind a sync beside which READs go on. Answers the event where no
+/// part is left.
+fn begin_flush<R: Wait, V: Staged, A: Alarm<V>, K: Start<V>>(
+    rt: &R,
+    hub: &HubLock<'_, V, A, K>,
+    event: &Event<'_>,
+    out: &mut Answers,
+    turn: &MutexGuard<'_, ()>,
+) -> Option<(Seen, Option<A::Cause>)>
+    requires session { session_of event.now < 64 }
+    requires room { HasRoom out.old }
+    requires wants { WantsFlush (incoming event.now) }
+    ensures seen { IfSome result (λ r. IsSeen V.view event.now r.0 out.old out.new) }
+    ensures none { result ≡ None → out.new ≡ out.old }
+{
+    hub.sync_ahead(rt, turn);
+    let mut guard = hub.alone(rt, turn);
+    match guard.begin_flush() {
+        None => None,
+        Some(answer) => tell_flush(hub, &mut guard, event, answer, out),
+    }
+}
+
+/// Makes the next part of it, in the same way.
+fn next_part<R: Wait, V: Staged, A: Alarm<V>, K: Start<V>>(
+    rt: &R,
+    hub: &HubLock<'_, V, A, K>,
+    event: &Event<'_>,
+    out: &mut Answers,
+    turn: &MutexGuard<'_, ()>,
+) -> Option<(Seen, Option<A::Cause>)>
+    requires session { session_of event.now < 64 }
+    requires room { HasRoom out.old }
+    ensures seen { IfSome result (λ r. IsSeen V.view event.now r.0 out.old out.new) }
+    ensures none { result ≡ None → out.new ≡ out.old }
+{
+    hub.sync_ahead(rt, turn);
+    let mut guard = hub.alone(rt, turn);
+    match guard.go_on() {
+        None => None,
+        Some(answer) => tell_flush(hub, &mut guard, event, answer, out),
+    }
+}
+
+/// Makes all that is left of it, in the same way.
+fn last_part<R: Wait, V: Staged, A: Alarm<V>, K: Start<V>>(
+    rt: &R,
+    hub: &HubLock<'_, V, A, K>,
+    event: &Event<'_>,
+    out: &mut Answers,
+    turn: &MutexGuard<'_, ()>,
+) -> Option<(Seen, Option<A::Cause>)>
+    requires session { session_of event.now < 64 }
+    requires room { HasRoom out.old }
+    ensures seen { IfSome result (λ r. IsSeen V.view event.now r.0 out.old out.new) }
+    ensures none { result ≡ None → out.new ≡ out.old }
+{
+    hub.sync_ahead(rt, turn);
+    let mut guard = hub.alone(rt, turn);
+    match guard.end_flush() {
+        None => None,
+        Some(answer) => tell_flush(hub, &mut guard, event, answer, out),
+    }
+}
+
+/// Asks a hub behind a lock, in one's turn, whose flush has a last part left at most. Where the event
+/// asks for no flush after all, it is asked as any other.
+fn ask_last<R: Wait, V: Managed + Staged, A: Alarm<V>, K: Start<V>>(
+    rt: &R,
+    alloc: Global,
+    hub: &HubLock<'_, V, A, K>,
+    event: Event<'_>,
+    out: &mut Answers,
+    turn: &MutexGuard<'_, ()>,
+) -> (Seen, Option<A::Cause>)
+    requires session { session_of event < 64 }
+    requires room { HasRoom out.old }
+    ensures { IsSeen V.view event.entry result.0 out.old out.new }
+{
+    match last_part(rt, hub, &event, out, turn) {
+        Some(told) => told,
+        None => ask_in_turn(rt, alloc, hub, event, out, turn),
+    }
+}
+
+/// The same of one whose flush was begun.
+fn ask_next<R: Wait, V: Managed + Staged, A: Alarm<V>, K: Start<V>>(
+    rt: &R,
+    alloc: Global,
+    hub: &HubLock<'_, V, A, K>,
+    event: Event<'_>,
+    out: &mut Answers,
+    turn: &MutexGuard<'_, ()>,
+) -> (Seen, Option<A::Cause>)
+    requires session { session_of event < 64 }
+    requires room { HasRoom out.old }
+    ensures { IsSeen V.view event.entry result.0 out.old out.new }
+{
+    match next_part(rt, hub, &event, out, turn) {
+        Some(told) => told,
+        None => ask_last(rt, alloc, hub, event, out, turn),
+    }
+}
+
+/// Asks a hub behind a lock for a flush, in one's turn. The flush is made in parts, between which READs
+/// go on, and answers the event.
+fn ask_flush<R: Wait, V: Managed + Staged, A: Alarm<V>, K: Start<V>>(
+    rt: &R,
+    alloc: Global,
+    hub: &HubLock<'_, V, A, K>,
+    event: Event<'_>,
+    out: &mut Answers,
+    turn: &MutexGuard<'_, ()>,
+) -> (Seen, Option<A::Cause>)
+    requires session { session_of event < 64 }
+    requires room { HasRoom out.old }
+    requires wants { WantsFlush (incoming event) }
+    ensures { IsSeen V.view event.entry result.0 out.old out.new }
+{
+    match begin_flush(rt, hub, &event, out, turn) {
+        Some(told) => told,
+        None => ask_next(rt, alloc, hub, event, out, turn),
+    }
+}
+
+/// Asks a hub behind a lock alone, for an event that asks for a flush. Where nothing was written since
+/// the last one, it has nothing to wait for, and is asked as any other. The alarm sounds when the lock
+/// is let go.
+fn ask_to_keep<R: Wait, V: Managed + Staged, A: Alarm<V>, K: Start<V>>(
+    rt: &R,
+    alloc: Global,
+    hub: &HubLock<'_, V, A, K>,
+    event: Event<'_>,
+    out: &mut Answers,
+) -> Seen
+    requires session { session_of event < 64 }
+    requires room { HasRoom out.old }
+    requires wants { WantsFlush (incoming event) }
+    ensures { IsSeen V.view event.entry result out.old out.new }
+{
+    let turn = hub.order.turn(rt, HubUse::Keep);
+    let device = hub.order.begin(rt, &turn);
+    let (seen, cause) = if device.is_some() {
+        ask_flush(rt, alloc, hub, event, out, &turn)
+    } else {
+        ask_in_turn(rt, alloc, hub, event, out, &turn)
+    };
+    hub.order.end(HubUse::Keep, &turn);
+    drop(turn);
+    drop(device);
+    hub.sound(cause);
+    seen
+}
+
+/// Asks a hub behind a lock alone, for an event that asks for no flush. The alarm sounds when the lock
+/// is let go.
+fn ask_to_change<R: Wait, V: Managed + Staged, A: Alarm<V>, K: Start<V>>(
+    rt: &R,
+    alloc: Global,
+    hub: &HubLock<'_, V, A, K>,
+    event: Event<'_>,
+    out: &mut Answers,
+) -> Seen
+    requires { session_of event < 64 }
+    ensures { IsSeen V.view event.entry result out.old out.new }
+{
+    let turn = hub.order.turn(rt, HubUse::Change);
+    let (seen, cause) = ask_in_turn(rt, alloc, hub, event, out, &turn);
+    hub.order.end(HubUse::Change, &turn);
+    drop(turn);
+    hub.sound(cause);
+    seen
+}
+
+/// Asks a hub behind a lock alone, for this. Where there is no room for an answer no flush is made.
 fn ask_for<R: Wait, V: Managed + Staged, A: Alarm<V>, K: Start<V>>(
     rt: &R,
     alloc: Global,
@@ -491,22 +695,19 @@ fn ask_for<R: Wait, V: Managed + Staged, A: Alarm<V>, K: Start<V>>(
     event: Event<'_>,
     out: &mut Answers,
 ) -> Seen
-    requires { session_of event < 64 }
-    ensures asked { IsAsked (λ took answers. SomeRun V.view took answers) (incoming event.entry) result.ran.events result.ran.bytes out.old out.new }
-    ensures told { IsAsked (λ took answers. SomeRunTo V.view (hearer_in (incoming event.entry)) result.is_at_work took answers) (incoming event.entry) result.ran.events result.ran.bytes out.old out.new }
-    ensures made { (n : ℕ) → is_parted_to n event.entry ≡ false → incoming event.entry ≡ Brings n [] → 0 < result.ran.events → result.is_at_work ≡ false }
+    requires session { session_of event < 64 }
+    requires wants { purpose ≡ Keep → WantsFlush (incoming event) }
+    ensures { IsSeen V.view event.entry result out.old out.new }
 {
-    let turn = hub.order.turn(rt, purpose);
-    let device = hub.order.begin(rt, purpose, &turn);
-    let mut guard = hub.alone_for(rt, device.is_some(), &turn);
-    guard.end_flush();
-    let (seen, cause) = ask_and_look(alloc, hub, &mut guard, event, out);
-    drop(guard);
-    hub.order.end(purpose, &turn);
-    drop(turn);
-    drop(device);
-    hub.sound(cause);
-    seen
+    match purpose {
+        HubUse::Change => ask_to_change(rt, alloc, hub, event, out),
+        HubUse::Keep => {
+            if out.make_room().is_err() {
+                return ask_to_change(rt, alloc, hub, event, out);
+            }
+            ask_to_keep(rt, alloc, hub, event, out)
+        }
+    }
 }
 
 /// Asks a hub behind a lock alone, for an event without a request.
@@ -535,6 +736,14 @@ fn tell(answer: Result<(), Refusal>, out: &mut Answers)
     }
 }
 
+/// Whether a message was done, so that it kept what was written.
+fn is_done(answer: &Option<Result<(), Refusal>>) -> bool {
+    match answer {
+        Some(Ok(())) => true,
+        Some(Err(_)) | None => false,
+    }
+}
+
 /// Has a hub behind a lock make a message, while READs go on where the device brings what it wrote. None would be a hub in the midst of another message, of which this
 /// one was not made: the turn is held up to the end, so there is none.
 fn order<R: Wait, V: Managed + Staged, A: Alarm<V>, K: Start<V>>(
@@ -546,10 +755,10 @@ fn order<R: Wait, V: Managed + Staged, A: Alarm<V>, K: Start<V>>(
     ensures { IfSome result (λ answer. IsMessageTold V.view message.now answer) }
 {
     let turn = hub.order.turn(rt, HubUse::Keep);
-    let device = hub.order.begin(rt, HubUse::Keep, &turn);
-    let answer = hub.make_order(rt, device.is_some(), message, &turn);
+    let device = hub.order.begin(rt, &turn);
+    let answer = hub.make_order(rt, message, &turn);
     let cause = hub.failure(rt, &turn);
-    hub.order.end(HubUse::Keep, &turn);
+    hub.order.end(purpose_if(is_done(&answer)), &turn);
     drop(turn);
     drop(device);
     hub.sound(cause);
@@ -622,7 +831,7 @@ fn ask_shared<R: Wait, V: Staged, A: Alarm<V>, K: Start<V>>(
 }
 
 /// Makes the parts that are left of a request of a session, where any are, each in an ask of its own, so that others have the hub between two: up to the last one,
-/// or to where one longest answer more does not fit. Before a FLUSH that is left of one the hub makes its own, while READs go on.
+/// or to where one longest answer more does not fit. A FLUSH that is left of one is made in parts itself, while READs go on.
 fn make_parts<R: Wait, V: Managed + Staged, A: Alarm<V>, K: Start<V>>(
     rt: &R,
     alloc: Global,
@@ -631,7 +840,8 @@ fn make_parts<R: Wait, V: Managed + Staged, A: Alarm<V>, K: Start<V>>(
     seen: Seen,
     out: &mut Answers,
 )
-    requires { number < 64 }
+    requires number { number < 64 }
+    requires wants { seen.is_to_flush ≡ true → WantsFlush (Brings number []) }
     ensures { MakesParts V.view number seen.is_at_work out.old out.new }
 {
     let mut left = seen;
@@ -673,7 +883,7 @@ fn ask_parts<R: Wait, V: Managed + Staged, A: Alarm<V>, K: Start<V>>(
     ensures asked { IsAsked (λ took answers. SomeRuns V.view took answers) (Brings number piece.now) result.events result.bytes out.old out.new }
     ensures parts { AsksInParts V.view number piece.now result.events result.bytes out.old out.new }
 {
-    let purpose = purpose_of_piece(rt, hub, number, kind);
+    let purpose = purpose_of_piece(rt, hub, number, kind, piece);
     let seen = ask_for(rt, alloc, hub, purpose, Event::Parted(number, piece), out);
     let ran = seen.ran;
     if ran.events == 0 && ran.bytes == 0 {

@@ -1,10 +1,11 @@
-//! What stands behind the lock: a hub, or one in the middle of a flush that nobody asked for, or of a message.
+//! What stands behind the lock: a hub, or one in the middle of a flush or of a message.
 
-ghost use Rattle.std.specs.Prelude.{◌≡◌, false, true};
+ghost use Rattle.std.specs.Prelude.{◌≡◌, IfSome, false, true};
 ghost use Rattle.tp_hub.specs.Flushes.{IsHubFlushing};
 ghost use Rattle.tp_hub.specs.Serving.{HubState};
 ghost use Rattle.tp_lock.specs.declared.midway.Stage.TheVariants.{Whole};
-ghost use Rattle.tp_lock.specs.Stages.{IsBegun, IsBehindPart, IsEnded, IsFromFlushing, IsGoneOn, is_midway, is_there};
+ghost use Rattle.tp_lock.specs.Locked.{IsFrom};
+ghost use Rattle.tp_lock.specs.Stages.{IsBegun, IsBehindPart, IsEnded, IsFlushedFrom, IsFlushedHub, IsGoneOn, is_there};
 
 use crate::ordered::{MidOrdered, begun_order, ended_order, gone_on_order};
 use crate::since::{Since, Start};
@@ -14,7 +15,8 @@ use tp_hub::{Answers, Hub, MidHub, Ran, Seat};
 use tp_model::{Flushing, Refusal, Staged};
 use tp_msg::{Managed, Message};
 
-/// A hub in the middle of a flush that no client asked for. The hub that READs and BLOCK_STATUSes see meanwhile came of the hub of `K`, as in `Since`.
+/// A hub in the middle of a flush. The hub that READs and BLOCK_STATUSes see meanwhile came of the
+/// hub of `K`, as in `Since`.
 #[derive(Drop)]
 pub(crate) struct MidSince<V: Staged, K: Start<V>> {
     mid: MidHub<V>,
@@ -41,16 +43,6 @@ pub(crate) enum Stage<W, M, O> {
     Away,
 }
 
-/// Whether it is in the middle of one.
-fn is_midway<W, M, O>(stage: &Stage<W, M, O>) -> bool
-    ensures { result ≡ is_midway stage.now }
-{
-    match stage {
-        Stage::Midway(_) => true,
-        Stage::Whole(_) | Stage::Ordered(_) | Stage::Away => false,
-    }
-}
-
 /// Puts a hub back into its place, which is empty.
 fn put<W, M, O>(place: &mut Stage<W, M, O>, stage: Stage<W, M, O>)
     requires { is_there place.old ≡ false }
@@ -62,73 +54,94 @@ fn put<W, M, O>(place: &mut Stage<W, M, O>, stage: Stage<W, M, O>)
     }
 }
 
-/// The hub behind a part of a flush.
+/// The hub behind a part of a flush, and the flush's answer where no part is left.
 fn behind_part<V: Staged, K: Start<V>>(
     flushing: Flushing<Hub<V>, MidHub<V>>,
-) -> Stage<Since<V, K>, MidSince<V, K>, MidOrdered<V, K>>
-    requires { IsFromFlushing V.view K.is_start flushing }
-    ensures there { is_there result ≡ true }
-    ensures part { (old : HubState V) → IsHubFlushing V.view old flushing → IsBehindPart V.view old result }
+) -> (
+    Stage<Since<V, K>, MidSince<V, K>, MidOrdered<V, K>>,
+    Option<Result<(), Refusal>>,
+)
+    requires { (old : HubState V) × IsFrom V.view K.is_start old × IsHubFlushing V.view old flushing }
+    ensures there { is_there result.0 ≡ true }
+    ensures part { (old : HubState V) → IsHubFlushing V.view old flushing → IsBehindPart V.view old result.0 }
+    ensures flushed { IfSome result.1 (λ answer. IsFlushedFrom V.view K.is_start answer result.0) }
 {
     match flushing {
-        Flushing::Done(hub, _) => Stage::Whole(Since::of(hub)),
-        Flushing::Midway(mid) => Stage::Midway(MidSince {
-            mid,
-            of: PhantomData,
-        }),
+        Flushing::Done(hub, answer) => (Stage::Whole(Since::of(hub)), Some(answer)),
+        Flushing::Midway(mid) => {
+            let mid = MidSince {
+                mid,
+                of: PhantomData,
+            };
+            (Stage::Midway(mid), None)
+        }
     }
 }
 
-/// Begins a flush that nobody asked for, where none is under way.
+/// Begins a flush where none is under way, and tells its answer where no part is left.
 fn begun<V: Staged, K: Start<V>>(
     stage: Stage<Since<V, K>, MidSince<V, K>, MidOrdered<V, K>>,
-) -> Stage<Since<V, K>, MidSince<V, K>, MidOrdered<V, K>>
+) -> (
+    Stage<Since<V, K>, MidSince<V, K>, MidOrdered<V, K>>,
+    Option<Result<(), Refusal>>,
+)
     requires { is_there stage ≡ true }
-    ensures there { is_there result ≡ true }
-    ensures begun { IsBegun V.view stage result }
+    ensures there { is_there result.0 ≡ true }
+    ensures begun { IsBegun V.view stage result.0 }
+    ensures flushed { IfSome result.1 (λ answer. IsFlushedFrom V.view K.is_start answer result.0) }
 {
     match stage {
         Stage::Whole(since) => behind_part(since.into_hub().begin_flush()),
-        Stage::Midway(mid) => Stage::Midway(mid),
-        Stage::Ordered(mid) => Stage::Ordered(mid),
+        Stage::Midway(mid) => (Stage::Midway(mid), None),
+        Stage::Ordered(mid) => (Stage::Ordered(mid), None),
         Stage::Away => unreachable!(),
     }
 }
 
-/// Makes the next part of the flush, where one is under way.
+/// Makes the next part of the flush, where one is under way, and tells its answer where no part is
+/// left.
 fn gone_on<V: Staged, K: Start<V>>(
     stage: Stage<Since<V, K>, MidSince<V, K>, MidOrdered<V, K>>,
-) -> Stage<Since<V, K>, MidSince<V, K>, MidOrdered<V, K>>
+) -> (
+    Stage<Since<V, K>, MidSince<V, K>, MidOrdered<V, K>>,
+    Option<Result<(), Refusal>>,
+)
     requires { is_there stage ≡ true }
-    ensures there { is_there result ≡ true }
-    ensures gone { IsGoneOn V.view stage result }
+    ensures there { is_there result.0 ≡ true }
+    ensures gone { IsGoneOn V.view stage result.0 }
+    ensures flushed { IfSome result.1 (λ answer. IsFlushedFrom V.view K.is_start answer result.0) }
 {
     match stage {
-        Stage::Whole(since) => Stage::Whole(since),
+        Stage::Whole(since) => (Stage::Whole(since), None),
         Stage::Midway(mid) => behind_part(mid.into_mid().go_on()),
-        Stage::Ordered(mid) => Stage::Ordered(mid),
+        Stage::Ordered(mid) => (Stage::Ordered(mid), None),
         Stage::Away => unreachable!(),
     }
 }
 
-/// Makes all parts that are left of the flush, or of the message, where one is under way.
+/// Makes all parts that are left of the flush, or of the message, where one is under way, and tells
+/// the answer of the flush.
 fn ended<V: Staged, K: Start<V>>(
     stage: Stage<Since<V, K>, MidSince<V, K>, MidOrdered<V, K>>,
-) -> Since<V, K>
+) -> (Since<V, K>, Option<Result<(), Refusal>>)
     requires { is_there stage ≡ true }
-    ensures { IsEnded V.view stage (Whole result) }
+    ensures ended { IsEnded V.view stage (Whole result.0) }
+    ensures flushed { IfSome result.1 (λ answer. IsFlushedHub V.view K.is_start answer result.0) }
 {
     match stage {
-        Stage::Whole(since) => since,
-        Stage::Midway(mid) => mid.end_flush(),
-        Stage::Ordered(mid) => mid.end_order(),
+        Stage::Whole(since) => (since, None),
+        Stage::Midway(mid) => {
+            let (since, answer) = mid.end_flush();
+            (since, Some(answer))
+        }
+        Stage::Ordered(mid) => (mid.end_order(), None),
         Stage::Away => unreachable!(),
     }
 }
 
 impl<V: Staged, K: Start<V>> MidSince<V, K> {
-    ghost use Rattle.std.specs.Prelude.{◌≡◌, ◌<◌, IfSome, None};
-    ghost use Rattle.nbd_session.specs.Session.{keeps_apart};
+    ghost use Rattle.std.specs.Prelude.{◌≡◌, ◌<◌, IfSome, None, true};
+    ghost use Rattle.nbd_session.specs.Flushes.{IsAtFlush};
     ghost use Rattle.tp_hub.specs.Runs.{Brings};
     ghost use Rattle.tp_hub.specs.Desks.{IsAsked};
     ghost use Rattle.tp_hub.specs.Places.{IsWider};
@@ -136,7 +149,7 @@ impl<V: Staged, K: Start<V>> MidSince<V, K> {
     ghost use Rattle.tp_hub.specs.Serve.{HubRuns};
     ghost use Rattle.tp_hub.specs.Serving.{sessions_of};
     ghost use Rattle.tp_lock.specs.Locked.{IsFrom};
-    ghost use Rattle.tp_lock.specs.Stages.{IsBehindFlush};
+    ghost use Rattle.tp_lock.specs.Stages.{IsBehindFlush, IsFlushedHub};
 
     /// The hub as it is.
     fn into_mid(self) -> MidHub<V>
@@ -147,12 +160,13 @@ impl<V: Staged, K: Start<V>> MidSince<V, K> {
         mid
     }
 
-    /// The hub behind what is left of the flush.
-    fn end_flush(self) -> Since<V, K>
-        ensures { IsBehindFlush V.view self result }
+    /// The hub behind what is left of the flush, and its answer.
+    fn end_flush(self) -> (Since<V, K>, Result<(), Refusal>)
+        ensures behind { IsBehindFlush V.view self result.0 }
+        ensures flushed { IsFlushedHub V.view K.is_start result.1 result.0 }
     {
-        let (hub, _) = self.into_mid().end_flush();
-        Since::of(hub)
+        let (hub, answer) = self.into_mid().end_flush();
+        (Since::of(hub), answer)
     }
 
     /// Asks it for the READs and BLOCK_STATUSes with which a piece begins, beside others. None where it has to be asked alone.
@@ -172,12 +186,13 @@ impl<V: Staged, K: Start<V>> MidSince<V, K> {
         self.mid.seat(number)
     }
 
-    /// Whether a session's WRITEs, TRIMs and WRITE_ZEROES with FUA are kept apart.
-    fn keeps_apart(&self, number: u8) -> bool
+    /// Whether the next frame of a session is a FLUSH that passes its tests and stands whole at the
+    /// front of a piece.
+    fn begins_flush(&self, number: u8, piece: &[u8]) -> bool
         requires { number < 64 }
-        ensures { result ≡ keeps_apart (sessions_of self.now.slots number).phase }
+        ensures { result ≡ true → IsAtFlush (sessions_of self.now.slots number) piece.now }
     {
-        self.mid.keeps_apart(number)
+        self.mid.begins_flush(number, piece)
     }
 
     /// Brings to the device what parts so far wrote.
@@ -195,16 +210,16 @@ pub(crate) struct Guarded<V: Staged, K: Start<V>> {
 
 impl<V: Staged, K: Start<V>> Guarded<V, K> {
     ghost use Rattle.std.specs.Prelude.{◌≡◌, ◌<◌, IfSome, None, true};
-    ghost use Rattle.nbd_session.specs.Session.{keeps_apart};
+    ghost use Rattle.nbd_session.specs.Flushes.{IsAtFlush};
     ghost use Rattle.tp_hub.specs.Runs.{Brings};
     ghost use Rattle.tp_hub.specs.Desks.{IsAsked};
     ghost use Rattle.tp_hub.specs.Places.{IsWider};
     ghost use Rattle.tp_hub.specs.Seats.{seat_at};
     ghost use Rattle.tp_hub.specs.Serving.{sessions_of};
     ghost use Rattle.tp_lock.specs.Locked.{IsFrom, SomeRun};
-    ghost use Rattle.tp_lock.specs.Stages.{IsBegun, IsEnded, IsGoneOn, is_midway, is_whole, slots_of};
+    ghost use Rattle.tp_lock.specs.Stages.{IsBegun, IsEnded, IsFlushedFrom, IsGoneOn, is_whole, slots_of};
 
-    /// A hub that makes no flush.
+    /// A hub that makes no flush and no message.
     pub(crate) fn of(since: Since<V, K>) -> Guarded<V, K> {
         Guarded {
             stage: Stage::Whole(since),
@@ -216,43 +231,44 @@ impl<V: Staged, K: Start<V>> Guarded<V, K> {
         ensures { IsFrom V.view K.is_start result }
     {
         let Guarded { stage } = self;
-        ended(stage).into_hub()
+        let (since, _) = ended(stage);
+        since.into_hub()
     }
 
-    /// Begins a flush that nobody asked for, and tells whether parts of it are left.
-    pub(crate) fn begin_flush(&mut self) -> bool
-        ensures left { result ≡ is_midway self.new.stage }
+    /// Begins a flush, and tells its answer where no part of it is left.
+    pub(crate) fn begin_flush(&mut self) -> Option<Result<(), Refusal>>
         ensures begun { IsBegun V.view self.old.stage self.new.stage }
+        ensures flushed { IfSome result (λ answer. IsFlushedFrom V.view K.is_start answer self.new.stage) }
     {
-        let stage = begun(mem::replace(&mut self.stage, Stage::Away));
-        let is_left = is_midway(&stage);
+        let (stage, answer) = begun(mem::replace(&mut self.stage, Stage::Away));
         put(&mut self.stage, stage);
-        is_left
+        answer
     }
 
-    /// Makes the next part of it, and tells whether parts are left.
-    pub(crate) fn go_on(&mut self) -> bool
-        ensures left { result ≡ is_midway self.new.stage }
+    /// Makes the next part of it, and tells its answer where no part is left.
+    pub(crate) fn go_on(&mut self) -> Option<Result<(), Refusal>>
         ensures gone { IsGoneOn V.view self.old.stage self.new.stage }
+        ensures flushed { IfSome result (λ answer. IsFlushedFrom V.view K.is_start answer self.new.stage) }
     {
-        let stage = gone_on(mem::replace(&mut self.stage, Stage::Away));
-        let is_left = is_midway(&stage);
+        let (stage, answer) = gone_on(mem::replace(&mut self.stage, Stage::Away));
         put(&mut self.stage, stage);
-        is_left
+        answer
     }
 
-    /// Makes what is left of a flush, or of a message.
-    pub(crate) fn end_flush(&mut self)
+    /// Makes what is left of a flush, or of a message, and tells the answer of the flush.
+    pub(crate) fn end_flush(&mut self) -> Option<Result<(), Refusal>>
         ensures whole { is_whole self.new.stage ≡ true }
         ensures ended { IsEnded V.view self.old.stage self.new.stage }
+        ensures flushed { IfSome result (λ answer. IsFlushedFrom V.view K.is_start answer self.new.stage) }
     {
         match &self.stage {
-            Stage::Whole(_) => return,
+            Stage::Whole(_) => return None,
             Stage::Midway(_) | Stage::Ordered(_) => {}
             Stage::Away => unreachable!(),
         }
-        let since = ended(mem::replace(&mut self.stage, Stage::Away));
+        let (since, answer) = ended(mem::replace(&mut self.stage, Stage::Away));
         put(&mut self.stage, Stage::Whole(since));
+        answer
     }
 
     /// Asks it for the READs and BLOCK_STATUSes with which a piece begins, beside others, also between two parts of a flush. None where it has to be asked alone.
@@ -282,15 +298,16 @@ impl<V: Staged, K: Start<V>> Guarded<V, K> {
         }
     }
 
-    /// Whether a session's WRITEs, TRIMs and WRITE_ZEROES with FUA are kept apart.
-    pub(crate) fn keeps_apart(&self, number: u8) -> bool
+    /// Whether the next frame of a session is a FLUSH that passes its tests and stands whole at the
+    /// front of a piece.
+    pub(crate) fn begins_flush(&self, number: u8, piece: &[u8]) -> bool
         requires { number < 64 }
-        ensures { result ≡ keeps_apart (sessions_of (slots_of self.now.stage) number).phase }
+        ensures { result ≡ true → IsAtFlush (sessions_of (slots_of self.now.stage) number) piece.now }
     {
         match &self.stage {
-            Stage::Whole(since) => since.keeps_apart(number),
-            Stage::Midway(mid) => mid.keeps_apart(number),
-            Stage::Ordered(mid) => mid.keeps_apart(number),
+            Stage::Whole(since) => since.begins_flush(number, piece),
+            Stage::Midway(mid) => mid.begins_flush(number, piece),
+            Stage::Ordered(mid) => mid.begins_flush(number, piece),
             Stage::Away => unreachable!(),
         }
     }

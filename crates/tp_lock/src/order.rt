@@ -98,14 +98,15 @@ impl Order {
         turn
     }
 
-    /// Called by the thread that has the turn, before its work. Where the work is to keep what was written, it takes `device`, for which others wait asleep.
+    /// Called by the thread that has the turn, before work that is to keep what was written. Where
+    /// anything was written since the last such work, the thread takes `device`, for which others wait
+    /// asleep.
     pub(crate) fn begin<R: Wait>(
         &self,
         rt: &R,
-        purpose: HubUse,
         _turn: &MutexGuard<'_, ()>,
     ) -> Option<RwLockWriteGuard<'_, ()>> {
-        if purpose == HubUse::Change || self.is_kept.load(Ordering::SeqCst) {
+        if self.is_kept.load(Ordering::SeqCst) {
             return None;
         }
         let device = self.device.write(rt);
@@ -113,7 +114,7 @@ impl Order {
         Some(device)
     }
 
-    /// Called by the thread that has the turn, behind its work.
+    /// Called by the thread that has the turn, behind its work: `Keep` where that kept what was written.
     pub(crate) fn end(&self, purpose: HubUse, _turn: &MutexGuard<'_, ()>) {
         self.is_kept
             .store(purpose == HubUse::Keep, Ordering::SeqCst);

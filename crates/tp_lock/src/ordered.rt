@@ -178,7 +178,7 @@ pub(crate) fn ended_order<V: Staged, K: Start<V>>(
 impl<V: Staged, K: Start<V>> MidOrdered<V, K> {
     ghost use Rattle.std.specs.Prelude.{◌≡◌, ◌<◌, IfSome, None, true};
     ghost use Rattle.tp_msg.specs.declared.message.Message as messages;
-    ghost use Rattle.nbd_session.specs.Session.{keeps_apart};
+    ghost use Rattle.nbd_session.specs.Flushes.{IsAtFlush};
     ghost use Rattle.tp_hub.specs.Runs.{Brings};
     ghost use Rattle.tp_hub.specs.Desks.{IsAsked};
     ghost use Rattle.tp_hub.specs.Places.{IsWider};
@@ -311,12 +311,13 @@ impl<V: Staged, K: Start<V>> MidOrdered<V, K> {
         self.mid.seat(number)
     }
 
-    /// Whether a session's WRITEs, TRIMs and WRITE_ZEROES with FUA are kept apart.
-    pub(crate) fn keeps_apart(&self, number: u8) -> bool
+    /// Whether the next frame of a session is a FLUSH that passes its tests and stands whole at the
+    /// front of a piece.
+    pub(crate) fn begins_flush(&self, number: u8, piece: &[u8]) -> bool
         requires { number < 64 }
-        ensures { result ≡ keeps_apart (sessions_of self.now.slots number).phase }
+        ensures { result ≡ true → IsAtFlush (sessions_of self.now.slots number) piece.now }
     {
-        self.mid.keeps_apart(number)
+        self.mid.begins_flush(number, piece)
     }
 
     /// Brings to the device what was written so far.

@@ -11,7 +11,7 @@ ghost use Rattle.tp_lock.specs.Locked.{IsFrom};
 use std::alloc::Global;
 use std::marker::{Brand, Model, PhantomData};
 use tp_hub::{Answers, Event, Hub, Ran, Seat};
-use tp_model::{Mode, SharedVolumes, Volumes};
+use tp_model::{Mode, Refusal, SharedVolumes, Volumes};
 use tp_msg::Managed;
 
 /// Says, for contracts alone, which hub was put behind a lock. The caller picks it as a type.
@@ -43,11 +43,18 @@ impl<V: Volumes, K: Start<V>> Model for Since<V, K> {
 }
 
 impl<V: Volumes, K: Start<V>> Since<V, K> {
-    ghost use Rattle.std.specs.Prelude.{◌≡◌, ◌<◌};
-    ghost use Rattle.nbd_session.specs.Session.{is_at_work, is_to_flush, keeps_apart};
+    ghost use Rattle.std.specs.Prelude.{◌≡◌, ◌<◌, ℕ, [], IfSome, None, false, true};
+    ghost use Rattle.nbd_session.specs.Flushes.{IsAtFlush};
+    ghost use Rattle.nbd_session.specs.Session.{is_at_work, is_to_flush};
+    ghost use Rattle.tp_hub.specs.Desks.{IsAsked};
+    ghost use Rattle.tp_hub.specs.Parts.{is_parted_to};
+    ghost use Rattle.tp_hub.specs.Runs.{Brings, incoming, session_of};
+    ghost use Rattle.tp_hub.specs.Serve.{HubRuns};
+    ghost use Rattle.tp_hub.specs.Told.{HasRoom};
     ghost use Rattle.tp_hub.specs.Seats.{seat_at};
-    ghost use Rattle.tp_hub.specs.Serving.{sessions_of};
+    ghost use Rattle.tp_hub.specs.Serving.{HubState, sessions_of};
     ghost use Rattle.tp_lock.specs.Locked.{IsFrom};
+    ghost use Rattle.tp_lock.specs.Stages.{IsFlushedHub};
 
     /// The hub that it begins with.
     pub(crate) fn new(hub: Hub<V>) -> Since<V, K>
@@ -96,12 +103,31 @@ impl<V: Volumes, K: Start<V>> Since<V, K> {
         self.hub.is_to_flush(number)
     }
 
-    /// Whether a session's WRITEs, TRIMs and WRITE_ZEROES with FUA are kept apart.
-    pub(crate) fn keeps_apart(&self, number: u8) -> bool
+    /// Whether the next frame of a session is a FLUSH that passes its tests and stands whole at the
+    /// front of a piece.
+    pub(crate) fn begins_flush(&self, number: u8, piece: &[u8]) -> bool
         requires { number < 64 }
-        ensures { result ≡ keeps_apart (sessions_of self.now.slots number).phase }
+        ensures { result ≡ true → IsAtFlush (sessions_of self.now.slots number) piece.now }
     {
-        self.hub.keeps_apart(number)
+        self.hub.begins_flush(number, piece)
+    }
+
+    /// Takes an event that asks for the flush that was made last, and answers it as that flush was
+    /// answered. None where the event asks for anything else, and then nothing was done.
+    pub(crate) fn take_flushed(
+        &mut self,
+        event: &Event<'_>,
+        answer: Result<(), Refusal>,
+        out: &mut Answers,
+    ) -> Option<Ran>
+        requires session { session_of event.now < 64 }
+        requires room { HasRoom out.old }
+        requires flushed { IsFlushedHub V.view K.is_start answer self.old }
+        ensures asked { IfSome result (λ ran. (old : HubState V) × IsAsked (λ took answers. HubRuns V.view old took answers self.new) (incoming event.now) ran.events ran.bytes out.old out.new) }
+        ensures parted { IfSome result (λ ran. (n : ℕ) → is_parted_to n event.now ≡ false → incoming event.now ≡ Brings n [] → ⊥) }
+        ensures none { result ≡ None → out.new ≡ out.old }
+    {
+        self.hub.take_flushed(event, answer, out)
     }
 
     /// The mode of its pool.

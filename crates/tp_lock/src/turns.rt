@@ -2,7 +2,7 @@
 
 ghost use Rattle.std.specs.Prelude.{◌≡◌, ◌<◌, ◌≤◌, length, slice_index_or};
 ghost use Rattle.tp_lock.specs.Framing.{first_end, is_to_keep, more_of, turn_of};
-ghost use Rattle.tp_lock.specs.Pieces.{IsKindOf, is_change, kind_but_look};
+ghost use Rattle.tp_lock.specs.Pieces.{IsKindOf, kind_but_look};
 
 use nbd_session::begins_with_look;
 use nbd_wire::{Kind, REQUEST_MAGIC, wanted};
@@ -15,10 +15,8 @@ const MOST_REQUESTS: u32 = 16;
 pub(crate) enum PieceKind {
     /// A whole READ or BLOCK_STATUS: others may have the hub beside it.
     Look,
-    /// A WRITE, a TRIM or a WRITE_ZEROES with FUA.
-    ChangeWithFua,
-    /// Anything else that keeps what was written, as a FLUSH does.
-    Keep,
+    /// What a FLUSH may be, by two of its bytes: whether it is one, its session tells.
+    MayFlush,
     /// Anything else.
     Other,
 }
@@ -39,32 +37,24 @@ fn byte_at(bytes: &[u8], i: usize) -> u8
     if i < bytes.len() { bytes[i] } else { 0 }
 }
 
-/// Whether a request is to keep what was written, as a FLUSH is, and one with FUA, by its flags and its type.
+/// Whether a request may be to keep what was written, as a FLUSH and one with FUA are, by bytes of its
+/// flags and its type. It may be part of anything else, so it only cuts turns, and spares the others
+/// a look at their session.
 fn is_to_keep(request: &[u8]) -> bool
     ensures { result ≡ is_to_keep request.now }
 {
     byte_at(request, 5) % 2 == 1 || (byte_at(request, 6) == 0 && byte_at(request, 7) == 3)
 }
 
-/// Whether a request changes sectors, by its type: it is a WRITE, a TRIM or a WRITE_ZEROES.
-fn is_change(request: &[u8]) -> bool
-    ensures { result ≡ is_change request.now }
-{
-    let kind = byte_at(request, 7);
-    byte_at(request, 6) == 0 && (kind == 1 || kind == 4 || kind == 6)
-}
-
-/// What a piece begins with that is no READ and no BLOCK_STATUS, by its flags and its type.
+/// What a piece begins with that is no READ and no BLOCK_STATUS.
 fn kind_but_look(piece: &[u8]) -> PieceKind
     ensures { result ≡ kind_but_look piece.now }
 {
     if is_to_keep(piece) {
-        if is_change(piece) {
-            return PieceKind::ChangeWithFua;
-        }
-        return PieceKind::Keep;
+        PieceKind::MayFlush
+    } else {
+        PieceKind::Other
     }
-    PieceKind::Other
 }
 
 /// What a piece begins with. It is looked up once for each ask, and decides only how the hub is asked: the session reads the piece itself.
@@ -78,8 +68,8 @@ pub(crate) fn kind_of_piece(piece: &[u8]) -> PieceKind
     }
 }
 
-/// How many bytes stand at the front of those behind a turn so far that belong to it too. A request that keeps what was written begins a turn, so that what
-/// was written before is brought to the device before it has the hub.
+/// How many bytes stand at the front of those behind a turn so far that belong to it too. What may be
+/// a FLUSH begins a turn, so that its session tells whether it is one.
 fn more_len(at: usize, rest: &[u8]) -> usize
     ensures more { result ≡ more_of at rest.now }
     ensures most { result ≤ length rest.now }

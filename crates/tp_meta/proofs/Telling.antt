@@ -1,11 +1,11 @@
 -- What the one who opens an image is told where it is that of a commit, and where it is not.
-use Rattle.std.proofs.Common.{◌≡◌, ◌⊎◌, inl, inr, ⊎_elim, ℕ, ◌+◌, ◌<◌, ◌≤◌, List, [], ◌++◌, length, take, drop, get_or, refl, sym, ap, subst, ◌∙◌, arith, take-append-drop}
-use Rattle.std.specs.Prelude.{Ok, Err, ◌%◌, nat_lt}
+use Rattle.std.proofs.Common.{◌≡◌, ◌⊎◌, inl, inr, ⊎_elim, ℕ, zero, suc, ◌+◌, ◌-◌, ◌^◌, ◌<◌, ◌≤◌, List, [], ◌++◌, length, take, drop, get_or, refl, sym, ap, subst, ◌∙◌, arith, take-append-drop}
+use Rattle.std.specs.Prelude.{Ok, Err, ◌%◌, nat_lt, slice_index}
 use Rattle.std.proofs.lemmas.Bool.{cases_eq}
-use Rattle.std.proofs.lemmas.List.{get_or_append_left, length-map}
+use Rattle.std.proofs.lemmas.List.{get_or-take, get_or_append_left, length-map}
 use Rattle.tp_model.specs.declared.refusal.Refusal.{Refusal}
 use Rattle.tp_model.specs.declared.refusal.Refusal.TheVariants.{Damaged, Fault, Memory}
-use Rattle.tp_model.specs.Geometry.{Geometry}
+use Rattle.tp_model.specs.Geometry.{Geometry, fixed_part}
 use Rattle.tp_model.specs.Sectors.{Sector}
 use Rattle.tp_model.specs.Disk.{DiskState, IsWellFormed, newest, seen}
 use Rattle.tp_model.proofs.Counting.{count_agree}
@@ -19,10 +19,15 @@ use Rattle.tp_image.specs.Slots.{Chooses}
 use Rattle.tp_image.proofs.AreaLaws.{HoldsCounts-one}
 use Rattle.tp_counts.specs.Counts.{used_in}
 use Rattle.tp_refs.specs.Store.{Store, node_at}
-use Rattle.tp_stored.specs.Commit.{IsCommit, counts_of_part, held_by, use_of}
+use Rattle.tp_refs.specs.Balance.{occurrences}
+use Rattle.tp_refs.proofs.Steps.{held_live, occurrences-append, one_same}
+use Rattle.tp_trees.proofs.Trees.{rank_inside, tree_rank}
+use Rattle.tp_sharing.specs.Forest.{Forest, HeldForest, held_refs}
+use Rattle.tp_stored.specs.Commit.{IsCommit, counts_of_part, fixed_blocks, held_by, use_of}
+use Rattle.tp_stored.proofs.Ranges.{in_range}
 use Rattle.tp_tm.specs.Tm.{Tm, counts_kept, counts_now, kept_now, now_of, used_metadata}
 use Rattle.tp_tm.specs.Holds.{Holds, IsSpelled}
-use Rattle.tp_meta.specs.Opening.{HasCounts, IsFull, IsShort, IsToldOf, LacksCounts}
+use Rattle.tp_meta.specs.Opening.{AreCounted, HasCounts, IsFull, IsShort, IsToldOf, IsUncounted, LacksCounts}
 use Rattle.tp_meta.proofs.Clearing.{no_refusal, same_superblock}
 
 area_of : (n : ℕ) → (area : SlotId) × (slot_number area ≡ n % 2)
@@ -84,6 +89,43 @@ module _ (image : List Sector) (last : Superblock) (s : Store) (c : IsCommit ima
       ap (used_in m) is ∙ used_is_use m (take m s.counts) (drop m s.counts) (omega (arith, long)) ∙ ap (used_in m) (take-append-drop m s.counts) in
       omega (arith, used, full.2, c.spare)
 
+  -- the counts of the blocks that the pool holds
+  abbrev fixed : List ℕ
+  fixed = fixed_blocks last.geometry
+
+  held_counts : (b : ℕ) → b < m → 0 < occurrences b (held_by last.geometry last.root last.held_root) → 0 < slice_index (take m s.counts) b
+  held_counts b lt held =
+      omega (arith, get_or-take m s.counts b 0 lt, held_live s [] (held_by last.geometry last.root last.held_root) b c.sound.balanced held)
+
+  fixed_counts : (b : ℕ) → b < fixed_part last.geometry → 0 < slice_index (take m s.counts) b
+  fixed_counts b lt =
+      held_counts b (omega (arith, lt, c.sound.limits.metadata_least))
+      (omega (arith, occurrences-append b (held_refs last.held_root) fixed, in_range b 0 (fixed_part last.geometry) (omega arith) (omega (arith, lt))))
+
+  root_in : (r : ℕ) → Forest s r fixed (2 ^ 24) → r < m
+  root_in r forest =
+      let rank = tree_rank 5 ((node_at s r).rank - 5) s 0 (2 ^ 24) r forest.devices.tree in
+      omega (arith, rank_inside s r (omega (arith, rank)), c.sound.sized)
+
+  copy_counts : (h : ℕ) → h ≡ last.held_root → HeldForest s h fixed (2 ^ 24) → 0 < slice_index (take m s.counts) h
+  copy_counts zero is copy = fixed_counts 0 (omega arith)
+  copy_counts (suc n) is copy =
+      held_counts (suc n) (root_in (suc n) copy)
+      (subst (λ (h : ℕ). 0 < occurrences (suc n) (held_by last.geometry last.root h)) is
+      (omega (arith, occurrences-append (suc n) (held_refs (suc n)) fixed, one_same (suc n) (suc n) refl)))
+
+  commit_counts : AreCounted last (take m s.counts)
+  commit_counts = record {
+    fixed = fixed_counts;
+    root = held_counts last.root (root_in last.root c.sound.forest) (omega (arith, one_same last.root last.root refl));
+    held = copy_counts last.held_root refl c.sound.copy;
+  }
+
+  not_uncounted : IsUncounted image last → ⊥
+  not_uncounted un =
+      let is : un.0 ≡ take m s.counts = counts_one image last Metadata un.0 (take m s.counts) un.1 (c.counts Metadata) in
+      un.2 (subst (λ (l : List ℕ). AreCounted last l) (sym is) commit_counts)
+
   pub not_refused : (refusal : Refusal) → IsToldOf image (Err refusal) → ⊥
   not_refused refusal (inl chooses) = no_refusal image last refusal c.chosen chooses
   not_refused refusal (inr why) =
@@ -92,7 +134,10 @@ module _ (image : List Sector) (last : Superblock) (s : Store) (c : IsCommit ima
       (λ small. omega (arith, c.whole, subst (λ (x : Superblock). IsShort image x) same small))
       (λ rest. ⊎_elim
       (λ lacks. let none = subst (λ (x : Superblock). LacksCounts image x) same lacks in none.1 (counts_of_part last.geometry none.0 s.counts) (c.counts none.0))
+      (λ more. ⊎_elim
       (λ full. not_full (subst (λ (x : Superblock). IsFull image x) same full))
+      (λ un. not_uncounted (subst (λ (x : Superblock). IsUncounted image x) same un))
+      more)
       rest)
       why.1.2
 
@@ -102,13 +147,18 @@ pub told_of_counts : (image : List Sector) (superblock : Superblock) (refusal : 
 told_of_counts image superblock refusal chosen (inl memory) why no_fault no_memory = absurd (no_memory memory)
 told_of_counts image superblock refusal chosen (inr (inl fault)) why no_fault no_memory = absurd (no_fault fault)
 told_of_counts image superblock refusal chosen (inr (inr damaged)) why no_fault no_memory =
-    inr (damaged, (superblock, chosen, ⊎_elim {C = IsShort image superblock ⊎ LacksCounts image superblock ⊎ IsFull image superblock} (λ small. inl small) (λ lacks. inr (inl lacks)) (why damaged)))
+    inr (damaged, (superblock, chosen, ⊎_elim {C = IsShort image superblock ⊎ LacksCounts image superblock ⊎ IsFull image superblock ⊎ IsUncounted image superblock} (λ small. inl small) (λ lacks. inr (inl lacks)) (why damaged)))
 
 -- too few blocks are left
 pub told_full : (image : List Sector) (superblock : Superblock) (t : Tm) → Chooses image (Ok superblock) → ((part : Part) → HasCounts image superblock part (now_of t part))
     → t.geometry ≡ superblock.geometry → superblock.geometry.metadata_blocks < used_metadata t + 128 → IsToldOf image (Err Damaged)
 told_full image superblock t chosen has geometry full =
-    inr (refl, (superblock, chosen, inr (inr (t.metadata_now, has Metadata, subst (λ (g : Geometry). superblock.geometry.metadata_blocks < used_in g.metadata_blocks t.metadata_now + 128) geometry full))))
+    inr (refl, (superblock, chosen, inr (inr (inl (t.metadata_now, has Metadata, subst (λ (g : Geometry). superblock.geometry.metadata_blocks < used_in g.metadata_blocks t.metadata_now + 128) geometry full)))))
+
+-- a block that the pool holds has no count
+pub told_uncounted : (image : List Sector) (superblock : Superblock) (t : Tm) → Chooses image (Ok superblock) → ((part : Part) → HasCounts image superblock part (now_of t part))
+    → (AreCounted superblock t.metadata_now → ⊥) → IsToldOf image (Err Damaged)
+told_uncounted image superblock t chosen has none = inr (refl, (superblock, chosen, inr (inr (inr (t.metadata_now, has Metadata, none)))))
 
 pub seen_size : (disk : DiskState) → IsWellFormed disk.size disk.cells → disk.size ≡ length (seen disk.cells)
 seen_size disk sound = sym (length-map disk.cells newest ∙ sound.size_is)

@@ -1,8 +1,8 @@
 -- Trusted reading: what an image tells the one who opens it (own).
-use Rattle.std.specs.Prelude.{◌≡◌, ◌⊎◌, ℕ, ◌+◌, ◌%◌, ◌<◌, ◌≤◌, List, length, Result, Ok, Err}
+use Rattle.std.specs.Prelude.{◌≡◌, ◌⊎◌, ℕ, ◌+◌, ◌%◌, ◌<◌, ◌≤◌, List, length, slice_index, Result, Ok, Err}
 use Rattle.tp_model.specs.declared.refusal.Refusal.{Refusal}
 use Rattle.tp_model.specs.declared.refusal.Refusal.TheVariants.{Damaged}
-use Rattle.tp_model.specs.Geometry.{sectors_of_image}
+use Rattle.tp_model.specs.Geometry.{fixed_part, sectors_of_image}
 use Rattle.tp_model.specs.Sectors.{Sector}
 use Rattle.tp_layout.specs.declared.counts.Part.{Part}
 use Rattle.tp_layout.specs.declared.counts.Part.TheVariants.{Metadata}
@@ -32,17 +32,29 @@ abbrev pub IsFull : List Sector → Superblock → Type 0
 IsFull image superblock =
     (counts : List ℕ) × HasCounts image superblock Metadata counts × (superblock.geometry.metadata_blocks < used_in superblock.geometry.metadata_blocks counts + 128)
 
--- The image's slots give this superblock, in whose area the counts of both parts stand, and they leave 128 metadata blocks.
+-- Each metadata block that a pool of this superblock has in any case has a count over 0: those of the fixed part, the root of the device tree, and the root of
+-- the held copy. Where none is held that is block 0.
+pub record AreCounted (superblock : Superblock) (counts : List ℕ) : Type 0 where
+  pub fixed : (block : ℕ) → block < fixed_part superblock.geometry → 0 < slice_index counts block
+  pub root : 0 < slice_index counts superblock.root
+  pub held : 0 < slice_index counts superblock.held_root
+
+-- one of these blocks has a count of 0, so that a later change could write over it
+abbrev pub IsUncounted : List Sector → Superblock → Type 0
+IsUncounted image superblock = (counts : List ℕ) × HasCounts image superblock Metadata counts × (AreCounted superblock counts → ⊥)
+
+-- The image's slots give this superblock, in whose area the counts of both parts stand, those of its own blocks over 0, and they leave 128 metadata blocks.
 pub record IsOpenedFrom (image : List Sector) (opened : Opened) : Type 0 where
   pub chosen : Chooses image (Ok opened.superblock)
   pub whole : sectors_of_image opened.superblock.geometry ≤ length image
   pub counts : (part : Part) → HasCounts image opened.superblock part (now_of opened.tm part)
+  pub counted : AreCounted opened.superblock (now_of opened.tm Metadata)
 
 -- why an image is not opened: its slots give that refusal, or it is no whole pool of the superblock that they give
 abbrev pub IsUnopened : List Sector → Refusal → Type 0
 IsUnopened image refusal =
     Chooses image (Err refusal)
-    ⊎ ((refusal ≡ Damaged) × ((last : Superblock) × Chooses image (Ok last) × (IsShort image last ⊎ LacksCounts image last ⊎ IsFull image last)))
+    ⊎ ((refusal ≡ Damaged) × ((last : Superblock) × Chooses image (Ok last) × (IsShort image last ⊎ LacksCounts image last ⊎ IsFull image last ⊎ IsUncounted image last)))
 
 -- what is told of an image: the superblock that its slots give, with the counts of that one's area; or why there are none
 abbrev pub IsToldOf : List Sector → Result Opened Refusal → Type 0

@@ -1,5 +1,5 @@
 //! The opening of a disk: the superblock of its last commit, and that one's counts.
-ghost use Rattle.std.specs.Prelude.{◌≡◌, ◌≢◌, ◌⊎◌, ◌+◌, ◌≤◌, [], Err, IfErr, IfOk, IsTrue, length, not};
+ghost use Rattle.std.specs.Prelude.{◌≡◌, ◌≢◌, ◌⊎◌, ◌+◌, ◌<◌, ◌≤◌, [], Err, IfErr, IfOk, IsTrue, length, not, slice_index};
 ghost use Rattle.tp_model.specs.Geometry.{IsWithinLimits, sectors_of_image};
 ghost use Rattle.tp_model.specs.Refusals.{is_fault};
 ghost use Rattle.tp_model.specs.Disk.{FaultHasCause, after_read, seen};
@@ -9,13 +9,13 @@ ghost use Rattle.tp_refs.specs.Store.{Store};
 ghost use Rattle.tp_stored.specs.Commit.{IsCommit, held_by};
 ghost use Rattle.tp_tm.specs.Tm.{kept_now, now_of, used_metadata};
 ghost use Rattle.tp_tm.specs.Holds.{Holds};
-ghost use Rattle.tp_meta.specs.Opening.{HasCounts, IsShort, IsToldOf, LacksCounts};
+ghost use Rattle.tp_meta.specs.Opening.{AreCounted, HasCounts, IsShort, IsToldOf, LacksCounts};
 
 use std::alloc::Global;
 use tp_counts::Counts;
 use tp_disk::Disk;
 use tp_layout::{Part, Superblock};
-use tp_model::Refusal;
+use tp_model::{Mb, Refusal};
 use tp_super::load;
 use tp_tm::Tm;
 
@@ -33,8 +33,9 @@ pub struct Opened {
 /// The last commit of a disk: its superblock, and a store of nodes with its counts. It writes nothing.
 ///
 /// It refuses, in this order: as `load` does; with `Damaged` where the disk has fewer sectors than the image; with `Memory`
-/// where there is no memory for the counts; with `Damaged` where the area of the superblock holds no counts, or where
-/// fewer than 128 metadata blocks have a count of 0; and with `Fault` where a read failed.
+/// where there is no memory for the counts; with `Damaged` where the area of the superblock holds no counts, where
+/// fewer than 128 metadata blocks have a count of 0, or where one of the fixed part or a root has; and with `Fault` where
+/// a read failed.
 pub fn open_store<D: Disk>(alloc: Global, disk: &mut D) -> Result<Opened, Refusal>
     ensures told { result ≢ Err Refusal.Fault → result ≢ Err Refusal.Memory → IsTrue (D.state disk.old).is_honest → IsToldOf (seen (D.state disk.old).cells) result }
     ensures holds { IfOk result (λ opened. IsTrue (D.state disk.old).is_honest → (last : Superblock) (s : Store) → IsCommit (seen (D.state disk.old).cells) last s
@@ -56,7 +57,33 @@ pub fn open_store<D: Disk>(alloc: Global, disk: &mut D) -> Result<Opened, Refusa
     if tm.used_metadata() > superblock.geometry.metadata_blocks() as u64 - SPARE {
         return Err(Refusal::Damaged);
     }
+    if !are_counted(&tm, &superblock) {
+        return Err(Refusal::Damaged);
+    }
     Ok(Opened { tm, superblock })
+}
+
+/// Whether each metadata block that a pool of the superblock has in any case has a count over 0. A later change would take
+/// another one for free, and write over it.
+fn are_counted(tm: &Tm, superblock: &Superblock) -> bool
+    requires { tm.now.geometry ≡ superblock.now.geometry }
+    ensures yes { IsTrue result → AreCounted superblock.now tm.now.metadata_now }
+    ensures no { IsTrue (not result) → AreCounted superblock.now tm.now.metadata_now → ⊥ }
+{
+    for block in 0..superblock.geometry.fixed_part() {
+        if !is_counted(tm, Mb::new(block)) {
+            return false;
+        }
+    }
+    is_counted(tm, superblock.root) && is_counted(tm, superblock.held_root)
+}
+
+/// Whether a metadata block is there and has a count over 0.
+fn is_counted(tm: &Tm, block: Mb) -> bool
+    ensures yes { IsTrue result → 0 < slice_index tm.now.metadata_now block }
+    ensures no { IsTrue (not result) → slice_index tm.now.metadata_now block ≡ 0 }
+{
+    block.number() < tm.geometry().metadata_blocks() && tm.node_count(block) > 0
 }
 
 /// A store of nodes with the counts that stand in the area of a superblock.

@@ -143,7 +143,7 @@ IsAllowed p (WriteZeroes id sector count no_hole fua) = IsRange p id sector coun
 IsAllowed p (CreateThin id) = IsTrue (is_now id)
 IsAllowed p (CreateSnap id origin) = IsTrue (is_now id)
 IsAllowed p (HeldRead id sector count) = IsRange p (copy_id id) sector count
-IsAllowed p (Hold id) = hold_total p.holds < 64
+IsAllowed p (Hold id) = hold_total p.holds < 128
 IsAllowed p (LetGo id) = 0 < hold_count p.holds id
 IsAllowed p call = Unit {0}
 

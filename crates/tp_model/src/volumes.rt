@@ -103,11 +103,11 @@ pub trait Volumes {
             (λ reason. Meets view self.old self.new (VolumeBlocks id) (Refused reason)) }
         ensures most { IfOk result (λ blocks. blocks ≤ 16777216) };
 
-    /// Holds a volume, which is Busy then. At most 64 holds stand at once.
+    /// Holds a volume, which is Busy then. At most 128 holds stand at once.
     ///
     /// Refused by `Failed`, `NoSuchDevice`, `Fault` or `Damaged`.
     fn hold(&mut self, id: DevId) -> Result<(), Refusal>
-        requires { hold_total (view.outline self.old).holds < 64 }
+        requires { hold_total (view.outline self.old).holds < 128 }
         ensures { MatchResult result
             (λ _. Meets view self.old self.new (Hold id) Done)
             (λ reason. Meets view self.old self.new (Hold id) (Refused reason)) };

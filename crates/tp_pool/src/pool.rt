@@ -280,11 +280,11 @@ impl<D: Disk, M: Metadata> Pool<D, M> {
         Ok(self.metadata.next_id(&mut self.disk, from)?)
     }
 
-    /// Holds a volume, which is Busy then. At most 64 holds stand at once.
+    /// Holds a volume, which is Busy then. At most 128 holds stand at once.
     ///
     /// Refused by `Failed`, `NoSuchDevice` or `Fault`.
     pub fn hold(&mut self, id: DevId) -> Result<(), Refusal>
-        requires { length self.old.holders < 64 }
+        requires { length self.old.holders < 128 }
         ensures called { PoolAnswered M.Metadata self.old self.new (Hold id) result }
         ensures answered { AnswersSo M.Metadata self.old self.new (Hold id) result }
         ensures flushes { FlushesSo M.Metadata self.old self.new (Hold id) result }

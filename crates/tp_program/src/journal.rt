@@ -5,6 +5,7 @@ use std::alloc::{AllocError, Global};
 use std::fmt::{self, Display, Formatter};
 use std::io::Write;
 use std::mem;
+use std::net::SocketAddr;
 use std::sync::atomic::{AtomicBool, Ordering};
 use std::sync::{Condvar, Mutex, Wait};
 use std::time::Clock;
@@ -22,6 +23,9 @@ const MOST_LINES: usize = 1000;
 /// It is told when less than so many hundredths are free, where no other number was given.
 const LOW_WATER: u64 = 10;
 
+/// The TCP address of each door of clients, if it has one.
+pub(crate) type Addresses = [Option<SocketAddr>; 4];
+
 /// The lines that are to be written, and whether no more come.
 #[derive(Drop)]
 struct Pages {
@@ -36,6 +40,7 @@ pub(crate) struct Journal<'m, R: Wait + Clock> {
     alloc: Global,
     image: &'m str,
     places: Texts<'m>,
+    addresses: Addresses,
     is_quiet: bool,
     low_water: u64,
     pages: Mutex<Pages>,
@@ -52,10 +57,26 @@ struct Use {
     all: u64,
 }
 
+/// A door of clients: its TCP address, or else the text that names it.
+#[derive(Clone, Copy)]
+struct Place<'a> {
+    address: Option<SocketAddr>,
+    text: &'a str,
+}
+
+impl Display for Place<'_> {
+    fn fmt<W: fmt::Write>(&self, f: &mut Formatter<W>) -> fmt::Result {
+        match self.address {
+            Some(address) => write!(f, "{address}"),
+            None => f.write_str(self.text),
+        }
+    }
+}
+
 /// What is told.
 #[derive(Clone, Copy)]
 enum News<'a> {
-    Came(&'a str, &'a Visitor),
+    Came(Place<'a>, &'a Visitor),
     Went(&'a Visitor, &'a Visit),
     Obeyed(&'a str),
     Failed(&'a str, Option<Trouble>),
@@ -79,7 +100,11 @@ impl Display for News<'_> {
 }
 
 /// Who has come, and where.
-fn tell_coming<W: fmt::Write>(place: &str, visitor: &Visitor, f: &mut Formatter<W>) -> fmt::Result {
+fn tell_coming<W: fmt::Write>(
+    place: &Place<'_>,
+    visitor: &Visitor,
+    f: &mut Formatter<W>,
+) -> fmt::Result {
     write!(f, "client {} came to {place}", visitor.number)?;
     match visitor.peer {
         Some(peer) => write!(f, " from {peer}"),
@@ -169,12 +194,14 @@ impl<'m, R: Wait + Clock> Journal<'m, R> {
         alloc: Global,
         image: &'m str,
         service: &Service<'m>,
+        addresses: Addresses,
     ) -> Journal<'m, R> {
         Journal {
             rt,
             alloc,
             image,
             places: service.places,
+            addresses,
             is_quiet: service.is_quiet,
             low_water: service.low_water.unwrap_or(LOW_WATER),
             pages: Mutex::new(Pages {
@@ -187,15 +214,26 @@ impl<'m, R: Wait + Clock> Journal<'m, R> {
         }
     }
 
-    /// The door of this number, as the words name it.
-    fn place(&self, number: usize) -> &'m str {
-        let place = match number {
+    /// The TCP address of the door of this index, if it has one.
+    fn address(&self, index: usize) -> Option<SocketAddr> {
+        match self.addresses.get(index) {
+            Some(address) => *address,
+            None => None,
+        }
+    }
+
+    /// The door of this index.
+    fn place(&self, index: usize) -> Place<'m> {
+        let text = match index {
             0 => Some(self.places.first),
             1 => self.places.second,
             2 => self.places.third,
             _ => self.places.fourth,
         };
-        place.unwrap_or("")
+        Place {
+            address: self.address(index),
+            text: text.unwrap_or(""),
+        }
     }
 
     /// Notes a line, with the time.

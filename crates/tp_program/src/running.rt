@@ -11,7 +11,7 @@ ghost use Rattle.tp_failures.specs.Failures.{number_of};
 ghost use Rattle.tp_program.specs.Living.{StaysPool};
 ghost use Rattle.tp_program.specs.Staying.{IsNoDoor, StaysImage, StaysOn, default_for, told_of_place, told_of_threads};
 
-use crate::journal::Journal;
+use crate::journal::{Addresses, Journal};
 use nbd_session::{Profile, has_clones};
 use std::alloc::Global;
 use std::fs::File;
@@ -111,6 +111,16 @@ where
     }
 }
 
+/// The TCP addresses at which clients are waited for, by the index of their doors: with port 0 the
+/// system has picked one.
+fn addresses_of(doors: &[Door]) -> Addresses {
+    let mut addresses = [None; 4];
+    for (address, door) in addresses.iter_mut().zip(doors) {
+        *address = door.address();
+    }
+    addresses
+}
+
 /// Tells where somebody is waited for, and for what.
 fn tell_door<E: Write>(door: &Door, place: Option<&str>, what: &str, errors: &mut E) {
     let _ = match (door.address(), place) {
@@ -137,6 +147,9 @@ fn tell_doors<E: Write>(doors: &Doors, places: &Texts<'_>, control: Option<&str>
 }
 
 /// Opens all doors, and then tells where each is, unless faults alone are told.
+///
+/// The door of control lines is opened first: a script that waits for the socket file of clients
+/// then finds the other one too.
 fn open_doors<R, E>(
     rt: &R,
     alloc: Global,
@@ -148,8 +161,8 @@ where
     E: Write,
     ensures { IfErr result (λ why. IsNoDoor why.refusal) }
 {
-    let clients = open_clients(rt, alloc, &service.places)?;
     let ruler = open_control(rt, alloc, service.control)?;
+    let clients = open_clients(rt, alloc, &service.places)?;
     let doors = Doors {
         clients,
         control: ruler,
@@ -314,7 +327,7 @@ where
     };
     match open_doors(rt, alloc, service, errors) {
         Ok(doors) => {
-            let journal = Journal::new(rt, alloc, name, service);
+            let journal = Journal::new(rt, alloc, name, service, addresses_of(&doors.clients));
             let profile = profile_of(service);
             run_told(rt, alloc, pool, &doors, profile, &journal, errors)
         }

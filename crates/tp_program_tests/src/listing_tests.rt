@@ -264,9 +264,9 @@ const CREATED: &[Call] = &[
     ("ls", &[], 0, "ID SIZE MAPPED EXCLUSIVE\n0 2097152 0 0\n"),
     (
         "create",
-        &["--size", "10G", "--volume-size", "100G", "--volumes", "100"],
+        &["--size", "10G", "--volume-size", "100G", "--volumes", "400"],
         1,
-        "thinpool: 1 BadGeometry\nthinpool: the metadata of so many volumes would take more than 65536 blocks: 24 volumes fit\n",
+        "thinpool: 1 BadGeometry\nthinpool: the metadata of so many volumes would take more than 65536 blocks, even with data blocks of 1 MiB: 397 volumes fit\n",
     ),
     (
         "create",

@@ -380,36 +380,89 @@ fn long_trims_are_played_where_they_are_offered(rt: HostRuntime) -> Result<(), F
     play_by(&rt, EXTENDED, "long.script", LONG, &LONG_DONE)
 }
 
-/// A client that asks since volume 1, which is deleted then, and asks what is other in volume 0.
-const LOST: &[Part<'static>] = &[Part::Text(
+/// A client that asks since volume 1, and then what is other in volume 0. Volume 1 is to be deleted and grown meanwhile, and once more when the client has gone.
+const COMPARES: &[Part<'static>] = &[Part::Text(
     b"message create_snap 1 0
 open 1
-bytes 1 0000000349484156454f5054000000080000000049484156454f50540000000a0000001d000000013000000001000000107468696e706f6f6c3a73696e63653a3149484156454f5054000000010000000130
+bytes 1 0000000349484156454f5054000000080000000049484156454f50540000000a0000001d000000013000000001000000107468696e706f6f6c3a73696e63653a31
 message delete 1
+bytes 1 49484156454f5054000000010000000130
+message delete 1
+message grow 1 32
 bytes 1 25609513000000070000000000000001000000000000000000100000
+hangup 1
+message grow 1 32
+message delete 1
 ",
 )];
 
-/// It is answered that this fails by 5.
-const LOST_TOLD: End<'static> = End {
+/// Volume 1 is held from the context on that names it, so both are refused by 16 until the client has gone, and all of volume 0 is told as clean.
+const COMPARED: End<'static> = End {
     status: Status::Done,
     text: b"ok
 sent 1 4e42444d4147494349484156454f50540003
 sent 1 0003e889045565a9000000080000000100000000
 sent 1 0003e889045565a90000000a0000000400000014000000027468696e706f6f6c3a73696e63653a310003e889045565a90000000a0000000100000000
+refused 16
 sent 1 000000000010000001ed
+refused 16
+refused 16
+sent 1 668e33ef0001000500000000000000010000000c000000020010000000000000
+end 1
 ok
-sent 1 668e33ef00018001000000000000000100000006000000050000
+ok
 ",
     said: b"",
 };
 
 /// The words that play it.
-const LOSES: &[&str] = &["thinpool", "play", "--extended", "mem:", "lost.script"];
+const COMPARING: &[&str] = &["thinpool", "play", "--extended", "mem:", "since.script"];
 
 #[test]
-fn an_older_volume_that_is_deleted_is_no_more_told_of(rt: HostRuntime) -> Result<(), Fail> {
-    play_by(&rt, LOSES, "lost.script", LOST, &LOST_TOLD)
+fn an_older_volume_is_held_by_who_compares_with_it(rt: HostRuntime) -> Result<(), Fail> {
+    play_by(&rt, COMPARING, "since.script", COMPARES, &COMPARED)
+}
+
+/// A client that asks since volume 1, then since volume 2, and then asks for another volume by a name that is none.
+const TAKES_ANOTHER: &[Part<'static>] = &[Part::Text(
+    b"message create_snap 1 0
+message create_snap 2 0
+open 1
+bytes 1 0000000349484156454f5054000000080000000049484156454f50540000000a0000001d000000013000000001000000107468696e706f6f6c3a73696e63653a31
+bytes 1 49484156454f50540000000a0000001d000000013000000001000000107468696e706f6f6c3a73696e63653a32
+message delete 1
+message delete 2
+bytes 1 49484156454f50540000000a0000001d000000013900000001000000107468696e706f6f6c3a73696e63653a32
+message delete 2
+",
+)];
+
+/// Volume 1 is held up to the second context, and volume 2 up to the error, behind which there is no context.
+const ANOTHER_TAKEN: End<'static> = End {
+    status: Status::Done,
+    text: b"ok
+ok
+sent 1 4e42444d4147494349484156454f50540003
+sent 1 0003e889045565a9000000080000000100000000
+sent 1 0003e889045565a90000000a0000000400000014000000027468696e706f6f6c3a73696e63653a310003e889045565a90000000a0000000100000000
+sent 1 0003e889045565a90000000a0000000400000014000000027468696e706f6f6c3a73696e63653a320003e889045565a90000000a0000000100000000
+ok
+refused 16
+sent 1 0003e889045565a90000000a8000000600000000
+ok
+",
+    said: b"",
+};
+
+#[test]
+fn an_older_volume_is_held_until_another_one_is(rt: HostRuntime) -> Result<(), Fail> {
+    play_by(
+        &rt,
+        COMPARING,
+        "since.script",
+        TAKES_ANOTHER,
+        &ANOTHER_TAKEN,
+    )
 }
 
 /// Lines that are none: a space too many, a session or a volume that there cannot be, leading zeros, capital or odd digits, no digits, words that are none, a

@@ -249,7 +249,7 @@ pub(crate) fn hold_on<D: Disk + Drop, M: Metadata + Drop, K: Start>(
     id: DevId,
 ) -> Result<(), Refusal>
     requires now { K.start ≡ (got lent.old.inside lent.old.there).cache }
-    requires few { hold_total (holds_of (got lent.old.inside lent.old.there).besides.holders) < 64 }
+    requires few { hold_total (holds_of (got lent.old.inside lent.old.there).besides.holders) < 128 }
     ensures { MetBy (cached M.Metadata) (got lent.old.inside lent.old.there) (got lent.new.inside lent.new.there) (Hold id) (λ _. Done) result }
 {
     let inside = lent.inside.take().unwrap();

@@ -139,11 +139,11 @@ impl<D: Disk + Drop, M: Metadata + Drop> Volumes for Served<D, M> {
         volume_blocks_on::<D, M, Brand>(&mut self.lent, id)
     }
 
-    /// Holds a volume, which is Busy then. At most 64 holds stand at once.
+    /// Holds a volume, which is Busy then. At most 128 holds stand at once.
     ///
     /// Refused by `Failed`, `NoSuchDevice` or `Fault`.
     fn hold(&mut self, id: DevId) -> Result<(), Refusal>
-        requires { hold_total (holds_of self.old.besides.holders) < 64 }
+        requires { hold_total (holds_of self.old.besides.holders) < 128 }
         ensures { MetBy (cached M.Metadata) self.old self.new (Hold id) (λ _. Done) result }
     {
         hold_on::<D, M, Brand>(&mut self.lent, id)

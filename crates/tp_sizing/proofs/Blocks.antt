@@ -2,8 +2,7 @@
 use Rattle.std.proofs.Common.{◌≡◌, ℕ, ◌+◌, ◌*◌, ◌%◌, ◌≤◌, ◌<◌, ⊎_elim, arith}
 use Rattle.std.proofs.Math.Nat.{add-mul, mul-le-mul_right}
 use Rattle.std.proofs.lemmas.Bool.{cases_lt}
-use Rattle.tp_sizing.specs.declared.wanted.Wanted.{Wanted}
-use Rattle.tp_sizing.specs.Sizing.{IsBlockSize, IsInRange, IsLeastBlock}
+use Rattle.tp_sizing.specs.Sizing.{IsBlockSize}
 
 pub least_size : (n : ℕ) → IsBlockSize n → 128 ≤ n
 least_size n is = grind arith
@@ -14,11 +13,12 @@ most_size n is = grind arith
 pub step_of : (n : ℕ) → IsBlockSize n → n % 128 ≡ 0
 step_of n is = grind arith
 
-pub range_of : (w : Wanted) (sectors : ℕ) → IsLeastBlock w sectors → 0 < w.size → 0 < w.volume_size → 0 < w.volumes → IsInRange w
-range_of w sectors block one two three =
-    let most = most_size sectors block.allowed in
-    let enough = block.enough in
-    (one, two, three, (omega (arith, most, enough.0), omega (arith, most, enough.1)))
+pub doubled : (s : ℕ) → IsBlockSize s → (s ≡ 2048 → ⊥) → IsBlockSize (s * 2)
+doubled s is other = grind arith
+
+-- Of a larger size there are twice as many sectors at least.
+pub next_size : (s n : ℕ) → IsBlockSize s → IsBlockSize n → s ≤ n → (n ≡ s → ⊥) → s * 2 ≤ n
+next_size s n is also le other = grind arith
 
 -- Blocks are no more than so many where these hold the bytes, for one block less does not.
 pub few_blocks : (blocks most unit bytes : ℕ) → blocks * unit < bytes + unit → bytes ≤ most * unit → blocks ≤ most

@@ -1,5 +1,5 @@
 -- What the contract of the sizes says to those who use it.
-use Rattle.std.proofs.Common.{◌≡◌, ℕ, ◌+◌, ◌*◌, ◌/◌, ◌≤◌, ◌<◌, ⊎_elim, length, ◌^◌, ◌∙◌, arith, subst, sym}
+use Rattle.std.proofs.Common.{◌≡◌, ℕ, ◌+◌, ◌*◌, ◌/◌, ◌≤◌, ◌<◌, inr, ⊎_elim, length, ◌^◌, ◌∙◌, arith, refl, subst, sym}
 use Rattle.std.specs.Prelude.{All}
 use Rattle.std.specs.FinMap.{entries, len, len-entries}
 use Rattle.std.proofs.Math.Nat.{mul-le-mul_left}
@@ -12,7 +12,7 @@ use Rattle.tp_image.specs.Bound.{mapped_in, metadata_bound}
 use Rattle.tp_sizing.specs.declared.wanted.Wanted.{Wanted}
 use Rattle.tp_sizing.specs.declared.wanted.Unfit.{Unfit}
 use Rattle.tp_sizing.specs.declared.wanted.Unfit.TheVariants.{OutOfRange, TooMany}
-use Rattle.tp_sizing.specs.Sizing.{AreEnough, HasBlocks, HaveRoom, Holds, IsInRange, IsMost, IsSizedFor, IsUnfit, most_mapped}
+use Rattle.tp_sizing.specs.Sizing.{AreEnough, HasBlocks, HaveRoom, Holds, IsBlockSize, IsInRange, IsMost, IsSizedFor, IsUnfit, Suits, most_mapped, with_metadata}
 use Rattle.tp_sizing.proofs.Blocks.{few_blocks}
 use Rattle.tp_sizing.proofs.Room.{LeavesRoom, have_room, leaves_room}
 
@@ -39,14 +39,14 @@ room_for_few g volumes room most =
 pub few_devices : (w : Wanted) (g : Geometry) → IsSizedFor w g → w.volumes < 65536
 few_devices w g sized = room_for_few g w.volumes sized.room sized.limits.metadata_most
 
-pub few_fit : (w : Wanted) (fit : ℕ) (g : Geometry) → IsMost w fit g → fit < 65536
+pub few_fit : (w : Wanted) (fit : ℕ) (g : Geometry) → IsMost w 2048 fit g → fit < 65536
 few_fit w fit g much = room_for_few g fit much.room much.limits.metadata_most
 
 -- three volumes always fit
 three_leave : (pool most n : ℕ) → pool ≤ 1048576 → most ≤ pool → n ≡ 65536 → 2 + 2 * (count_blocks n + count_blocks pool) + 513 + (3 / 31 + 3 * (1 + most / 63)) ≤ n
 three_leave pool most n few low is = omega arith
 
-pub three_fit : (w : Wanted) (fit : ℕ) (g : Geometry) → IsMost w fit g → 3 ≤ fit
+pub three_fit : (w : Wanted) (fit : ℕ) (g : Geometry) → IsMost w 2048 fit g → 3 ≤ fit
 three_fit w fit g much =
     ⊎_elim
     (λ (lt : fit < 3).
@@ -61,17 +61,16 @@ as_many blocks also sectors more bytes least same equal held too =
     few_blocks blocks also (512 * sectors) bytes held.1
     (subst (λ s. bytes ≤ also * (512 * s)) (sym same) (subst (λ b. b ≤ also * (512 * more)) (sym equal) too.0))
 
+pub largest_block : IsBlockSize 2048
+largest_block = inr (inr (inr (inr refl)))
+
 enough_again : (w v : Wanted) (sectors : ℕ) → w.size ≡ v.size → w.volume_size ≡ v.volume_size → AreEnough w sectors → AreEnough v sectors
 enough_again w v sectors size volume_size enough = (subst (λ b. b ≤ 1048576 * (512 * sectors)) size enough.0, subst (λ b. b ≤ 2 ^ 24 * (512 * sectors)) volume_size enough.1)
 
--- There is one such pool, however many volumes are wanted.
-module _ (w v : Wanted) (g h : Geometry) (size : w.size ≡ v.size) (volume_size : w.volume_size ≡ v.volume_size) (one : HasBlocks w g) (two : HasBlocks v h) (metadata : g.metadata_blocks ≡ h.metadata_blocks) where
-  sectors : g.block_sectors ≡ h.block_sectors
-  sectors =
-      let low : g.block_sectors ≤ h.block_sectors = one.block.least h.block_sectors two.block.allowed (enough_again v w h.block_sectors (sym size) (sym volume_size) two.block.enough) in
-      let high : h.block_sectors ≤ g.block_sectors = two.block.least g.block_sectors one.block.allowed (enough_again w v g.block_sectors size volume_size one.block.enough) in
-      omega arith
-
+-- There is one such pool with blocks of that size, however many volumes are wanted.
+module _
+    (w v : Wanted) (g h : Geometry) (size : w.size ≡ v.size) (volume_size : w.volume_size ≡ v.volume_size) (sectors : g.block_sectors ≡ h.block_sectors) (one : HasBlocks w g) (two : HasBlocks v h)
+    (metadata : g.metadata_blocks ≡ h.metadata_blocks) where
   pools : g.data_blocks ≡ h.data_blocks
   pools =
       let low = as_many g.data_blocks h.data_blocks g.block_sectors h.block_sectors w.size v.size sectors size one.pool two.pool in
@@ -87,20 +86,58 @@ module _ (w v : Wanted) (g h : Geometry) (size : w.size ≡ v.size) (volume_size
   pub one_pool : g ≡ h
   one_pool = λ i. record { block_sectors = sectors i; virtual_blocks = volumes i; metadata_blocks = metadata i; data_blocks = pools i }
 
-pub fits_again : (w v : Wanted) (fit less : ℕ) (g h : Geometry) → w.size ≡ v.size → w.volume_size ≡ v.volume_size → v.volumes ≡ fit → IsMost w fit g → IsMost v less h → ⊥
-fits_again w v fit less g h size volume_size volumes much most =
-    let room : HaveRoom h fit = subst (λ (k : Geometry). HaveRoom k fit) (one_pool w v g h size volume_size much.blocks most.blocks (much.metadata ∙ sym most.metadata)) much.room in
-    let below = most.more in
-    most.none (fewer h fit (less + 1) (omega arith) room)
+-- The most metadata leave the most room.
+roomy : (pool rest n m : ℕ) → 2 + 2 * (count_blocks n + count_blocks pool) + 513 + rest ≤ n → n ≤ 65536 → m ≡ 65536 → 2 + 2 * (count_blocks m + count_blocks pool) + 513 + rest ≤ m
+roomy pool rest n m leaves most is = omega arith
+
+pub largest : (g : Geometry) (volumes m : ℕ) → g.metadata_blocks ≤ 65536 → m ≡ 65536 → HaveRoom g volumes → HaveRoom (with_metadata g m) volumes
+largest g volumes m most is room =
+    have_room (with_metadata g m) (most_mapped g) volumes (roomy g.data_blocks (volumes / 31 + volumes * (1 + most_mapped g / 63)) g.metadata_blocks m (leaves_room g (most_mapped g) volumes room) most is)
+
+-- Of blocks that suit no more volumes are wanted than fit.
+pub few_enough : (w : Wanted) (sectors fit : ℕ) (g : Geometry) → IsMost w sectors fit g → Suits w sectors → w.volumes ≤ fit
+few_enough w sectors fit g much suits =
+    let h = suits.0 in
+    let it = suits.1 in
+    let same : with_metadata h g.metadata_blocks ≡ g =
+    one_pool w w (with_metadata h g.metadata_blocks) g refl refl (it.sectors_are ∙ sym much.sectors_are) (record { pool = it.blocks.pool; volume = it.blocks.volume }) much.blocks refl in
+    let room : HaveRoom g w.volumes = subst (λ (k : Geometry). HaveRoom k w.volumes) same (largest h w.volumes g.metadata_blocks it.limits.metadata_most much.metadata it.room) in
+    ⊎_elim
+    (λ (lt : fit < w.volumes). absurd (much.none (fewer g w.volumes (fit + 1) (omega arith) room)))
+    (λ (le : w.volumes ≤ fit). le)
+    (cases_lt fit w.volumes)
+
+-- Where no more are wanted than fit, the blocks suit.
+pub suits_few : (w : Wanted) (sectors fit : ℕ) (g : Geometry) → IsMost w sectors fit g → w.volumes ≤ fit → Suits w sectors
+suits_few w sectors fit g much few = (g, record { sectors_are = much.sectors_are; limits = much.limits; blocks = much.blocks; room = fewer g fit w.volumes few much.room })
+
+blocks_again : (w v : Wanted) (g : Geometry) → w.size ≡ v.size → w.volume_size ≡ v.volume_size → HasBlocks w g → HasBlocks v g
+blocks_again w v g size volume_size blocks = record {
+  pool = subst (λ b. Holds g.data_blocks g.block_sectors b) size blocks.pool;
+  volume = subst (λ b. Holds g.virtual_blocks g.block_sectors b) volume_size blocks.volume;
+}
+
+pub fits_again : (w v : Wanted) (fit : ℕ) → w.size ≡ v.size → w.volume_size ≡ v.volume_size → v.volumes ≡ fit → IsUnfit w (TooMany fit) → Suits v 2048
+fits_again w v fit size volume_size volumes much =
+    let g = much.2.0 in
+    let it = much.2.1 in (
+      g,
+      record {
+        sectors_are = it.sectors_are;
+        limits = it.limits;
+        blocks = blocks_again w v g size volume_size it.blocks;
+        room = subst (λ n. HaveRoom g n) (sym volumes) it.room;
+      },
+    )
 
 -- Of as many as fit, none are too many.
 pub only_out_of_range : (w v : Wanted) (fit : ℕ) (e : Unfit) → w.size ≡ v.size → w.volume_size ≡ v.volume_size → v.volumes ≡ fit → IsUnfit w (TooMany fit) → IsUnfit v e → (e ≡ OutOfRange) × (IsInRange w → ⊥)
 only_out_of_range w v fit OutOfRange size volume_size volumes much none =
-    let three = three_fit w fit much.1.0 much.1.1 in
+    let three = three_fit w fit much.2.0 much.2.1 in
     absurd (none (
       subst (λ n. 0 < n) size much.0.0,
       subst (λ n. 0 < n) volume_size much.0.1,
       omega (arith, three, volumes),
       enough_again w v 2048 size volume_size much.0.3,
     ))
-only_out_of_range w v fit (TooMany less) size volume_size volumes much most = absurd (fits_again w v fit less much.1.0 most.1.0 size volume_size volumes much.1.1 most.1.1)
+only_out_of_range w v fit (TooMany less) size volume_size volumes much most = absurd (most.1 2048 largest_block (fits_again w v fit size volume_size volumes much))

@@ -18,18 +18,12 @@ AreEnough w sectors = (w.size ≤ 1048576 * (512 * sectors)) × (w.volume_size �
 abbrev pub IsInRange : Wanted → Type 0
 IsInRange w = (0 < w.size) × (0 < w.volume_size) × (0 < w.volumes) × AreEnough w 2048
 
-pub record IsLeastBlock (w : Wanted) (sectors : ℕ) : Type 0 where
-  pub allowed : IsBlockSize sectors
-  pub enough : AreEnough w sectors
-  pub least : (n : ℕ) → IsBlockSize n → AreEnough w n → sectors ≤ n
-
 -- So many blocks of so many sectors hold these bytes, and one less would not.
 abbrev pub Holds : ℕ → ℕ → ℕ → Type 0
 Holds blocks sectors bytes = (bytes ≤ blocks * (512 * sectors)) × (blocks * (512 * sectors) < bytes + 512 * sectors)
 
--- The blocks of a pool are the least, and as many as its data and its volumes need.
+-- A pool has as many blocks as its data and its volumes need.
 pub record HasBlocks (w : Wanted) (g : Geometry) : Type 0 where
-  pub block : IsLeastBlock w g.block_sectors
   pub pool : Holds g.data_blocks g.block_sectors w.size
   pub volume : Holds g.virtual_blocks g.block_sectors w.volume_size
 
@@ -44,27 +38,45 @@ HaveRoom g volumes = (mapped : List ℕ) → length mapped ≤ volumes → All (
 abbrev pub with_metadata : Geometry → ℕ → Geometry
 with_metadata g blocks = record g { metadata_blocks = blocks }
 
--- The pool for what is wanted: within its limits, with room for its volumes, and with the least metadata of that kind.
+-- A pool for what is wanted with blocks of so many sectors, however many metadata blocks it takes.
+pub record IsPoolFor (w : Wanted) (sectors : ℕ) (g : Geometry) : Type 0 where
+  pub sectors_are : g.block_sectors ≡ sectors
+  pub limits : IsWithinLimits g
+  pub blocks : HasBlocks w g
+  pub room : HaveRoom g w.volumes
+
+-- There is such a pool.
+abbrev pub Suits : Wanted → ℕ → Type 0
+Suits w sectors = (g : Geometry) × IsPoolFor w sectors g
+
+-- Blocks of so many sectors suit what is wanted, and no smaller ones do.
+pub record IsSmallest (w : Wanted) (sectors : ℕ) : Type 0 where
+  pub allowed : IsBlockSize sectors
+  pub suits : Suits w sectors
+  pub least : (n : ℕ) → IsBlockSize n → Suits w n → sectors ≤ n
+
+-- The pool for what is wanted: within its limits, with the smallest blocks that suit, with room for its volumes, and with the least metadata of that kind.
 pub record IsSizedFor (w : Wanted) (g : Geometry) : Type 0 where
   pub wanted : IsInRange w
   pub limits : IsWithinLimits g
+  pub block : IsSmallest w g.block_sectors
   pub blocks : HasBlocks w g
   pub room : HaveRoom g w.volumes
   pub least : (n : ℕ) → IsWithinLimits (with_metadata g n) → HaveRoom (with_metadata g n) w.volumes → g.metadata_blocks ≤ n
 
--- In a pool with the most metadata so many volumes have room, and no more, and more are wanted.
-pub record IsMost (w : Wanted) (fit : ℕ) (g : Geometry) : Type 0 where
+-- Of volumes that have room in a pool for what is wanted with blocks of so many sectors and the most metadata, so many are the most.
+pub record IsMost (w : Wanted) (sectors fit : ℕ) (g : Geometry) : Type 0 where
+  pub sectors_are : g.block_sectors ≡ sectors
   pub limits : IsWithinLimits g
   pub blocks : HasBlocks w g
   pub metadata : g.metadata_blocks ≡ 65536
   pub room : HaveRoom g fit
   pub none : HaveRoom g (fit + 1) → ⊥
-  pub more : fit < w.volumes
 
--- why there is no such pool
+-- why there is no such pool: of too many volumes, those fit that have room with the largest blocks
 abbrev pub IsUnfit : Wanted → Unfit → Type 0
 IsUnfit w OutOfRange = IsInRange w → ⊥
-IsUnfit w (TooMany fit) = IsInRange w × ((g : Geometry) × IsMost w fit g)
+IsUnfit w (TooMany fit) = IsInRange w × ((n : ℕ) → IsBlockSize n → Suits w n → ⊥) × ((g : Geometry) × IsMost w 2048 fit g)
 
 -- what is answered
 abbrev pub IsAnswer : Wanted → Result Geometry Unfit → Type 0

@@ -1,7 +1,7 @@
 //! The numbers of blocks, each a formula of its own.
-ghost use Rattle.std.specs.Prelude.{◌≡◌, ℕ, ◌+◌, ◌*◌, ◌≤◌, ◌<◌, ◌↔◌, IsTrue, MatchOption};
+ghost use Rattle.std.specs.Prelude.{◌≡◌, ℕ, ◌+◌, ◌*◌, ◌≤◌, ◌<◌, ◌↔◌, IsTrue};
 ghost use Rattle.tp_sizing.specs.Numbers.{DoesMetadata, behind_fixed, for_volumes, room_for_volumes};
-ghost use Rattle.tp_sizing.specs.Sizing.{AreEnough, IsLeastBlock};
+ghost use Rattle.tp_sizing.specs.Sizing.{AreEnough};
 
 use crate::wanted::Wanted;
 
@@ -25,27 +25,13 @@ pub(crate) fn blocks_for(bytes: u64, sectors: u64) -> u64
 }
 
 /// Whether a pool and its volumes have enough blocks of so many sectors.
-fn are_enough(wanted: &Wanted, sectors: u64) -> bool
+pub(crate) fn are_enough(wanted: &Wanted, sectors: u64) -> bool
     requires few { sectors ≤ 2048 }
     requires some { 0 < sectors }
     ensures { IsTrue result ↔ AreEnough wanted.now sectors }
 {
     blocks_for(wanted.size, sectors) <= MOST_DATA_BLOCKS
         && blocks_for(wanted.volume_size, sectors) <= MOST_VIRTUAL_BLOCKS
-}
-
-/// The least block of which there are enough, in sectors.
-pub(crate) fn least_block(wanted: &Wanted) -> Option<u64>
-    ensures { MatchOption result (AreEnough wanted.now 2048 → ⊥) (IsLeastBlock wanted.now) }
-{
-    let mut sectors = 128;
-    while !are_enough(wanted, sectors) {
-        if sectors == 2048 {
-            return None;
-        }
-        sectors *= 2;
-    }
-    Some(sectors)
 }
 
 /// How many volumes have room in the most metadata, where each takes so many blocks besides what 31 of them share.

@@ -1,16 +1,81 @@
 //! The sizes of a pool for what it is to hold.
-ghost use Rattle.std.specs.Prelude.{IfErr, IfOk};
-ghost use Rattle.tp_sizing.specs.Sizing.{IsSizedFor, IsUnfit};
+ghost use Rattle.std.specs.Prelude.{◌≡◌, ◌↔◌, ◌≤◌, ◌<◌, ℕ, IfErr, IfOk, IsTrue, MatchResult};
+ghost use Rattle.tp_model.specs.Geometry.{Geometry};
+ghost use Rattle.tp_sizing.specs.Sizing.{AreEnough, IsBlockSize, IsInRange, IsMost, IsSizedFor, IsSmallest, IsUnfit, Suits};
 
-use crate::numbers::{blocks_for, fitting_volumes, least_block, metadata_for};
+use crate::numbers::{are_enough, blocks_for, fitting_volumes, metadata_for};
 use crate::wanted::{Unfit, Wanted};
 use tp_model::Geometry;
 
-/// The sizes of a pool for what is wanted: the least blocks of 64 KiB to 1 MiB of which there are enough, as many as the data
-/// and a volume need, and the least metadata in which so many volumes have room.
+/// The smallest block, in sectors: 64 KiB.
+const SMALLEST_BLOCK: u64 = 128;
+
+/// The largest block, in sectors: 1 MiB.
+const LARGEST_BLOCK: u64 = 2048;
+
+/// How many volumes have room at most, with blocks of so many sectors and the most metadata.
+fn most_volumes(wanted: &Wanted, sectors: u64) -> u64
+    requires range { IsInRange wanted.now }
+    requires allowed { IsBlockSize sectors }
+    requires enough { AreEnough wanted.now sectors }
+    ensures { (g : Geometry) × IsMost wanted.now sectors result g }
+{
+    let data_blocks = blocks_for(wanted.size, sectors);
+    let virtual_blocks = blocks_for(wanted.volume_size, sectors);
+    let each = 1 + virtual_blocks.min(data_blocks) / 63;
+    fitting_volumes(data_blocks, each)
+}
+
+/// Whether there is a pool for what is wanted with blocks of so many sectors.
+fn suits(wanted: &Wanted, sectors: u64) -> bool
+    requires range { IsInRange wanted.now }
+    requires allowed { IsBlockSize sectors }
+    ensures { IsTrue result ↔ Suits wanted.now sectors }
+{
+    are_enough(wanted, sectors) && wanted.volumes <= most_volumes(wanted, sectors)
+}
+
+/// The smallest block, in sectors, that suits what is wanted.
 ///
-/// Refused by `OutOfRange` where a number is zero or no block is large enough, and by `TooMany` where so many volumes have no
-/// room.
+/// Errors: `TooMany` if none does.
+fn smallest_block(wanted: &Wanted) -> Result<u64, Unfit>
+    requires { IsInRange wanted.now }
+    ensures { MatchResult result (IsSmallest wanted.now) (IsUnfit wanted.now) }
+{
+    let mut sectors = SMALLEST_BLOCK;
+    while !suits(wanted, sectors) {
+        if sectors == LARGEST_BLOCK {
+            return Err(Unfit::TooMany {
+                fit: most_volumes(wanted, LARGEST_BLOCK),
+            });
+        }
+        sectors *= 2;
+    }
+    Ok(sectors)
+}
+
+/// The sizes of a pool with blocks of so many sectors, the smallest that suit.
+fn sized(wanted: &Wanted, sectors: u64) -> Result<Geometry, Unfit>
+    requires range { IsInRange wanted.now }
+    requires smallest { IsSmallest wanted.now sectors }
+    ensures { MatchResult result (IsSizedFor wanted.now) (IsUnfit wanted.now) }
+{
+    let data_blocks = blocks_for(wanted.size, sectors);
+    let virtual_blocks = blocks_for(wanted.volume_size, sectors);
+    let each = 1 + virtual_blocks.min(data_blocks) / 63;
+    let metadata_blocks = metadata_for(data_blocks, wanted.volumes, each);
+    // Sizes such as these are within the limits.
+    match Geometry::new(sectors, virtual_blocks, metadata_blocks, data_blocks) {
+        Ok(geometry) => Ok(geometry),
+        Err(_) => Err(Unfit::OutOfRange),
+    }
+}
+
+/// The sizes of a pool for what is wanted: the smallest blocks of 64 KiB to 1 MiB, a power of two, with which data, volumes and
+/// metadata have room; as many blocks as the data and a volume need; and the least metadata in which so many volumes have room.
+///
+/// Errors: `OutOfRange` if a number is zero or no block is large enough; `TooMany` if so many volumes have no room even with
+/// blocks of 1 MiB.
 pub fn sizes_for(wanted: &Wanted) -> Result<Geometry, Unfit>
     ensures sized { IfOk result (IsSizedFor wanted.now) }
     ensures unfit { IfErr result (IsUnfit wanted.now) }
@@ -18,20 +83,11 @@ pub fn sizes_for(wanted: &Wanted) -> Result<Geometry, Unfit>
     if wanted.size == 0 || wanted.volume_size == 0 || wanted.volumes == 0 {
         return Err(Unfit::OutOfRange);
     }
-    let Some(sectors) = least_block(wanted) else {
+    if !are_enough(wanted, LARGEST_BLOCK) {
         return Err(Unfit::OutOfRange);
-    };
-    let data_blocks = blocks_for(wanted.size, sectors);
-    let virtual_blocks = blocks_for(wanted.volume_size, sectors);
-    let each = 1 + virtual_blocks.min(data_blocks) / 63;
-    let fit = fitting_volumes(data_blocks, each);
-    if wanted.volumes > fit {
-        return Err(Unfit::TooMany { fit });
     }
-    let metadata_blocks = metadata_for(data_blocks, wanted.volumes, each);
-    // Sizes such as these are within the limits.
-    match Geometry::new(sectors, virtual_blocks, metadata_blocks, data_blocks) {
-        Ok(geometry) => Ok(geometry),
-        Err(_) => Err(Unfit::OutOfRange),
+    match smallest_block(wanted) {
+        Ok(sectors) => sized(wanted, sectors),
+        Err(unfit) => Err(unfit),
     }
 }

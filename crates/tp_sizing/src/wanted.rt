@@ -18,7 +18,7 @@ pub enum Unfit {
     /// One of the three is zero, or over what the largest blocks hold: 1 TiB of data, 16 TiB in a volume.
     #[error("out of range")]
     OutOfRange,
-    /// The metadata of so many volumes would take more than 65536 blocks.
+    /// The metadata of so many volumes would take more than 65536 blocks, even with data blocks of 1 MiB.
     #[error("only {fit} volumes fit")]
     TooMany {
         /// How many volumes fit into a pool of that size, 3 at least.

@@ -1,6 +1,6 @@
 //! Clones of a volume, each of one session.
-ghost use Rattle.std.specs.Prelude.{◌<◌};
-ghost use Rattle.tp_model.specs.Pool.{hold_total};
+ghost use Rattle.std.specs.Prelude.{[]};
+ghost use Rattle.nbd_session.specs.Clauses.{HoldsBeside};
 
 use crate::texts::{Part, joined};
 use nbd_session::{Profile, Session, feed};
@@ -33,7 +33,7 @@ struct Visit {
 
 /// A session that hears this and ends.
 fn heard_of<V: Cloned>(alloc: Global, pool: &mut V, text: &[u8]) -> Result<Visit, Refusal>
-    requires { hold_total (V.view.outline pool.old).holds < 64 }
+    requires { HoldsBeside [] (V.view.outline pool.old).holds }
 {
     let mut sent = Vec::new(alloc);
     let mut session = Session::open(alloc, Profile::cloning(None))?;

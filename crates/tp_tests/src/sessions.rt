@@ -1,6 +1,6 @@
 //! Options of a session over a pool that is read-only or failed, or whose disk fails.
-ghost use Rattle.std.specs.Prelude.{◌≡◌, ◌<◌, [], IfOk};
-ghost use Rattle.tp_model.specs.Pool.{hold_total};
+ghost use Rattle.std.specs.Prelude.{◌≡◌, [], IfOk};
+ghost use Rattle.nbd_session.specs.Clauses.{HoldsBeside};
 
 use crate::texts::{Part, joined};
 use nbd_session::{Profile, Session, feed};
@@ -8,7 +8,7 @@ use std::alloc::{AllocError, Global};
 use std::test::Fail;
 use tp_disk::{Disk, Fault, MemDisk};
 use tp_meta::Meta;
-use tp_model::{Cloned, DevId, Geometry, Mode, Refusal};
+use tp_model::{Cloned, DevId, Geometry, Mode, Refusal, Volumes};
 use tp_pool::Pool;
 use tp_samples::{MemPool, SECTOR, byte_at, closed, example_failing};
 
@@ -37,7 +37,7 @@ const FLAGS: (usize, usize) = (9, 31);
 
 /// What a session is sent that hears this and ends.
 fn sent<V: Cloned>(alloc: Global, pool: &mut V, text: &[u8]) -> Result<Vec<u8>, Refusal>
-    requires { hold_total (V.view.outline pool.old).holds < 64 }
+    requires { HoldsBeside [] (V.view.outline pool.old).holds }
 {
     let mut out = Vec::new(alloc);
     let mut session = Session::open(alloc, Profile::Strict)?;
@@ -49,22 +49,32 @@ fn sent<V: Cloned>(alloc: Global, pool: &mut V, text: &[u8]) -> Result<Vec<u8>, 
     Ok(out)
 }
 
+/// Flushes a pool, whatever it answers. What is held of it stays so.
+fn flush_first<V: Volumes>(pool: &mut V)
+    ensures { (V.view.outline pool.new).holds ≡ (V.view.outline pool.old).holds }
+{
+    match pool.flush() {
+        Ok(()) => {}
+        Err(_) => {}
+    }
+}
+
 /// What is sent, and the mode behind it, where the pool is flushed before.
 fn told_flushed<V: Cloned>(
     alloc: Global,
     pool: &mut V,
     text: &[u8],
 ) -> Result<(Vec<u8>, Mode), Refusal>
-    requires { hold_total (V.view.outline pool.old).holds < 64 }
+    requires { HoldsBeside [] (V.view.outline pool.old).holds }
 {
-    let _ = pool.flush();
+    flush_first(pool);
     let sent = sent(alloc, pool, text)?;
     Ok((sent, pool.mode()))
 }
 
 /// What is sent, and the mode behind it.
 fn told<V: Cloned>(alloc: Global, pool: &mut V, text: &[u8]) -> Result<(Vec<u8>, Mode), Refusal>
-    requires { hold_total (V.view.outline pool.old).holds < 64 }
+    requires { HoldsBeside [] (V.view.outline pool.old).holds }
 {
     let sent = sent(alloc, pool, text)?;
     Ok((sent, pool.mode()))

@@ -1,21 +1,23 @@
 -- What is said of a pool of which nothing is told.
-use Rattle.std.proofs.Common.{◌≡◌, ◌<◌, ℕ, Option, sum_by, inl, refl, sym, ap, arith}
+use Rattle.std.proofs.Common.{◌≡◌, ◌<◌, ℕ, Option, [], inl, refl, sym, ap, arith}
 use Rattle.std.specs.Option.{unwrap_or}
 use Rattle.std.specs.Ordering.{nat_cmp}
-use Rattle.std.specs.FinMap.{empty, entries}
+use Rattle.std.specs.FinMap.{empty}
 use Rattle.tp_model.specs.declared.mode.Mode.TheVariants.{ReadOnly, Writable}
 use Rattle.tp_model.specs.Geometry.{Geometry}
-use Rattle.tp_model.specs.Pool.{hold_count, hold_total}
+use Rattle.tp_model.specs.Pool.{hold_count}
 use Rattle.tp_model.specs.Calls.{Answer, Call, HasCause, MayAnswer, holds_after, mode_after}
 use Rattle.tp_model.specs.Clauses.{Meets}
-use Rattle.tp_model.proofs.Maps.{entries_empty, get_empty}
+use Rattle.tp_model.proofs.Maps.{get_empty}
+use Rattle.nbd_session.specs.Clauses.{HoldsBeside}
+use Rattle.nbd_session.proofs.Counting.{none_beside}
 use Rattle.tp_unit_tests.specs.Untold.{untold}
 
 works_not : ReadOnly ≡ Writable → ⊥
 works_not e = absurd cc
 
-pub none_held : hold_total (empty {X = ℕ} {R = nat_cmp}) < 64
-none_held = let none : sum_by (λ (e : ℕ × ℕ). e.1) (entries (empty {X = ℕ} {R = nat_cmp})) ≡ 0 = ap (sum_by (λ (e : ℕ × ℕ). e.1)) entries_empty in omega (arith, none)
+pub none_held : HoldsBeside [] (empty {X = ℕ} {R = nat_cmp})
+none_held = none_beside (empty {X = ℕ} {R = nat_cmp}) refl
 
 nobody_holds : (id : ℕ) → hold_count (empty {X = ℕ} {R = nat_cmp}) id ≡ 0
 nobody_holds id = ap (λ (o : Option ℕ). unwrap_or o 0) (get_empty {X = ℕ} id)

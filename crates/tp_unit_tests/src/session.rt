@@ -1,5 +1,5 @@
-ghost use Rattle.std.specs.Prelude.{◌≡◌, ◌<◌, ◌≤◌, IfOk, length};
-ghost use Rattle.tp_model.specs.Pool.{hold_total};
+ghost use Rattle.std.specs.Prelude.{◌≡◌, ◌≤◌, [], IfOk, length};
+ghost use Rattle.nbd_session.specs.Clauses.{HoldsBeside};
 
 use crate::table::Table;
 use nbd_session::{MAX_ANSWER, Phase, Profile, Session, feed};
@@ -41,7 +41,7 @@ fn sent<V: Cloned>(
     profile: Profile,
     text: &[u8],
 ) -> Result<Vec<u8>, Refusal>
-    requires { hold_total (V.view.outline pool.old).holds < 64 }
+    requires { HoldsBeside [] (V.view.outline pool.old).holds }
 {
     let mut out = Vec::new(alloc);
     let mut session = Session::open(alloc, profile)?;
@@ -234,18 +234,17 @@ fn the_default_has_the_empty_name_alone(rt: HostRuntime) {
     assert!(rt; is_sent(sent, UNKNOWN) == Ok(true));
 }
 
-/// The client flags, STRUCTURED_REPLY, and of the volume 9 SET_META_CONTEXT since 10 and since 11, LIST_META_CONTEXT since 10, and SET_META_CONTEXT since what is no id.
+/// The client flags, STRUCTURED_REPLY, and of the volume 9 SET_META_CONTEXT since 11, LIST_META_CONTEXT since 10, SET_META_CONTEXT since what is no id, and since 10, and LIST_META_CONTEXT once more.
 const SINCE: &[u8] = b"\0\0\0\x03\
 IHAVEOPT\0\0\0\x08\0\0\0\0\
-IHAVEOPT\0\0\0\x0a\0\0\0\x1e\0\0\0\x019\0\0\0\x01\0\0\0\x11thinpool:since:10\
 IHAVEOPT\0\0\0\x0a\0\0\0\x1e\0\0\0\x019\0\0\0\x01\0\0\0\x11thinpool:since:11\
 IHAVEOPT\0\0\0\x09\0\0\0\x1e\0\0\0\x019\0\0\0\x01\0\0\0\x11thinpool:since:10\
-IHAVEOPT\0\0\0\x0a\0\0\0\x1f\0\0\0\x019\0\0\0\x01\0\0\0\x12thinpool:since:010";
+IHAVEOPT\0\0\0\x0a\0\0\0\x1f\0\0\0\x019\0\0\0\x01\0\0\0\x12thinpool:since:010\
+IHAVEOPT\0\0\0\x0a\0\0\0\x1e\0\0\0\x019\0\0\0\x01\0\0\0\x11thinpool:since:10\
+IHAVEOPT\0\0\0\x09\0\0\0\x1e\0\0\0\x019\0\0\0\x01\0\0\0\x11thinpool:since:10";
 
-/// What is sent for them: the volumes 9 and 10 are there alone, and what is listed is under no number.
+/// What is sent for them: the volumes 9 and 10 are there alone, and what is listed is under no number. No volume of this pool can be held, so the session ends where it is to hold 10.
 const SINCE_TOLD: &[u8] = b"\0\x03\xe8\x89\x04\x55\x65\xa9\0\0\0\x08\0\0\0\x01\0\0\0\0\
-\0\x03\xe8\x89\x04\x55\x65\xa9\0\0\0\x0a\0\0\0\x04\0\0\0\x15\0\0\0\x02thinpool:since:10\
-\0\x03\xe8\x89\x04\x55\x65\xa9\0\0\0\x0a\0\0\0\x01\0\0\0\0\
 \0\x03\xe8\x89\x04\x55\x65\xa9\0\0\0\x0a\0\0\0\x01\0\0\0\0\
 \0\x03\xe8\x89\x04\x55\x65\xa9\0\0\0\x09\0\0\0\x04\0\0\0\x15\0\0\0\0thinpool:since:10\
 \0\x03\xe8\x89\x04\x55\x65\xa9\0\0\0\x09\0\0\0\x01\0\0\0\0\
@@ -409,7 +408,7 @@ fn put<V: Cloned>(
     text: &[u8],
     room: usize,
 ) -> Result<(Vec<u8>, usize), Refusal>
-    requires ready { hold_total (V.view.outline pool.old).holds < 64 }
+    requires ready { HoldsBeside [] (V.view.outline pool.old).holds }
     requires room { MAX_ANSWER ≤ room }
 {
     let Ok(mut out) = zeroes(alloc, room) else {

@@ -1,6 +1,6 @@
 -- The first session, frame by frame.
 use Rattle.std.proofs.Common.{◌≡◌, ◌≢◌, ◌⊎◌, inl, inr, ℕ, ◌/◌, ◌<◌, ◌≤◌, ◌^◌, true, false, cond, Bool, None, Some, Option, List, [], ◌∷◌, ◌++◌, length, take, drop, refl, sym, ap, subst, ◌∙◌, arith}
-use Rattle.std.specs.Prelude.{MatchBool, MatchOption, not}
+use Rattle.std.specs.Prelude.{◌==◌, MatchBool, MatchOption, not}
 use Rattle.std.specs.Option.{unwrap_or}
 use Rattle.std.specs.List.{concat, flat_map}
 use Rattle.std.specs.Fmt.{decimal, digits}
@@ -31,7 +31,7 @@ use Rattle.nbd_session.specs.declared.phase.Phase.TheVariants.{Options, Transmis
 use Rattle.nbd_session.specs.declared.phase.Profile.TheVariants.{Strict}
 use Rattle.nbd_session.specs.declared.phase.Terms.{Terms}
 use Rattle.nbd_session.specs.Requests.{bytes_of_blocks}
-use Rattle.nbd_session.specs.Session.{State, Outcome, kind_of, Answers, AsksFor, Ends, Finds, Holds, IsHeld, IsInvalid, IsSized, IsValid, LooksFor, Means, Sizes, go, manner_of, reply_to, terms_of, transmission_flags}
+use Rattle.nbd_session.specs.Session.{State, Outcome, kind_of, older_in, outcome, Answers, AsksFor, Finds, Holds, IsHeld, IsInvalid, IsSized, IsValid, LooksFor, Means, Settles, Sizes, Tells, Trades, go, manner_of, reply_to, terms_of, transmission_flags}
 use Rattle.nbd_session.specs.Talk.{Talks, waits, over, stops, works, goes}
 use Rattle.nbd_session.proofs.Turning.{talks_likewise}
 use Rattle.tp_users.specs.Users.{Bears, users_geometry}
@@ -362,10 +362,35 @@ by_data : (m : ℕ) (first : List ℕ) (mid : Phase) (c q : Counted) → c.pool 
 by_data m first mid c q is (inl invalid) = absurd (invalid.no_info (48 ∷ []) [] info_is)
 by_data m first mid c q is (inr valid) = looked m first mid c q valid.name is (one_name valid.name valid.types valid.info) valid.looks
 
+-- a strict session holds no older volume, so what the option leads to stays so
+settled : (first : List ℕ) (mid to : Phase) (chosen q : Counted) (o : Outcome) → o.next ≡ to → older_in to ≡ 16777216 → Settles outline_of_counted CountedCall 16777216 o chosen first mid q
+    → Tells outline_of_counted CountedCall o chosen first mid q
+settled first mid to chosen q o at none settles =
+    let same : (16777216 == older_in o.next) ≡ true = ap (λ (x : Phase). 16777216 == older_in x) at ∙ ap (λ (n : ℕ). 16777216 == n) none in
+    subst (λ (b : Bool). MatchBool b (Tells outline_of_counted CountedCall o chosen first mid q) (Trades outline_of_counted CountedCall 16777216 (older_in o.next) o chosen first mid q)) same settles
+
+as_told : (m : ℕ) (first : List ℕ) (mid : Phase) (c chosen q : Counted) (o : Outcome) → Entered m c o.sent o.next chosen → Settles outline_of_counted CountedCall 16777216 o chosen first mid q → Entered m c first mid q
+as_told m first mid c chosen q o (inl (h, f, p, is, le)) settles =
+    let t = settled first mid serving chosen q o p refl settles in
+    inl (
+      h,
+      t.0 ∙ f,
+      t.1 ∙ p,
+      ap (λ (x : Counted). x.pool) t.2 ∙ is,
+      subst (λ (x : Counted). c.failures ≤ x.failures) (sym t.2) le,
+    )
+as_told m first mid c chosen q o (inr (f, p, fails)) settles =
+    let t = settled first mid Ended chosen q o p refl settles in
+    inr (t.0 ∙ f, t.1 ∙ p, subst (λ (x : Counted). c.failures < x.failures) (sym t.2) fails)
+
 informed : (m : ℕ) (first : List ℕ) (mid : Phase) (c q : Counted) → c.pool ≡ blank 0 m → Answers outline_of_counted CountedCall (Options agreed) (client_option OPTION_GO go_data) c first mid q → Entered m c first mid q
 informed m first mid c q is answer =
-    by_data m first mid c q is
-    (subst (λ (x : Mode). MatchBool (is_failed x) (Ends outline_of_counted CountedCall [] (Options agreed) c first mid q) (Informed c first mid q)) (ap (λ (p : PlainPool). p.mode) is) answer)
+    let o = answer.chosen in
+    let behind = answer.answered in
+    as_told m first mid c behind q o
+    (by_data m o.sent o.next c behind is
+    (subst (λ (x : Mode). MatchBool (is_failed x) (Tells outline_of_counted CountedCall (outcome [] Ended) c o.sent o.next behind) (Informed c o.sent o.next behind)) (ap (λ (p : PlainPool). p.mode) is) answer.chooses))
+    answer.settles
 
 -- ---- the whole
 

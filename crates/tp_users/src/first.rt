@@ -1,10 +1,10 @@
 //! The first session is answered.
 ghost use Rattle.std.specs.Prelude.{◌≡◌, ◌++◌, ◌<◌, [], ℕ, List, IfErr, IfOk, OnOk, length};
-ghost use Rattle.tp_model.specs.Pool.{PlainPool, hold_total};
+ghost use Rattle.tp_model.specs.Pool.{PlainPool};
 ghost use Rattle.nbd_session.specs.declared.phase.Phase.TheVariants.{Flags};
 ghost use Rattle.nbd_session.specs.declared.phase.Profile.TheVariants.{Strict};
 ghost use Rattle.nbd_session.specs.Session.{State, state};
-ghost use Rattle.nbd_session.specs.Clauses.{IsReady};
+ghost use Rattle.nbd_session.specs.Clauses.{HoldsBeside, IsReady};
 ghost use Rattle.nbd_session.specs.Talk.{Converses};
 ghost use Rattle.tp_users.specs.First.{Counted, CountedCall, FirstIsAnswered, IsFirstAnswer, counted, first_text, outline_of_counted};
 ghost use Rattle.tp_users.specs.Users.{IsOutside};
@@ -52,7 +52,7 @@ fn converse_anew<V: Cloned>(
     text: &[u8],
     out: &mut Vec<u8>,
 ) -> Result<(), Refusal>
-    requires { hold_total (V.view.outline pool.old).holds < 64 }
+    requires { HoldsBeside [] (V.view.outline pool.old).holds }
     ensures talks { OnOk result ((s : PlainPool) → V.view.shows pool.old s
         → (new : State) × (c : Counted)
         × Converses outline_of_counted CountedCall (state (Flags Strict) []) text.now (counted s (V.view.failures pool.old)) out.old.items out.new.items new c

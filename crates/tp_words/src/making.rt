@@ -25,8 +25,11 @@ It chooses the four numbers of 'format', prints them on a line as 'format' takes
 what becomes of a file and of a block device, and what --overwrite is for.
 
 A SIZE is a number of bytes below 2^64. With K, M, G or T behind a number it is that many times 1024, 1024^2, 1024^3 or 1024^4 bytes: 10G are
-10737418240. The SIZE of --size is what all volumes together can hold; the image is larger by its metadata. Where the metadata of N volumes
-would take more than 65536 blocks, nothing is made: it is refused by 1, and told how many volumes fit.
+10737418240. The SIZE of --size is what all volumes together can hold; the image is larger by its metadata.
+
+The data blocks are the smallest, of 64 KiB to 1 MiB, with which data, volumes and metadata have room. N is a guarantee, not a limit: while
+there are at most N volumes, no request fails for lack of metadata space. If N volumes have no room even with blocks of 1 MiB, nothing is
+made: it is refused by 1, and the number of volumes that fit is printed.
 
   thinpool create pool.img --size 10G --volume-size 100G --volumes 4";
 

@@ -8,7 +8,7 @@ use Rattle.nbd_session.proofs.clones.make_clone.Goals as goal
 
 -- a snapshot holds nothing
 pub hold_clone-requires : goal.hold_clone-requires
-hold_clone-requires g c = record { ready = let P : FinMap nat_cmp ℕ → Type 0 = λ m. hold_total m < 64 in subst P (sym c.snapshot.ensures.holds) c.requires.ready }
+hold_clone-requires g c = record { ready = let P : FinMap nat_cmp ℕ → Type 0 = λ m. hold_total m < 128 in subst P (sym c.snapshot.ensures.holds) c.requires.ready }
 
 pub returns-in-Ok-hold_clone : goal.returns-in-Ok-hold_clone
 returns-in-Ok-hold_clone g c =

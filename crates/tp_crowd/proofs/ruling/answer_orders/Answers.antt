@@ -9,4 +9,4 @@ use Rattle.tp_crowd.proofs.ruling.answer_orders.Goals as goal
 pub returns : goal.returns
 returns g c =
     leads_so {D = Unit {0}} (λ (at : Unit {0}) (took : List Incoming) (answers : List Answer) (at' : Unit {0}). IsRuled g.V.Volumes.view took answers) (λ _. tt)
-    (λ asks did. AttendsLines asks did c.attend_lines-end.result) _ c.attend_lines-end.new.desk (g.S.Stream.calls c.args.stream.now) (g.S.Stream.calls c.attend_lines-end.new.stream) c.attend_lines-end.ensures
+    (λ asks did. AttendsLines asks did c.attend_lines.result) _ c.attend_lines.new.desk (g.S.Stream.calls c.args.stream.now) (g.S.Stream.calls c.attend_lines.new.stream) c.attend_lines.ensures

@@ -40,8 +40,8 @@ returns-then-has_ended-clause-read g c =
 pub returns-then-has_ended-clause-follows : goal.returns-then-has_ended-clause-follows
 returns-then-has_ended-clause-follows g c =
     let k = c.reach-end.result - c.loop-turn.at in
-    read_more c.args.frames.now c.loop-turn.frames c.pass-has_ended.new.self c.loop-turn.buffer (put_mid c.loop-turn.at k c.loop-turn.buffer c.read_some-received.new.buffer) c.loop-turn.at c.in-Got.count _
-    (take-put_mid_below c.loop-turn.at k c.loop-turn.buffer c.read_some-received.new.buffer c.loop-turn.at (omega arith) (omega (arith, c.loop-turn.invariant.0))) c.loop-turn.invariant.2 (omega arith) c.pass-has_ended.ensures.passed
+    read_more c.args.frames.now c.loop-turn.frames c.pass_read-has_ended.new.self c.loop-turn.buffer (put_mid c.loop-turn.at k c.loop-turn.buffer c.read_some-received.new.buffer) c.loop-turn.at c.in-Got.count _
+    (take-put_mid_below c.loop-turn.at k c.loop-turn.buffer c.read_some-received.new.buffer c.loop-turn.at (omega arith) (omega (arith, c.loop-turn.invariant.0))) c.loop-turn.invariant.2 (omega arith) c.pass_read-has_ended.ensures.passed
 
 pub loop-turn-preserved : goal.loop-turn-preserved
 loop-turn-preserved g c =
@@ -51,8 +51,8 @@ loop-turn-preserved g c =
     (c.read_some-received.ensures.len ∙ length-take-le k (drop c.loop-turn.at c.loop-turn.buffer) (omega (arith, length-drop c.loop-turn.at c.loop-turn.buffer, c.reach-end.ensures.within))) in (
       omega (arith, c.if-at-buffer.false),
       omega (arith, len, c.loop-turn.invariant.1),
-      read_more c.args.frames.now c.loop-turn.frames c.pass-has_ended.new.self c.loop-turn.buffer (put_mid c.loop-turn.at k c.loop-turn.buffer part) c.loop-turn.at c.in-Got.count _
-          (take-put_mid_below c.loop-turn.at k c.loop-turn.buffer part c.loop-turn.at (omega arith) (omega (arith, c.loop-turn.invariant.0))) c.loop-turn.invariant.2 (omega arith) c.pass-has_ended.ensures.passed,
+      read_more c.args.frames.now c.loop-turn.frames c.pass_read-has_ended.new.self c.loop-turn.buffer (put_mid c.loop-turn.at k c.loop-turn.buffer part) c.loop-turn.at c.in-Got.count _
+          (take-put_mid_below c.loop-turn.at k c.loop-turn.buffer part c.loop-turn.at (omega arith) (omega (arith, c.loop-turn.invariant.0))) c.loop-turn.invariant.2 (omega arith) c.pass_read-has_ended.ensures.passed,
       took_more (g.T.Read.remaining c.args.stream.now) (g.T.Read.remaining c.loop-turn.stream) (g.T.Read.remaining c.read_some-received.new.stream) c.loop-turn.buffer part c.loop-turn.at k (omega (arith, c.loop-turn.invariant.0)) c.loop-turn.invariant.3
           c.in-Got.count (omega (arith, c.in-Got.ensures.some)) c.in-Got.ensures.read,
     )

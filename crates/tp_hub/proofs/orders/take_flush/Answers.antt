@@ -1,4 +1,4 @@
-use Rattle.std.proofs.Common.{◌∷◌, [], ◌∙◌, refl, sym}
+use Rattle.std.proofs.Common.{◌∙◌, refl, sym}
 use Rattle.tp_hub.specs.Runs.{AsksFlush}
 use Rattle.tp_hub.proofs.Asking.{flush_so, not_taken}
 use Rattle.tp_hub.proofs.Telling.{on_err}

@@ -1,11 +1,15 @@
+use Rattle.tp_lock.proofs.Seeing.{seen_wider}
 use Rattle.tp_lock.proofs.locked.ask_for.Goals as goal
 
--- the second time that the guard lends the hub, it is as the first one left it
-pub ask_and_look-cause-requires-clause-whole : goal.ask_and_look-cause-requires-clause-whole
-ask_and_look-cause-requires-clause-whole g c = rw c.deref_mut-2.ensures.value c.end_flush.ensures.whole
+pub ask_to_keep-requires-clause-wants : goal.ask_to_keep-requires-clause-wants
+ask_to_keep-requires-clause-wants g c = c.requires.wants c.in-Keep.is
 
-pub returns-clause-told : goal.returns-clause-told
-returns-clause-told g c = c.ask_and_look-cause.ensures.told
+pub returns-then-is_err : goal.returns-then-is_err
+returns-then-is_err g c =
+    let made = c.make_room.ensures in
+    seen_wider g.V.Volumes.view c.args.event c.ask_to_change-then-is_err.result c.args.out.now c.make_room.new.self c.ask_to_change-then-is_err.new.out made.list made.room made.marks c.ask_to_change-then-is_err.ensures
 
-pub returns-clause-made : goal.returns-clause-made
-returns-clause-made g c n apart is some = c.ask_and_look-cause.ensures.made n apart is some
+pub returns-else-is_err : goal.returns-else-is_err
+returns-else-is_err g c =
+    let made = c.make_room.ensures in
+    seen_wider g.V.Volumes.view c.args.event c.ask_to_keep.result c.args.out.now c.make_room.new.self c.ask_to_keep.new.out made.list made.room made.marks c.ask_to_keep.ensures

@@ -1,5 +1,5 @@
 use Rattle.std.proofs.Common.{◌≡◌, ◌⊎◌, ap, subst, arith, ◌∙◌, length}
-use Rattle.std.specs.Prelude.{IsTrue, Err}
+use Rattle.std.specs.Prelude.{IsTrue, Err, not}
 use Rattle.std.proofs.lemmas.Result.{err_from_is_err_and}
 use Rattle.tp_model.specs.declared.refusal.Refusal.TheVariants.{Damaged, Fault}
 use Rattle.tp_model.specs.Disk.{DiskState, seen}
@@ -7,7 +7,7 @@ use Rattle.tp_layout.specs.declared.counts.Part.{Part}
 use Rattle.tp_tm.specs.Tm.{now_of}
 use Rattle.tp_meta.specs.Opening.{HasCounts, IsShort, LacksCounts}
 use Rattle.tp_meta.proofs.Clearing.{err_is, no_refusal, not_err}
-use Rattle.tp_meta.proofs.Telling.{not_refused, opened_holds, seen_size, told_full, told_of_counts}
+use Rattle.tp_meta.proofs.Telling.{not_refused, opened_holds, seen_size, told_full, told_of_counts, told_uncounted}
 use Rattle.tp_meta.proofs.opening.open_store.Goals as goal
 
 pub returns-in_err-superblock-clause-refused : goal.returns-in_err-superblock-clause-refused
@@ -55,6 +55,23 @@ returns-then-used_metadata-metadata_blocks-clause-refused g c no_fault no_memory
     (told_full image sb c.in_ok-tm.tm (c.in_ok-superblock.ensures.found (λ e. not_err sb Fault e) honest) has c.in_ok-tm.ensures.alike.0
     (omega (arith, c.used_metadata.ensures, c.metadata_blocks.ensures.value, c.metadata_blocks.ensures.within.metadata_least, c.if-used_metadata-metadata_blocks.true)))
 
+pub returns-then-not-are_counted-clause-told : goal.returns-then-not-are_counted-clause-told
+returns-then-not-are_counted-clause-told g c no_fault no_memory honest =
+    let image = seen (g.D.Disk.state c.args.disk.now).cells in
+    let sb = c.in_ok-superblock.superblock in
+    let same = c.in_ok-superblock.ensures.state in
+    let has = λ (part : Part). subst (λ (d : DiskState). HasCounts (seen d.cells) sb part (now_of c.in_ok-tm.tm part)) same (c.in_ok-tm.ensures.found (ap (λ (d : DiskState). d.is_honest) same ∙ honest) part) in
+    told_uncounted image sb c.in_ok-tm.tm (c.in_ok-superblock.ensures.found (λ e. not_err sb Fault e) honest) has (c.are_counted.ensures.no (ap not c.if-not-are_counted.true))
+
+pub returns-then-not-are_counted-clause-refused : goal.returns-then-not-are_counted-clause-refused
+returns-then-not-are_counted-clause-refused g c no_fault no_memory honest last s commit =
+    let image = seen (g.D.Disk.state c.args.disk.now).cells in
+    let sb = c.in_ok-superblock.superblock in
+    let same = c.in_ok-superblock.ensures.state in
+    let has = λ (part : Part). subst (λ (d : DiskState). HasCounts (seen d.cells) sb part (now_of c.in_ok-tm.tm part)) same (c.in_ok-tm.ensures.found (ap (λ (d : DiskState). d.is_honest) same ∙ honest) part) in
+    not_refused image last s commit Damaged
+    (told_uncounted image sb c.in_ok-tm.tm (c.in_ok-superblock.ensures.found (λ e. not_err sb Fault e) honest) has (c.are_counted.ensures.no (ap not c.if-not-are_counted.true)))
+
 pub returns-clause-told : goal.returns-clause-told
 returns-clause-told g c no_fault no_memory honest =
     let old = g.D.Disk.state c.args.disk.now in
@@ -65,6 +82,7 @@ returns-clause-told g c no_fault no_memory honest =
       chosen = c.in_ok-superblock.ensures.found (λ e. not_err sb Fault e) honest;
       whole = omega (arith, c.in_ok-tm.ensures.whole, ap (λ (d : DiskState). d.size) same, sized);
       counts = λ (part : Part). subst (λ (d : DiskState). HasCounts (seen d.cells) sb part (now_of c.in_ok-tm.tm part)) same (c.in_ok-tm.ensures.found (ap (λ (d : DiskState). d.is_honest) same ∙ honest) part);
+      counted = c.are_counted.ensures.yes c.if-not-are_counted.false;
     }
 
 pub returns-clause-holds : goal.returns-clause-holds

@@ -13,7 +13,7 @@ pub hold-answer-requires : goal.hold-answer-requires
 hold-answer-requires g c =
     let lent = c.args.lent.now in
     let was = taken g.M.Metadata.geometry lent.inside lent.there c.unwrap-inside.result c.begin-pool.result (sym c.take.ensures.value ∙ c.unwrap-inside.ensures) c.facts.ensures c.begin-pool.ensures in
-    subst (λ (h : Held g.row.M.Denot). hold_total (holds_of h.holders) < 64) (sym was.1) c.requires.few
+    subst (λ (h : Held g.row.M.Denot). hold_total (holds_of h.holders) < 128) (sym was.1) c.requires.few
 
 pub end-after-requires : goal.end-after-requires
 end-after-requires g c =

@@ -1,18 +1,20 @@
-use Rattle.std.proofs.Common.{◌≡◌, ℕ, ◌<◌, List, [], ◌++◌, length, refl, subst, ap, arith}
-use Rattle.tp_model.specs.Pool.{PlainPool, hold_total}
+use Rattle.std.proofs.Common.{◌≡◌, ℕ, ◌<◌, List, [], ◌++◌, ◌∙◌, length, refl, subst, ap}
+use Rattle.tp_model.specs.Pool.{PlainPool}
 use Rattle.nbd_session.specs.declared.phase.Phase.TheVariants.{Flags}
 use Rattle.nbd_session.specs.declared.phase.Profile.TheVariants.{Strict}
 use Rattle.nbd_session.specs.Session.{State, state}
 use Rattle.nbd_session.specs.Talk.{Converses, Talks}
 use Rattle.tp_pool.specs.Held.{HasUse}
 use Rattle.tp_holders.specs.Holders.{Holding, holds_of}
-use Rattle.tp_holders.proofs.Rows.{total_is}
+use Rattle.tp_holders.proofs.Rows.{holds_none}
+use Rattle.nbd_session.specs.Clauses.{HoldsBeside}
+use Rattle.nbd_session.proofs.Counting.{none_beside}
 use Rattle.tp_users.specs.First.{Counted, CountedCall, FirstIsAnswered, IsFirstAnswer, counted, first_text, outline_of_counted}
 use Rattle.tp_users.specs.Users.{IsBlank}
 use Rattle.tp_users.proofs.first.serve_first.Goals as goal
 
-none_held : (holders : List Holding) → holders ≡ [] → hold_total (holds_of holders) < 64
-none_held holders none = omega (arith, total_is holders, ap (λ (hs : List Holding). length hs) none)
+none_held : (holders : List Holding) → holders ≡ [] → HoldsBeside [] (holds_of holders)
+none_held holders none = none_beside (holds_of holders) (ap (λ (hs : List Holding). holds_of hs) none ∙ holds_none)
 
 -- what a session that was just opened talks of this text is a first answer
 answered : (payload text before after : List ℕ) (s : PlainPool) (was failures : ℕ) (c : Counted) (old new : State) → FirstIsAnswered → length payload ≡ 512 → text ≡ first_text payload → IsBlank 0 s → HasUse s

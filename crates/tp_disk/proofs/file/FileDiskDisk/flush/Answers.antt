@@ -1,4 +1,4 @@
-use Rattle.std.proofs.Common.{◌≡◌, sym, ◌∙◌, arith}
+use Rattle.std.proofs.Common.{◌∙◌, arith}
 use Rattle.std.specs.Prelude.{true, false}
 use Rattle.tp_disk.proofs.Unclaimed.{flushed_is_settled, kept_flush, unflushed_is_settled}
 use Rattle.tp_disk.proofs.file.FileDiskDisk.flush.Goals as goal
@@ -8,7 +8,6 @@ invariant_of-self c =
     let disk = c.args.self.now in
     let kept = kept_flush true disk.shadow.state c.note.new.self.state disk.well_formed c.note.ensures in
     record {
-      is_no_stream = disk.is_no_stream;
       size_is = kept.size_is ∙ disk.size_is;
       unclaimed = kept.claim_is ∙ disk.unclaimed;
       well_formed = kept.well_formed;
@@ -21,7 +20,6 @@ invariant_of-self-in-Err c =
     let disk = c.args.self.now in
     let kept = kept_flush false disk.shadow.state c.note-in-Err.new.self.state disk.well_formed c.note-in-Err.ensures in
     record {
-      is_no_stream = disk.is_no_stream;
       size_is = kept.size_is ∙ disk.size_is;
       unclaimed = kept.claim_is ∙ disk.unclaimed;
       well_formed = kept.well_formed;

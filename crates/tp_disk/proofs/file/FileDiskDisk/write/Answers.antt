@@ -1,4 +1,4 @@
-use Rattle.std.proofs.Common.{rules, ◌≡◌, ◌∙◌, arith}
+use Rattle.std.proofs.Common.{rules, ◌∙◌, arith}
 use Rattle.tp_model.specs.Sectors.{sectors_of}
 use Rattle.tp_model.proofs.DiskLaws.{Writes-after_write, length-sectors_of}
 use Rattle.tp_disk.specs.File.{file_state}
@@ -10,7 +10,6 @@ invariant_of-self c =
     let disk = c.args.self.now in
     let kept = kept_write c.args.at c.args.bytes.now c.is_ok-ok.result disk.shadow.state c.note.new.self.state disk.well_formed c.requires.whole c.note.ensures in
     record {
-      is_no_stream = disk.is_no_stream;
       size_is = kept.size_is ∙ disk.size_is;
       unclaimed = kept.claim_is ∙ disk.unclaimed;
       well_formed = kept.well_formed;

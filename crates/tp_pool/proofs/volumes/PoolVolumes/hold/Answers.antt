@@ -9,7 +9,7 @@ use Rattle.tp_pool.proofs.volumes.PoolVolumes.hold.Goals as goal
 
 pub hold-requires : goal.hold-requires
 hold-requires g c =
-    let few : hold_total (holds_of c.args.self.now.holders) < 64 = c.requires in
+    let few : hold_total (holds_of c.args.self.now.holders) < 128 = c.requires in
     let all = total_is c.args.self.now.holders in
     omega (arith, few, all)
 
