@@ -419,7 +419,7 @@ IsMade id size manner r rest last Done sent next =
     (IsOutcome (outcome [] (Transmission id size (Works manner rest))) sent next)
 IsMade id size manner r rest last answer sent next = IsOutcome (outcome (reply_to r.cookie answer) (Transmission id size (Listens manner))) sent next
 
--- What a walk over an older volume told for a BLOCK_STATUS of a volume that has these slots. A refusal, as where the older one is not there any more, is the answer.
+-- What a walk over an older volume told for a BLOCK_STATUS of a volume that has these slots. A refusal is the answer.
 abbrev pub IsCompared : Manner → ℕ → Request → List (ℕ × ℕ) → Answer → List ℕ → Type 0
 IsCompared manner unit r slots (Listed old) sent = TellsSince manner.tells_blocks unit r old slots sent
 IsCompared manner unit r slots (Refused reason) sent = sent ≡ error_chunk (nbd_code (nbd_error reason)) r.cookie

@@ -3,6 +3,9 @@ ghost use Rattle.std.specs.Prelude.{◌≡◌, ◌+◌, ◌/◌, ◌%◌, ◌≤
 ghost use Rattle.tp_model.specs.Sectors.{sectors_of, bytes_at};
 ghost use Rattle.tp_model.specs.Disk.{DiskState, IsWellFormed, seen, Writes, after_read, after_write, after_flush};
 
+/// Bytes of a sector.
+pub(crate) const SECTOR: u64 = 512;
+
 /// A disk has at most this many sectors: more bytes have no numbers below 2^63.
 pub(crate) const MOST_SECTORS: u64 = 1 << 54;
 

@@ -4,7 +4,7 @@
 ghost use Rattle.std.specs.Prelude.{◌≡◌, ◌<◌, ◌≤◌, ◌-◌, ◌^◌, IfOk, OnOk, is_ok, false};
 ghost use Rattle.tp_model.specs.Disk.{IsSettled, IsWellFormed, after_flush};
 
-use crate::disk::MOST_SECTORS;
+use crate::disk::{MOST_SECTORS, SECTOR};
 use crate::opening::{
     LockedFile, OpenError, OpenStep, drop_cached, open_or_make, open_there, open_there_to_read,
     sync_folder,
@@ -14,12 +14,11 @@ use crate::shadow::{Shadow, Step};
 use crate::syncs::{Synced, Syncs};
 use crate::trouble::{DiskCall, Trouble, note_trouble};
 use crate::{Disk, Fault, SharedDisk};
+use std::alloc::Global;
 use std::fs::File;
 use std::io;
 use std::os::unix::fs::FileExt;
 use std::rt::Files;
-
-const SECTOR: u64 = 512;
 
 /// The most bytes that one call of the system writes. Linux keeps what one call wrote in a folio of that size where it can, and a later write of a part of a folio looks at
 /// all of it: 4 KiB take some 17 microseconds in one of a MiB, and 3 in one of 64 KiB. Long writes are no slower in such pieces.
@@ -74,33 +73,35 @@ impl FileDisk {
     /// cannot be synced or dropped from the page cache, where it is neither a regular file nor a block
     /// device, another open holds its lock, or it would have one of descriptors 0 to 2, and where there
     /// are more than 2^54 sectors.
-    pub fn open<R: Files<File = File>>(rt: &R, path: &str) -> Result<FileDisk, OpenError>
+    pub fn open<R>(rt: &R, path: &str) -> Result<FileDisk, OpenError>
+    where
+        R: Files<File = File> + Alloc<A = Global>,
         ensures { IfOk result (λ disk. IsHandedOut (file_state disk)) }
     {
         let file = LockedFile::exclusive(open_there(rt, path)?)?;
         let size = file.length()?;
-        FileDisk::over(file, size / SECTOR)
+        FileDisk::over(rt.alloc(), file, size / SECTOR)
     }
 
     /// The same disk, to read alone: it needs no right to write the file, and each write of it is a `Fault`. Any number of such
     /// disks may be open over one file, and none beside a disk of `open` or `create`. Refused as `open`.
-    pub fn open_to_read<R: Files<File = File>>(rt: &R, path: &str) -> Result<FileDisk, OpenError>
+    pub fn open_to_read<R>(rt: &R, path: &str) -> Result<FileDisk, OpenError>
+    where
+        R: Files<File = File> + Alloc<A = Global>,
         ensures { IfOk result (λ disk. IsHandedOut (file_state disk)) }
     {
         let file = LockedFile::shared(open_there_to_read(rt, path)?)?;
         let size = file.length()?;
-        FileDisk::over(file, size / SECTOR)
+        FileDisk::over(rt.alloc(), file, size / SECTOR)
     }
 
     /// A disk of this many sectors. Makes the file where it is absent, with rights for its owner alone, and then also waits until its folder is on the
     /// device; and sets its length: what an existing file held stays up to that length, and what is added is zero. Refused as `open`, where the lock
     /// is tested before the length is set, for a block device, whose length is its own, and for more than 2^54 sectors, for which no file is touched. A link to a file that is absent is refused,
     /// since that file's folder is another one.
-    pub fn create<R: Files<File = File>>(
-        rt: &R,
-        path: &str,
-        sectors: u64,
-    ) -> Result<FileDisk, OpenError>
+    pub fn create<R>(rt: &R, path: &str, sectors: u64) -> Result<FileDisk, OpenError>
+    where
+        R: Files<File = File> + Alloc<A = Global>,
         ensures size { IfOk result (λ disk. (file_state disk).size ≡ sectors) }
         ensures untouched { IfOk result (λ disk. IsHandedOut (file_state disk)) }
     {
@@ -110,7 +111,7 @@ impl FileDisk {
         let (file, is_new) = open_or_make(rt, path)?;
         let file = LockedFile::exclusive(file)?;
         file.set_length(SECTOR * sectors)?;
-        let disk = FileDisk::over(file, sectors)?;
+        let disk = FileDisk::over(rt.alloc(), file, sectors)?;
         if is_new {
             sync_folder(rt, path)?;
         }
@@ -134,7 +135,7 @@ impl FileDisk {
 
     /// The disk over a locked file of this many sectors, all of which is on the device. The caller has
     /// read nothing of it.
-    fn over(file: LockedFile, size: u64) -> Result<FileDisk, OpenError>
+    fn over(alloc: Global, file: LockedFile, size: u64) -> Result<FileDisk, OpenError>
         ensures size { IfOk result (λ disk. (file_state disk).size ≡ size) }
         ensures untouched { IfOk result (λ disk. IsHandedOut (file_state disk)) }
     {
@@ -150,7 +151,7 @@ impl FileDisk {
             size,
             shadow,
             trouble: None,
-            refused: RefusedReads::none(),
+            refused: RefusedReads::none(alloc),
             writes: 0,
             unsynced: 0,
             last,

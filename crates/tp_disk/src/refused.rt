@@ -1,12 +1,9 @@
 //! Shared reads of a file that the system refused.
 
-use crate::syncs::EIO;
-use arrayvec::ArrayVec;
+use crate::disk::SECTOR;
+use std::alloc::Global;
 use std::io;
 use std::sync::Mutex;
-
-/// Bytes of a sector.
-const SECTOR: u64 = 512;
 
 /// The most refused reads that are remembered: a server has this many clients, each with one read at a
 /// time.
@@ -20,17 +17,6 @@ struct RefusedRead {
     /// The length in bytes.
     length: usize,
     error: io::Error,
-}
-
-/// An unused entry of the table.
-impl Default for RefusedRead {
-    fn default() -> RefusedRead {
-        RefusedRead {
-            at: 0,
-            length: 0,
-            error: io::Error::from_raw_os_error(EIO),
-        }
-    }
 }
 
 impl RefusedRead {
@@ -49,25 +35,26 @@ impl RefusedRead {
 /// call of the system, which is likely to fail too.
 #[derive(Drop)]
 pub(crate) struct RefusedReads {
-    reads: Mutex<ArrayVec<RefusedRead, MOST_REMEMBERED>>,
+    reads: Mutex<Vec<RefusedRead>>,
 }
 
 impl RefusedReads {
     /// No read was refused.
-    pub(crate) fn none() -> RefusedReads {
+    pub(crate) fn none(alloc: Global) -> RefusedReads {
         RefusedReads {
-            reads: Mutex::new(ArrayVec::new()),
+            reads: Mutex::new(Vec::new(alloc)),
         }
     }
 
-    /// Remembers a read that the system refused. The oldest one is forgotten if there is no space, and
-    /// this one if another thread is in this call: the system is then asked a second time.
+    /// Remembers a read that the system refused. The oldest one is forgotten if there are
+    /// `MOST_REMEMBERED`, and this one if memory is refused or another thread is in this call: the
+    /// system is then asked a second time.
     pub(crate) fn note(&self, at: u64, length: usize, error: io::Error) {
         if let Some(mut reads) = self.reads.try_lock() {
-            if reads.is_full() {
+            if reads.len() >= MOST_REMEMBERED {
                 reads.remove(0);
             }
-            reads.push(RefusedRead { at, length, error });
+            _ = reads.push(RefusedRead { at, length, error });
         }
     }
 

@@ -194,8 +194,8 @@ impl<V: Staged> MidMessage<V> {
     ghost use Rattle.tp_hub.specs.Serving.{HubState, sessions_of};
     ghost use Rattle.tp_hub.specs.Unkept.{IsHubOrdered, IsOrdering, IsUnkept};
 
-    /// Takes READs and BLOCK_STATUSes as `Hub::ask_shared`. None of a session that is told since an older volume: that one may be made or removed by this very message,
-    /// of which nobody was told yet.
+    /// Takes READs and BLOCK_STATUSes as `Hub::ask_shared`, except of a session that compares its
+    /// volume with an older one: those wait until the message is done.
     pub fn ask_shared(&self, number: u8, piece: &[u8], out: &mut Answers) -> Option<Ran>
         requires { number < 64 }
         ensures asked { IfSome result (λ ran. IsAsked (λ took answers. RunsSo V.view (sessions_of self.now.slots) self.now.pool took answers (sessions_of self.now.slots) self.now.pool)

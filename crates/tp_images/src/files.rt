@@ -7,6 +7,7 @@ use crate::images::Images;
 use crate::log::DeedLog;
 use crate::noting::{closed, no_deeds, opened};
 use crate::way::Way;
+use std::alloc::Global;
 use std::fs::{self, File};
 use std::os::unix::fs::FileTypeExt;
 use std::rt::Files;
@@ -14,13 +15,19 @@ use tp_disk::{FileDisk, OpenError};
 
 /// The files and block devices of a system, by their paths. That they are honest disks is not claimed, so nothing is said of what they hold.
 #[derive(Drop)]
-pub struct FileImages<'r, R: Files<File = File>> {
+pub struct FileImages<'r, R>
+where
+    R: Files<File = File> + Alloc<A = Global>,
+{
     files: &'r R,
     log: DeedLog,
     ghost unclaimed: { All ClaimsNothing log.deeds },
 }
 
-impl<'r, R: Files<File = File>> FileImages<'r, R> {
+impl<'r, R> FileImages<'r, R>
+where
+    R: Files<File = File> + Alloc<A = Global>,
+{
     /// The files of this system, none of which was asked for yet.
     pub fn new(files: &'r R) -> FileImages<'r, R>
         ensures { result.log.deeds ≡ [] }
@@ -32,7 +39,10 @@ impl<'r, R: Files<File = File>> FileImages<'r, R> {
     }
 }
 
-impl<'r, R: Files<File = File>> Images for FileImages<'r, R> {
+impl<'r, R> Images for FileImages<'r, R>
+where
+    R: Files<File = File> + Alloc<A = Global>,
+{
     type Disk = FileDisk;
 
     ghost deeds = { λ images. images.log.deeds };

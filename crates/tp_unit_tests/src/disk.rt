@@ -344,7 +344,7 @@ fn removed<R: Files<File = File>, T: Drop>(
 }
 
 // What is told of a file that is made, and how many sectors it has and what they are filled with when it is opened again.
-fn made_and_opened<R: Files<File = File>>(rt: &R) -> Result<(Told, (u64, [u8; 8])), Fault> {
+fn made_and_opened<R: Files<File = File> + Alloc<A = Global>>(rt: &R) -> Result<(Told, (u64, [u8; 8])), Fault> {
     let told = told_of_opened(FileDisk::create(rt, "kept.img", 8))?;
     let kept = shown_of_opened(FileDisk::open(rt, "kept.img"));
     Ok((told, removed(rt, "kept.img", kept)?))
@@ -400,7 +400,7 @@ fn long_write(
 }
 
 // The same of a file.
-fn long_file<R: Files<File = File>>(
+fn long_file<R: Files<File = File> + Alloc<A = Global>>(
     rt: &R,
     alloc: Global,
 ) -> Result<(Option<usize>, [u8; 2]), Fault> {
@@ -442,7 +442,7 @@ fn told_by_reader(disk: &MemDisk) -> Looked {
 }
 
 // The byte that a shared read gives of sector 3 of a file that was filled with 5.
-fn shared_of_file<R: Files<File = File>>(rt: &R) -> Result<Option<u8>, Fault> {
+fn shared_of_file<R: Files<File = File> + Alloc<A = Global>>(rt: &R) -> Result<Option<u8>, Fault> {
     let shared = match FileDisk::create(rt, "looked.img", 8) {
         Ok(mut disk) => filled_and_shared(&mut disk),
         Err(_) => Err(Fault),
@@ -482,7 +482,7 @@ fn sectors_of(opened: Result<FileDisk, OpenError>) -> Result<u64, Fault> {
 }
 
 // How many sectors a file has of three and a part of one.
-fn part_of_a_sector<R: Files<File = File>>(rt: &R) -> Result<u64, Fault> {
+fn part_of_a_sector<R: Files<File = File> + Alloc<A = Global>>(rt: &R) -> Result<u64, Fault> {
     make_file(rt, "part.img", 3 * 512 + 100)?;
     let sectors = sectors_of(FileDisk::open(rt, "part.img"));
     removed(rt, "part.img", sectors)
@@ -522,7 +522,7 @@ fn two_of_opened(opened: Result<FileDisk, OpenError>) -> Result<(u64, [u8; 2]), 
 
 // Makes a file of three sectors and a part of one, fills a sector of it, and makes a disk of five of it: how many it has, what two are filled
 // with, and how long the file is.
-fn made_again<R: Files<File = File>>(rt: &R) -> Result<((u64, [u8; 2]), u64), Fault> {
+fn made_again<R: Files<File = File> + Alloc<A = Global>>(rt: &R) -> Result<((u64, [u8; 2]), u64), Fault> {
     make_file(rt, "again.img", 3 * 512 + 100)?;
     fill_opened(FileDisk::open(rt, "again.img"))?;
     let told = two_of_opened(FileDisk::create(rt, "again.img", 5))?;
@@ -537,7 +537,7 @@ fn a_file_that_is_there_stays(rt: HostRuntime) {
 }
 
 // What two others are told that would open a file or set its length, how long it is then, and how many sectors its disk has.
-fn beside_another<R: Files<File = File>>(rt: &R) -> Result<[Result<u64, Fault>; 4], Fault> {
+fn beside_another<R: Files<File = File> + Alloc<A = Global>>(rt: &R) -> Result<[Result<u64, Fault>; 4], Fault> {
     let first = FileDisk::create(rt, "one.img", 8);
     let refused = sectors_of(FileDisk::open(rt, "one.img"));
     let resized = sectors_of(FileDisk::create(rt, "one.img", 3));
@@ -554,7 +554,7 @@ fn a_file_is_one_disk_at_a_time(rt: HostRuntime) {
 }
 
 // How many sectors a file has that is made, and then opened.
-fn made_then_opened<R: Files<File = File>>(rt: &R) -> Result<[u64; 2], Fault> {
+fn made_then_opened<R: Files<File = File> + Alloc<A = Global>>(rt: &R) -> Result<[u64; 2], Fault> {
     let made = sectors_of(FileDisk::create(rt, "free.img", 8))?;
     let opened = sectors_of(FileDisk::open(rt, "free.img"));
     Ok([made, removed(rt, "free.img", opened)?])
@@ -574,7 +574,7 @@ fn mode_of<R: Files<File = File>>(rt: &R, name: &str) -> Result<u32, Fault> {
 }
 
 // What is told of a directory that is opened, and how many sectors a file has that is made, and by what mode it is.
-fn folder_and_made<R: Files<File = File>>(rt: &R) -> Result<(Result<u64, Fault>, u64, u32), Fault> {
+fn folder_and_made<R: Files<File = File> + Alloc<A = Global>>(rt: &R) -> Result<(Result<u64, Fault>, u64, u32), Fault> {
     let refused = sectors_of(FileDisk::open(rt, "."));
     let sectors = sectors_of(FileDisk::create(rt, "owned.img", 8))?;
     let mode = mode_of(rt, "owned.img");
@@ -598,7 +598,7 @@ fn shorten<R: Files<File = File>>(
 }
 
 // The same of a file.
-fn shortened<R: Files<File = File>>(rt: &R) -> Result<[Result<u8, Fault>; 2], Fault> {
+fn shortened<R: Files<File = File> + Alloc<A = Global>>(rt: &R) -> Result<[Result<u8, Fault>; 2], Fault> {
     let told = match FileDisk::create(rt, "short.img", 4) {
         Ok(mut disk) => shorten(rt, &mut disk),
         Err(_) => Err(Fault),
@@ -607,7 +607,7 @@ fn shortened<R: Files<File = File>>(rt: &R) -> Result<[Result<u8, Fault>; 2], Fa
 }
 
 // What is told of files that are absent, or would be too large.
-fn refusals<R: Files<File = File>>(rt: &R) -> [Result<u64, Fault>; 4] {
+fn refusals<R: Files<File = File> + Alloc<A = Global>>(rt: &R) -> [Result<u64, Fault>; 4] {
     [
         sectors_of(FileDisk::open(rt, "missing.img")),
         sectors_of(FileDisk::create(rt, "missing/disk.img", 8)),
@@ -634,7 +634,7 @@ fn is_told(alloc: Global, opened: Result<FileDisk, OpenError>, text: &str) -> bo
 }
 
 // Whether it is told of each of four files why it is not opened.
-fn are_told<R: Files<File = File>>(rt: &R, alloc: Global) -> [bool; 4] {
+fn are_told<R: Files<File = File> + Alloc<A = Global>>(rt: &R, alloc: Global) -> [bool; 4] {
     [
         is_told(
             alloc,
@@ -665,7 +665,7 @@ fn why_a_file_is_not_opened_is_told(rt: HostRuntime) {
 }
 
 // Whether it is told of a file that another disk has.
-fn is_told_in_use<R: Files<File = File>>(rt: &R, alloc: Global, name: &str) -> bool {
+fn is_told_in_use<R: Files<File = File> + Alloc<A = Global>>(rt: &R, alloc: Global, name: &str) -> bool {
     match FileDisk::create(rt, name, 8) {
         Ok(_first) => is_told(
             alloc,
@@ -677,7 +677,7 @@ fn is_told_in_use<R: Files<File = File>>(rt: &R, alloc: Global, name: &str) -> b
 }
 
 // How many sectors a disk has that is made by this link to this file, where the file is absent, and whether the file is there then.
-fn made_by_link<R: Files<File = File>>(rt: &R) -> io::Result<(Result<u64, Fault>, bool)> {
+fn made_by_link<R: Files<File = File> + Alloc<A = Global>>(rt: &R) -> io::Result<(Result<u64, Fault>, bool)> {
     symlink(rt, "absent.img", "link.img")?;
     let sectors = sectors_of(FileDisk::create(rt, "link.img", 8));
     let is_there = fs::exists(rt, "absent.img")?;
@@ -686,7 +686,7 @@ fn made_by_link<R: Files<File = File>>(rt: &R) -> io::Result<(Result<u64, Fault>
 }
 
 // Whether it is told that a file is in use, and what is told of a link.
-fn in_use_and_made<R: Files<File = File>>(
+fn in_use_and_made<R: Files<File = File> + Alloc<A = Global>>(
     rt: &R,
     alloc: Global,
 ) -> Result<(bool, Result<u64, Fault>, bool), Fault> {
@@ -733,7 +733,7 @@ fn is_shortening_told<R: Files<File = File>>(
 }
 
 // The same of a file.
-fn is_trouble_of_file_told<R: Files<File = File>>(
+fn is_trouble_of_file_told<R: Files<File = File> + Alloc<A = Global>>(
     rt: &R,
     alloc: Global,
 ) -> Result<(bool, bool), Fault> {
@@ -764,7 +764,7 @@ fn told_of_read(opened: Result<FileDisk, OpenError>) -> Result<Unwritten, Fault>
 }
 
 // The same of a file that is filled, and then opened to read.
-fn filled_and_read<R: Files<File = File>>(rt: &R) -> Result<Unwritten, Fault> {
+fn filled_and_read<R: Files<File = File> + Alloc<A = Global>>(rt: &R) -> Result<Unwritten, Fault> {
     fill_opened(FileDisk::create(rt, "read.img", 4))?;
     let told = told_of_read(FileDisk::open_to_read(rt, "read.img"));
     removed(rt, "read.img", told)
@@ -777,7 +777,7 @@ fn a_file_that_is_opened_to_read_stays(rt: HostRuntime) {
 }
 
 // How many sectors two disks have that are opened to read one file, and what is told of a third one that would write it.
-fn read_by_two<R: Files<File = File>>(rt: &R) -> [Result<u64, Fault>; 3] {
+fn read_by_two<R: Files<File = File> + Alloc<A = Global>>(rt: &R) -> [Result<u64, Fault>; 3] {
     let first = FileDisk::open_to_read(rt, "shared.img");
     let second = FileDisk::open_to_read(rt, "shared.img");
     let third = sectors_of(FileDisk::open(rt, "shared.img"));
@@ -785,7 +785,7 @@ fn read_by_two<R: Files<File = File>>(rt: &R) -> [Result<u64, Fault>; 3] {
 }
 
 // The same of a file of four sectors.
-fn made_and_read_by_two<R: Files<File = File>>(
+fn made_and_read_by_two<R: Files<File = File> + Alloc<A = Global>>(
     rt: &R,
 ) -> Result<(u64, [Result<u64, Fault>; 3]), Fault> {
     let sectors = sectors_of(FileDisk::create(rt, "shared.img", 4))?;
@@ -798,7 +798,7 @@ fn disks_that_are_opened_to_read_share_a_file(rt: HostRuntime) {
 }
 
 // What is told of a file that is opened to read while it is written, of one that is absent and of a directory, and how many sectors the first one has.
-fn read_beside_a_writer<R: Files<File = File>>(rt: &R) -> Result<[Result<u64, Fault>; 4], Fault> {
+fn read_beside_a_writer<R: Files<File = File> + Alloc<A = Global>>(rt: &R) -> Result<[Result<u64, Fault>; 4], Fault> {
     let disk = FileDisk::create(rt, "written.img", 4);
     let written = sectors_of(FileDisk::open_to_read(rt, "written.img"));
     let absent = sectors_of(FileDisk::open_to_read(rt, "unwritten.img"));
