@@ -113,7 +113,7 @@ def has_one_program_at_a_time(ground):
         try:
             for words in (("message", node, "create_thin 1"), ("status", node), ("check", node), ("format", node, *SIZES)):
                 ran = ground.run("--explain", *words)
-                want((ran.status == 1 and b"in use by another program" in ran.err, f"{words[0]} beside a server: {ran.told()}"))
+                want((ran.status == 1 and b"in use by another process" in ran.err, f"{words[0]} beside a server: {ran.told()}"))
         finally:
             server.finish()
 

@@ -16,7 +16,7 @@ const OWNER_ONLY: u32 = 0o600;
 /// The descriptors of the standard streams are 0 to this one.
 const LAST_STREAM: i32 = 2;
 
-/// What is asked of the system before a file is a disk.
+/// A system call that opening a file as a disk makes.
 #[derive(Clone, Copy, Debug, PartialEq, Eq)]
 pub enum OpenStep {
     Open,
@@ -28,18 +28,18 @@ pub enum OpenStep {
     SyncFolder,
 }
 
-/// Why a file was not opened as a disk.
+/// Why a file was not opened as a disk. The text follows the file's name.
 #[derive(Clone, Copy, Debug)]
 pub enum OpenError {
-    /// The system refused a step, and said why.
+    /// The system call of this step failed.
     System { step: OpenStep, error: io::Error },
     /// It is neither a regular file nor a block device.
     NotRegular,
-    /// Another open of it holds its lock.
+    /// Another open file has its lock.
     InUse,
-    /// There would be more than 2^54 sectors.
+    /// It would have more than 2^54 sectors.
     TooLarge,
-    /// A standard stream is closed, and the file would stand in its place.
+    /// A standard stream is closed, and the file got its descriptor.
     StandardStream,
 }
 
@@ -60,25 +60,24 @@ impl Display for OpenStep {
         f.write_str(match self {
             OpenStep::Open => "cannot be opened",
             OpenStep::Lock => "cannot be locked",
-            OpenStep::Measure => "does not tell its length",
-            OpenStep::SetLength => "cannot be set to its length",
+            OpenStep::Measure => "has a length that cannot be read",
+            OpenStep::SetLength => "cannot be resized",
             OpenStep::Sync => "cannot be synced",
             OpenStep::DropCached => "cannot be dropped from the page cache",
-            OpenStep::SyncFolder => "is in a folder that cannot be synced",
+            OpenStep::SyncFolder => "is in a directory that cannot be synced",
         })
     }
 }
 
-/// It is told behind the file's name.
 impl Display for OpenError {
     fn fmt<W: fmt::Write>(&self, f: &mut Formatter<W>) -> fmt::Result {
         match self {
             OpenError::System { step, error } => write!(f, "{step}: {error}"),
-            OpenError::NotRegular => f.write_str("is no regular file and no block device"),
-            OpenError::InUse => f.write_str("is in use by another program (its lock is held)"),
-            OpenError::TooLarge => f.write_str("would have more than 2^54 sectors"),
+            OpenError::NotRegular => f.write_str("is neither a regular file nor a block device"),
+            OpenError::InUse => f.write_str("is in use by another process, which holds its lock"),
+            OpenError::TooLarge => f.write_str("is larger than 2^54 sectors of 512 bytes"),
             OpenError::StandardStream => f.write_str(
-                "would stand in the place of a standard stream that is closed",
+                "would be opened as a standard stream, because one is closed",
             ),
         }
     }

@@ -133,7 +133,7 @@ const FILES: &[Wrong] = &[
     ),
     (
         &["thinpool", "status", "."],
-        "thinpool: 5 Fault\nthinpool: . is no regular file and no block device: an image is one\n",
+        "thinpool: 5 Fault\nthinpool: . is neither a regular file nor a block device: an image is one\n",
     ),
     (
         &["thinpool", "message", ".", "create_thin 0"],
@@ -237,19 +237,19 @@ const POOL: &[Wrong] = &[
 const HELD: &[Wrong] = &[
     (
         &["thinpool", "status", "held.img"],
-        "thinpool: 5 Fault\nthinpool: held.img is in use by another program (its lock is held)\n",
+        "thinpool: 5 Fault\nthinpool: held.img is in use by another process, which holds its lock\n",
     ),
     (
         &["thinpool", "check", "held.img"],
-        "thinpool: 5 Fault\nthinpool: held.img is in use by another program (its lock is held)\n",
+        "thinpool: 5 Fault\nthinpool: held.img is in use by another process, which holds its lock\n",
     ),
     (
         &["thinpool", "message", "held.img", "create_thin 1"],
-        "thinpool: 5 Fault\nthinpool: held.img is in use by another program (its lock is held)\n",
+        "thinpool: 5 Fault\nthinpool: held.img is in use by another process, which holds its lock\n",
     ),
     (
         &["thinpool", "format", "held.img", "128", "16", "2048", "4"],
-        "thinpool: 5 Fault\nthinpool: held.img is in use by another program (its lock is held)\n",
+        "thinpool: 5 Fault\nthinpool: held.img is in use by another process, which holds its lock\n",
     ),
 ];
 

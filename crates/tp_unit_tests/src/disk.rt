@@ -344,7 +344,9 @@ fn removed<R: Files<File = File>, T: Drop>(
 }
 
 // What is told of a file that is made, and how many sectors it has and what they are filled with when it is opened again.
-fn made_and_opened<R: Files<File = File> + Alloc<A = Global>>(rt: &R) -> Result<(Told, (u64, [u8; 8])), Fault> {
+fn made_and_opened<R: Files<File = File> + Alloc<A = Global>>(
+    rt: &R,
+) -> Result<(Told, (u64, [u8; 8])), Fault> {
     let told = told_of_opened(FileDisk::create(rt, "kept.img", 8))?;
     let kept = shown_of_opened(FileDisk::open(rt, "kept.img"));
     Ok((told, removed(rt, "kept.img", kept)?))
@@ -522,7 +524,9 @@ fn two_of_opened(opened: Result<FileDisk, OpenError>) -> Result<(u64, [u8; 2]), 
 
 // Makes a file of three sectors and a part of one, fills a sector of it, and makes a disk of five of it: how many it has, what two are filled
 // with, and how long the file is.
-fn made_again<R: Files<File = File> + Alloc<A = Global>>(rt: &R) -> Result<((u64, [u8; 2]), u64), Fault> {
+fn made_again<R: Files<File = File> + Alloc<A = Global>>(
+    rt: &R,
+) -> Result<((u64, [u8; 2]), u64), Fault> {
     make_file(rt, "again.img", 3 * 512 + 100)?;
     fill_opened(FileDisk::open(rt, "again.img"))?;
     let told = two_of_opened(FileDisk::create(rt, "again.img", 5))?;
@@ -537,7 +541,9 @@ fn a_file_that_is_there_stays(rt: HostRuntime) {
 }
 
 // What two others are told that would open a file or set its length, how long it is then, and how many sectors its disk has.
-fn beside_another<R: Files<File = File> + Alloc<A = Global>>(rt: &R) -> Result<[Result<u64, Fault>; 4], Fault> {
+fn beside_another<R: Files<File = File> + Alloc<A = Global>>(
+    rt: &R,
+) -> Result<[Result<u64, Fault>; 4], Fault> {
     let first = FileDisk::create(rt, "one.img", 8);
     let refused = sectors_of(FileDisk::open(rt, "one.img"));
     let resized = sectors_of(FileDisk::create(rt, "one.img", 3));
@@ -574,7 +580,9 @@ fn mode_of<R: Files<File = File>>(rt: &R, name: &str) -> Result<u32, Fault> {
 }
 
 // What is told of a directory that is opened, and how many sectors a file has that is made, and by what mode it is.
-fn folder_and_made<R: Files<File = File> + Alloc<A = Global>>(rt: &R) -> Result<(Result<u64, Fault>, u64, u32), Fault> {
+fn folder_and_made<R: Files<File = File> + Alloc<A = Global>>(
+    rt: &R,
+) -> Result<(Result<u64, Fault>, u64, u32), Fault> {
     let refused = sectors_of(FileDisk::open(rt, "."));
     let sectors = sectors_of(FileDisk::create(rt, "owned.img", 8))?;
     let mode = mode_of(rt, "owned.img");
@@ -598,7 +606,9 @@ fn shorten<R: Files<File = File>>(
 }
 
 // The same of a file.
-fn shortened<R: Files<File = File> + Alloc<A = Global>>(rt: &R) -> Result<[Result<u8, Fault>; 2], Fault> {
+fn shortened<R: Files<File = File> + Alloc<A = Global>>(
+    rt: &R,
+) -> Result<[Result<u8, Fault>; 2], Fault> {
     let told = match FileDisk::create(rt, "short.img", 4) {
         Ok(mut disk) => shorten(rt, &mut disk),
         Err(_) => Err(Fault),
@@ -649,12 +659,12 @@ fn are_told<R: Files<File = File> + Alloc<A = Global>>(rt: &R, alloc: Global) ->
         is_told(
             alloc,
             FileDisk::open_to_read(rt, "."),
-            "is no regular file and no block device",
+            "is neither a regular file nor a block device",
         ),
         is_told(
             alloc,
             FileDisk::create(rt, "large.img", (1 << 54) + 1),
-            "would have more than 2^54 sectors",
+            "is larger than 2^54 sectors of 512 bytes",
         ),
     ]
 }
@@ -665,19 +675,25 @@ fn why_a_file_is_not_opened_is_told(rt: HostRuntime) {
 }
 
 // Whether it is told of a file that another disk has.
-fn is_told_in_use<R: Files<File = File> + Alloc<A = Global>>(rt: &R, alloc: Global, name: &str) -> bool {
+fn is_told_in_use<R: Files<File = File> + Alloc<A = Global>>(
+    rt: &R,
+    alloc: Global,
+    name: &str,
+) -> bool {
     match FileDisk::create(rt, name, 8) {
         Ok(_first) => is_told(
             alloc,
             FileDisk::open(rt, name),
-            "is in use by another program (its lock is held)",
+            "is in use by another process, which holds its lock",
         ),
         Err(_) => false,
     }
 }
 
 // How many sectors a disk has that is made by this link to this file, where the file is absent, and whether the file is there then.
-fn made_by_link<R: Files<File = File> + Alloc<A = Global>>(rt: &R) -> io::Result<(Result<u64, Fault>, bool)> {
+fn made_by_link<R: Files<File = File> + Alloc<A = Global>>(
+    rt: &R,
+) -> io::Result<(Result<u64, Fault>, bool)> {
     symlink(rt, "absent.img", "link.img")?;
     let sectors = sectors_of(FileDisk::create(rt, "link.img", 8));
     let is_there = fs::exists(rt, "absent.img")?;
@@ -798,7 +814,9 @@ fn disks_that_are_opened_to_read_share_a_file(rt: HostRuntime) {
 }
 
 // What is told of a file that is opened to read while it is written, of one that is absent and of a directory, and how many sectors the first one has.
-fn read_beside_a_writer<R: Files<File = File> + Alloc<A = Global>>(rt: &R) -> Result<[Result<u64, Fault>; 4], Fault> {
+fn read_beside_a_writer<R: Files<File = File> + Alloc<A = Global>>(
+    rt: &R,
+) -> Result<[Result<u64, Fault>; 4], Fault> {
     let disk = FileDisk::create(rt, "written.img", 4);
     let written = sectors_of(FileDisk::open_to_read(rt, "written.img"));
     let absent = sectors_of(FileDisk::open_to_read(rt, "unwritten.img"));

@@ -70,7 +70,7 @@ A pool wants a check ('needs_check' in its status line) since there was no room 
 before 'clean' is printed. It wants the right to write the file, and its lock alone. An image that is not clean is not written.
 
 The check was not made, and nothing is said of the image:
-   5 Fault       the file is missing, neither a regular file nor a block device, not yours to read or in use by another program, or a
+   5 Fault       the file is missing, neither a regular file nor a block device, not yours to read or in use by another process, or a
                  read of it or standard output failed: see to that, and check again. With the flag also: not yours to write, or a write failed, and then the
                  pool wants a check still or none any more, as its status line says
   10 Memory      there is no memory for it: check where there is more
