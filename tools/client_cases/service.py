@@ -1,6 +1,7 @@
 """`run` as a service: signals, standard streams, what it tells, socket files, and peers that are gone without a word."""
 import contextlib
 import fcntl
+import grp
 import os
 import re
 import signal
@@ -15,7 +16,7 @@ from client_cases.staying import SOON, TIME
 from edge_cases.disks import fill_up, small_disk
 from edge_cases.refusals import AS_NOBODY, reaches
 from running import BLOCK, FLUSH, LIMIT, MIB, READ, TRIM, WRITE
-from running import Client, Place, Skipped, as_root, held, kill, request, run, start, want
+from running import Client, Place, Skipped, as_root, copy, held, kill, request, run, start, want
 
 FAULT = b"thinpool: 5 Fault\n"
 
@@ -241,6 +242,10 @@ def socket_files(ground):
     """socket files of `run`, in whose place something may stand"""
     host = Host(ground, "unix")
     yield "they are for their owner alone, and others are told so", partial(rights, host)
+    yield "with --socket-mode and --socket-group, by number and by name, others of the group may connect", partial(shared_rights, host)
+    yield "a group that does not exist is refused with 5 by its name, and leaves no file", partial(no_group, host)
+    yield "a group that the system does not give is refused with 5 by its reason, and leaves no file", partial(refused_group, host)
+    yield "a mode that is not octal, or above 0777, is no command", partial(bad_modes, host)
     yield "what a server that was killed has left is replaced", partial(stale, host)
     yield "a living server's is refused with 5, for clients and for control lines, and it goes on", partial(living, host)
     yield "other things that stand there are refused with 5, and left alone", partial(other_things, host)
@@ -258,6 +263,51 @@ def rights(host):
         reaches(host.ground, AS_NOBODY)
         ran = host.ground.run("--explain", "ask", str(server.ruler), "status", **AS_NOBODY)
         want((ran.status == 1 and b"ermission denied" in ran.err, f"another user: {ran.told()}"))
+
+
+def shared_rights(host):
+    as_root()
+    group = grp.getgrnam("daemon")
+    member = {**AS_NOBODY, "group": group.gr_gid}
+    for name in (str(group.gr_gid), group.gr_name):
+        with host.up(host.pool(), "--socket-mode", "0660", "--socket-group", name) as server:
+            for it in (server.place, server.ruler):
+                found = os.lstat(it.path)
+                want((stat.S_ISSOCK(found.st_mode) and stat.S_IMODE(found.st_mode) == 0o660, f"its mode is {found.st_mode:o}"),
+                     ((found.st_uid, found.st_gid) == (0, group.gr_gid), f"it is of {found.st_uid}:{found.st_gid}"))
+            want((not os.path.exists(server.place.path + ".new"), "a folder is left"))
+            reaches(host.ground, AS_NOBODY)
+            ran = host.ground.run("ask", str(server.ruler), "status", **member)
+            want((ran.status == 0 and ran.out, f"a member: {ran.told()}"))
+            ran = host.ground.run("--explain", "ask", str(server.ruler), "status", **AS_NOBODY)
+            want((ran.status == 1 and b"ermission denied" in ran.err, f"another user: {ran.told()}"))
+
+
+def no_group(host):
+    ground = host.ground
+    for name in ("no-such-group", "4294967295"):
+        ran = ground.run("run", host.pool(), "--listen", f"unix:{ground.path('none.sock')}", "--socket-group", name)
+        want((ran.status == 1 and ran.err == FAULT + f"thinpool: group {name} does not exist\n".encode(), ran.told()))
+        want((not [it for it in os.listdir(ground.folder) if it.startswith("none.sock")], "a file is left"))
+
+
+def refused_group(host):
+    as_root()
+    ground = host.ground
+    reaches(ground, AS_NOBODY)
+    folder = ground.path("nobody")
+    os.mkdir(folder)
+    image = copy(host.pool(), f"{folder}/pool.img")
+    for it in (folder, image):
+        os.chown(it, AS_NOBODY["user"], AS_NOBODY["group"])
+    ran = ground.run("--explain", "run", image, "--listen", f"unix:{folder}/nbd.sock", "--socket-group", "0", **AS_NOBODY)
+    want((ran.status == 1 and ran.err.startswith(FAULT) and b"not permitted" in ran.err, ran.told()), (os.listdir(folder) == ["pool.img"], "a file is left"))
+
+
+def bad_modes(host):
+    for mode in ("9999", "0888", "1000", "rw", "0x1ff", "40000000000"):
+        ran = host.ground.run("run", host.pool(), "--listen", "127.0.0.1:0", "--socket-mode", mode)
+        want((ran.status == 2 and b"MODE is not an octal number from 0 to 0777" in ran.err, f"{mode}: {ran.told()}"))
 
 
 def stale(host):

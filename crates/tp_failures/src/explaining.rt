@@ -78,6 +78,14 @@ fn place_of<'a>(task: &Task<'a>, number: u8) -> &'a str {
     place.unwrap_or("")
 }
 
+/// The group of the socket files of a task, or nothing.
+fn group_of<'a>(task: &Task<'a>) -> &'a str {
+    match *task {
+        Task::Run { service, .. } => service.rights.group.unwrap_or(""),
+        _ => "",
+    }
+}
+
 impl Display for Explanation<'_> {
     fn fmt<W: fmt::Write>(&self, f: &mut Formatter<W>) -> fmt::Result {
         let image = image_of(&self.task);
@@ -101,6 +109,8 @@ impl Display for Explanation<'_> {
             Cause::Place(number, error) => {
                 explain_address(place_of(&self.task, number), &error, f)
             }
+            Cause::Group => write!(f, "group {} does not exist", group_of(&self.task)),
+            Cause::Groups(error) => write!(f, "/etc/group cannot be read: {error}"),
             Cause::Threads => f.write_str(
                 "the system has no thread for each of 64 clients; the pool was closed",
             ),

@@ -38,6 +38,10 @@ pub enum Cause {
     TurnedAway(u64),
     /// The place of this number among those of a task is not listened at: 0 to 3 of clients, 4 of control lines.
     Place(u8, io::Error),
+    /// The group of socket files does not exist.
+    Group,
+    /// The file of groups cannot be read.
+    Groups(io::Error),
     /// A thread for clients or for control lines could not be made.
     Threads,
     /// The place of a server cannot be reached, or its connection broke.
@@ -113,6 +117,8 @@ impl Failure {
     pub fn tells_what_fits(&self) -> bool {
         match self.cause {
             Cause::Unfit(Unfit::TooMany { .. }) => true,
+            // A number does not name the group.
+            Cause::Group => true,
             _ => false,
         }
     }

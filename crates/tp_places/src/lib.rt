@@ -2,9 +2,12 @@
 #![tactic(auto)]
 
 mod asker;
+mod groups;
 mod paging;
 mod places;
+mod rights;
 
 pub use asker::ask_place;
 pub use paging::delta_at;
 pub use places::{NoDoor, open_door};
+pub use rights::{Rights, rights_of};

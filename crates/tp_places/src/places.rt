@@ -1,11 +1,12 @@
 //! Places to listen at and to connect to: socket files, and TCP addresses.
 
+use crate::rights::Rights;
 use std::alloc::{AllocError, Global};
 use std::fs::{self, DirBuilder, File, Permissions};
 use std::io::{self, ErrorKind};
 use std::net::{Net, TcpListener, TcpStream};
 use std::os::fd::OwnedFd;
-use std::os::unix::fs::{DirBuilderExt, FileTypeExt, PermissionsExt};
+use std::os::unix::fs::{DirBuilderExt, FileTypeExt, PermissionsExt, chown};
 use std::os::unix::net::{UnixListener, UnixStream};
 use std::rt::Files;
 use tp_crowd::Door;
@@ -22,15 +23,15 @@ pub enum NoDoor {
     System(io::Error),
 }
 
-/// A door at a place. A socket file is for its owner alone from its first moment, and takes the place of one that a server left that runs no more.
-pub fn open_door<R>(rt: &R, alloc: Global, place: &str) -> Result<Door, NoDoor>
+/// A door at a place. A socket file has these rights from its first moment, and takes the place of one that a server left that runs no more.
+pub fn open_door<R>(rt: &R, alloc: Global, rights: &Rights, place: &str) -> Result<Door, NoDoor>
 where
     R: Files<File = File> + Net<Listener = TcpListener, Stream = TcpStream>,
 {
     let opened = match place.strip_prefix(SOCKET_FILE) {
         None => open_address(rt, place),
         Some(path) => match names_beside(alloc, path) {
-            Ok((folder, file)) => open_file(rt, path, &folder, &file),
+            Ok((folder, file)) => open_file(rt, rights, path, &folder, &file),
             Err(_) => return Err(NoDoor::Memory),
         },
     };
@@ -56,12 +57,12 @@ fn names_beside(alloc: Global, path: &str) -> Result<(String, String), AllocErro
 }
 
 /// A door at a socket file, which is made in that folder as that file.
-fn open_file<R>(rt: &R, path: &str, folder: &str, file: &str) -> io::Result<Door>
+fn open_file<R>(rt: &R, rights: &Rights, path: &str, folder: &str, file: &str) -> io::Result<Door>
 where
     R: Files<File = File> + Net<Listener = TcpListener, Stream = TcpStream>,
 {
     find_free(rt, path)?;
-    Door::unix(bind_file(rt, path, folder, file)?)
+    Door::unix(bind_file(rt, rights, path, folder, file)?)
 }
 
 /// Refuses a path where something else stands than a socket file that nobody answers on.
@@ -84,13 +85,14 @@ fn find_free<R: Files<File = File> + Net>(rt: &R, path: &str) -> io::Result<()> 
 /// Listens at a socket file. It is made in a folder that nobody else may enter, and moved to its path when its rights stand.
 fn bind_file<R: Files<File = File> + Net>(
     rt: &R,
+    rights: &Rights,
     path: &str,
     folder: &str,
     file: &str,
 ) -> io::Result<UnixListener> {
     clear(rt, folder, file);
     DirBuilder::new().mode(0o700).create(rt, folder)?;
-    let bound = bind_for_owner(rt, file, path);
+    let bound = bind_with(rt, rights, file, path);
     clear(rt, folder, file);
     bound
 }
@@ -101,10 +103,18 @@ fn clear<R: Files>(rt: &R, folder: &str, file: &str) {
     let _ = fs::remove_dir(rt, folder);
 }
 
-/// Listens at a socket file of the owner alone, and moves it to its path.
-fn bind_for_owner<R: Files + Net>(rt: &R, file: &str, path: &str) -> io::Result<UnixListener> {
+/// Listens at a socket file of these rights, and moves it to its path.
+fn bind_with<R: Files + Net>(
+    rt: &R,
+    rights: &Rights,
+    file: &str,
+    path: &str,
+) -> io::Result<UnixListener> {
     let listener = UnixListener::bind(rt, file)?;
-    fs::set_permissions(rt, file, Permissions::from_mode(0o600))?;
+    if rights.group.is_some() {
+        chown(rt, file, None, rights.group)?;
+    }
+    fs::set_permissions(rt, file, Permissions::from_mode(rights.mode))?;
     fs::rename(rt, file, path)?;
     Ok(listener)
 }

@@ -33,7 +33,7 @@ use tp_hub::Hub;
 use tp_images::Images;
 use tp_meta::{Meta, Metadata};
 use tp_model::{DevId, Refusal};
-use tp_places::{NoDoor, open_door};
+use tp_places::{NoDoor, Rights, open_door, rights_of};
 use tp_served::Served;
 use tp_words::{Service, Texts};
 
@@ -62,6 +62,7 @@ fn closed_place(number: u8, why: NoDoor) -> Failure
 fn add_door<R>(
     rt: &R,
     alloc: Global,
+    rights: &Rights,
     number: u8,
     place: Option<&str>,
     doors: &mut Vec<Door>,
@@ -73,7 +74,7 @@ where
     let Some(place) = place else {
         return Ok(());
     };
-    match open_door(rt, alloc, place) {
+    match open_door(rt, alloc, rights, place) {
         Ok(door) => match doors.push(door) {
             Ok(()) => Ok(()),
             Err(_) => Err(closed_place(number, NoDoor::Memory)),
@@ -83,21 +84,31 @@ where
 }
 
 /// Opens the doors of clients.
-fn open_clients<R>(rt: &R, alloc: Global, places: &Texts<'_>) -> Result<Vec<Door>, Failure>
+fn open_clients<R>(
+    rt: &R,
+    alloc: Global,
+    rights: &Rights,
+    places: &Texts<'_>,
+) -> Result<Vec<Door>, Failure>
 where
     R: Files<File = File> + Net<Listener = TcpListener, Stream = TcpStream>,
     ensures { IfErr result (λ why. IsNoDoor why.refusal) }
 {
     let mut doors = Vec::new(alloc);
-    add_door(rt, alloc, 0, Some(places.first), &mut doors)?;
-    add_door(rt, alloc, 1, places.second, &mut doors)?;
-    add_door(rt, alloc, 2, places.third, &mut doors)?;
-    add_door(rt, alloc, 3, places.fourth, &mut doors)?;
+    add_door(rt, alloc, rights, 0, Some(places.first), &mut doors)?;
+    add_door(rt, alloc, rights, 1, places.second, &mut doors)?;
+    add_door(rt, alloc, rights, 2, places.third, &mut doors)?;
+    add_door(rt, alloc, rights, 3, places.fourth, &mut doors)?;
     Ok(doors)
 }
 
 /// Opens the door of control lines, if there is a place for them.
-fn open_control<R>(rt: &R, alloc: Global, place: Option<&str>) -> Result<Option<Door>, Failure>
+fn open_control<R>(
+    rt: &R,
+    alloc: Global,
+    rights: &Rights,
+    place: Option<&str>,
+) -> Result<Option<Door>, Failure>
 where
     R: Files<File = File> + Net<Listener = TcpListener, Stream = TcpStream>,
     ensures { IfErr result (λ why. IsNoDoor why.refusal) }
@@ -105,7 +116,7 @@ where
     let Some(place) = place else {
         return Ok(None);
     };
-    match open_door(rt, alloc, place) {
+    match open_door(rt, alloc, rights, place) {
         Ok(door) => Ok(Some(door)),
         Err(why) => Err(closed_place(CONTROL, why)),
     }
@@ -161,8 +172,9 @@ where
     E: Write,
     ensures { IfErr result (λ why. IsNoDoor why.refusal) }
 {
-    let ruler = open_control(rt, alloc, service.control)?;
-    let clients = open_clients(rt, alloc, &service.places)?;
+    let rights = rights_of(rt, alloc, &service.rights)?;
+    let ruler = open_control(rt, alloc, &rights, service.control)?;
+    let clients = open_clients(rt, alloc, &rights, &service.places)?;
     let doors = Doors {
         clients,
         control: ruler,

@@ -5,7 +5,7 @@ use Rattle.std.specs.Borrow.{Bor}
 use Rattle.std.specs.Str.Parse.{digits_value, without_leading_plus}
 use Rattle.clap.specs.Words.{Row, Text, all_of, first_of}
 use Rattle.tp_tasks.specs.declared.task.Texts.{Texts}
-use Rattle.tp_tasks.specs.CommandLine.{HasClients, HasNoNumber, HasNoneUpTo, HasNumber, HasText, HasTexts, IsAbove, IsNumber, IsSize, IsUpTo, LacksClients, LacksNumber, LacksSize, LacksText, LacksTexts, MayHaveNumber, MayHaveUpTo, texts_in}
+use Rattle.tp_tasks.specs.CommandLine.{HasClients, HasNoNumber, HasNoneUpTo, HasNumber, HasText, HasTexts, IsAbove, IsMode, IsNumber, IsSize, IsUpTo, LacksClients, LacksMode, LacksNumber, LacksSize, LacksText, LacksTexts, MayHaveNumber, MayHaveUpTo, texts_in}
 
 -- a text is read exactly where there is one
 pub text_read : (id : Text) (rows : List Row) (r : Option (Bor Text)) → option_map (λ s. s.now) r ≡ first_of id rows
@@ -32,6 +32,9 @@ no_number id rows text is_there bad = none_read IsNumber id rows text is_there b
 
 pub no_size : (id : Text) (rows : List Row) (text : Text) → first_of id rows ≡ Some text → ((n : ℕ) → IsSize text n → ⊥) → LacksSize id rows
 no_size id rows text is_there bad = none_read IsSize id rows text is_there bad
+
+pub no_mode : (id : Text) (rows : List Row) (text : Text) → first_of id rows ≡ Some text → ((n : ℕ) → IsMode text n → ⊥) → LacksMode id rows
+no_mode id rows text is_there bad = none_read IsMode id rows text is_there bad
 
 -- an argument is one number alone
 pub one_number : (id : Text) (rows : List Row) (n m : ℕ) → HasNumber id rows n → HasNumber id rows m → n ≡ m

@@ -144,11 +144,15 @@ play_app = with_rule (with_rule (image_app (codes "play")) (text_rule (codes "SC
 abbrev pub told_app : App → App
 told_app app = with_rule (with_rule app (number_option_rule (codes "LOW_WATER") (codes "low-water"))) (flag_rule (codes "QUIET") (codes "quiet"))
 
--- `thinpool run IMAGE --listen WHERE.. [--control WHERE] [--default ID] [--clones] [--low-water PERCENT] [--quiet]`
+-- a command that creates socket files: `[--socket-mode MODE] [--socket-group GROUP]`
+abbrev pub socket_app : App → App
+socket_app app = with_rule (with_rule app (option_rule (codes "SOCKET_MODE") (codes "socket-mode"))) (option_rule (codes "SOCKET_GROUP") (codes "socket-group"))
+
+-- `thinpool run IMAGE --listen WHERE.. [--control WHERE] [--default ID] [--clones] [--low-water PERCENT] [--quiet] [--socket-mode MODE] [--socket-group GROUP]`
 abbrev pub run_app : App
 run_app =
-    told_app (with_rule (with_rule (with_rule (with_rule (image_app (codes "run")) (repeated_rule (codes "LISTEN") (codes "listen"))) (option_rule (codes "CONTROL") (codes "control")))
-    (number_option_rule (codes "DEFAULT") (codes "default"))) (flag_rule (codes "CLONES") (codes "clones")))
+    socket_app (told_app (with_rule (with_rule (with_rule (with_rule (image_app (codes "run")) (repeated_rule (codes "LISTEN") (codes "listen"))) (option_rule (codes "CONTROL") (codes "control")))
+    (number_option_rule (codes "DEFAULT") (codes "default"))) (flag_rule (codes "CLONES") (codes "clones"))))
 
 -- `thinpool ask WHERE LINE [LINE2] [LINE3] [LINE4]`
 abbrev pub ask_app : App
@@ -384,11 +388,35 @@ abbrev pub IsAbove : ℕ → Option ℕ → Type 0
 IsAbove most None = ⊥
 IsAbove most (Some n) = n ≤ most → ⊥
 
+-- ---- the mode of a file
+
+-- the text reads as this mode: octal digits, up to 0777
+abbrev pub IsMode : Text → ℕ → Type 0
+IsMode text n =
+    let digits = without_leading_plus text in
+    IsNumeral 8 digits × (n ≡ digits_value 8 digits) × (n ≤ 511)
+
+abbrev pub HasMode : Text → List Row → ℕ → Type 0
+HasMode id rows n = (text : Text) × (first_of id rows ≡ Some text) × IsMode text n
+
+abbrev pub LacksMode : Text → List Row → Type 0
+LacksMode id rows = (text : Text) → first_of id rows ≡ Some text → (n : ℕ) → IsMode text n → ⊥
+
+-- of one that may be left out
+abbrev pub MayHaveMode : Text → List Row → Option ℕ → Type 0
+MayHaveMode id rows None = LacksText id rows
+MayHaveMode id rows (Some n) = HasMode id rows n
+
+-- it is there, and is no mode
+abbrev pub HasNoMode : Text → List Row → Type 0
+HasNoMode id rows = (is_some (first_of id rows) ≡ true) × LacksMode id rows
+
 abbrev pub IsRun : List Row → Task → Type 0
 IsRun rows (Run image service) =
     HasText (codes "IMAGE") rows image × HasTexts (codes "LISTEN") rows service.places × MayHaveText (codes "CONTROL") rows service.control
     × MayHaveUpTo 16777215 (codes "DEFAULT") rows service.default × MayHaveUpTo 100 (codes "LOW_WATER") rows service.low_water × (service.is_quiet ≡ is_used (codes "QUIET") rows)
     × (service.has_clones ≡ is_used (codes "CLONES") rows)
+    × MayHaveMode (codes "SOCKET_MODE") rows service.rights.mode × MayHaveText (codes "SOCKET_GROUP") rows service.rights.group
 IsRun rows task = ⊥
 
 abbrev pub IsAsk : List Row → Task → Type 0
@@ -446,7 +474,7 @@ LacksTask name rows = by_name name
     (LacksText (codes "IMAGE") rows)
     (LacksText (codes "IMAGE") rows ⊎ LacksText (codes "ADDR") rows ⊎ LacksClients rows)
     (LacksText (codes "IMAGE") rows ⊎ LacksText (codes "SCRIPT") rows)
-    (LacksText (codes "IMAGE") rows ⊎ LacksTexts (codes "LISTEN") rows ⊎ HasNoneUpTo 16777215 (codes "DEFAULT") rows ⊎ HasNoneUpTo 100 (codes "LOW_WATER") rows)
+    (LacksText (codes "IMAGE") rows ⊎ LacksTexts (codes "LISTEN") rows ⊎ HasNoneUpTo 16777215 (codes "DEFAULT") rows ⊎ HasNoneUpTo 100 (codes "LOW_WATER") rows ⊎ HasNoMode (codes "SOCKET_MODE") rows)
     (LacksText (codes "WHERE") rows ⊎ LacksText (codes "LINE") rows)
     (LacksListing name rows)
 

@@ -98,6 +98,17 @@ pub struct Service<'a> {
     pub is_quiet: bool,
     /// Whether a client may have a clone of a volume, which goes with it. Then ids from 8388608 on are those of clones.
     pub has_clones: bool,
+    /// Who may connect to the socket files that the server creates.
+    pub rights: SocketRights<'a>,
+}
+
+/// The rights of the socket files that a server creates.
+#[derive(Clone, Copy, Debug, PartialEq, Eq)]
+pub struct SocketRights<'a> {
+    /// The mode, 0 to 0o777; without it 0o600.
+    pub mode: Option<u32>,
+    /// The name or the number of the group; without it the group of the process.
+    pub group: Option<&'a str>,
 }
 
 /// The texts of what may be given once to four times, in order.

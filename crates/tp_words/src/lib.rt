@@ -11,4 +11,6 @@ mod running;
 
 pub use command_line::command;
 pub use reading::{NoWords, words};
-pub use tp_tasks::{Asked, Image, Listing, Service, Sizes, Task, Texts, Unread, Wanted};
+pub use tp_tasks::{
+    Asked, Image, Listing, Service, Sizes, SocketRights, Task, Texts, Unread, Wanted,
+};

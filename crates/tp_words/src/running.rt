@@ -2,7 +2,7 @@
 
 ghost use Rattle.std.specs.Prelude.{◌≡◌, IfOk, false};
 ghost use Rattle.clap.specs.Words.{App, rule_of};
-ghost use Rattle.tp_tasks.specs.CommandLine.{ask_app, number_option_rule, run_app, told_app};
+ghost use Rattle.tp_tasks.specs.CommandLine.{ask_app, number_option_rule, run_app, socket_app, told_app};
 ghost use Rattle.tp_words.specs.Commands.{IsMade};
 
 use crate::command_line::{flag, named, of_image, option, optional, repeated, text, with};
@@ -73,6 +73,25 @@ fn with_telling<'a>(
     with(made, flag(alloc, "QUIET", "quiet", quiet))
 }
 
+/// The arguments that say who may connect to socket files.
+fn with_rights<'a>(
+    alloc: Global,
+    made: Result<Command<'a>, AllocError>,
+) -> Result<Command<'a>, AllocError>
+    ensures { (before : App) → IfOk made.entry (IsMade before) → IfOk result (IsMade (socket_app before)) }
+{
+    let mode = "The mode of socket files, in octal: 0 to 0777, 0600 without it";
+    let group = "The group of socket files, by name or number";
+    let made = with(
+        made,
+        option(alloc, "SOCKET_MODE", "socket-mode", "MODE", mode),
+    );
+    with(
+        made,
+        option(alloc, "SOCKET_GROUP", "socket-group", "GROUP", group),
+    )
+}
+
 pub(crate) fn run_command<'a>(alloc: Global) -> Result<Command<'a>, AllocError>
     ensures { IfOk result (IsMade run_app) }
 {
@@ -91,7 +110,7 @@ pub(crate) fn run_command<'a>(alloc: Global) -> Result<Command<'a>, AllocError>
         number_option(alloc, "DEFAULT", "default", "ID", default),
     );
     let made = with(made, flag(alloc, "CLONES", "clones", clones));
-    with_telling(alloc, made)
+    with_rights(alloc, with_telling(alloc, made))
 }
 
 pub(crate) fn ask_command<'a>(alloc: Global) -> Result<Command<'a>, AllocError>

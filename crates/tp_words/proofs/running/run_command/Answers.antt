@@ -1,6 +1,6 @@
 use Rattle.std.specs.Prelude.{codes}
 use Rattle.clap.specs.Words.{with_rule}
-use Rattle.tp_tasks.specs.CommandLine.{flag_rule, image_app, number_option_rule, option_rule, repeated_rule}
+use Rattle.tp_tasks.specs.CommandLine.{flag_rule, image_app, number_option_rule, option_rule, repeated_rule, told_app}
 use Rattle.tp_words.proofs.running.run_command.Goals as goal
 
 pub returns : goal.returns
@@ -12,11 +12,12 @@ returns c =
     let two = with_rule one control in
     let three = with_rule two default in
     let clones = flag_rule (codes "CLONES") (codes "clones") in
-    c.with_telling.ensures (with_rule three clones)
+    c.with_rights.ensures (told_app (with_rule three clones))
+    (c.with_telling.ensures (with_rule three clones)
     (c.with-made-4.ensures three clones
     (c.with-made-3.ensures two default
     (c.with-made-2.ensures one control
     (c.with-made.ensures (image_app (codes "run")) listen c.of_image-made.ensures (c.repeated.ensures.rule, c.repeated.ensures.local))
     (c.option.ensures.rule, c.option.ensures.local))
     (c.number_option.ensures.rule, c.number_option.ensures.local))
-    (c.flag.ensures.rule, c.flag.ensures.local))
+    (c.flag.ensures.rule, c.flag.ensures.local)))
