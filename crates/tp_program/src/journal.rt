@@ -94,31 +94,34 @@ impl Display for News<'_> {
             News::Failed(image, trouble) => tell_failure(image, trouble, f),
             News::Low(kind, blocks) => tell_low(kind, blocks, f),
             News::Cleared(count) => tell_cleared(*count, f),
-            News::NotCleared => write!(f, "no memory to delete clones that a server left"),
+            News::NotCleared => write!(
+                f,
+                "out of memory: clones left by a previous server were not deleted"
+            ),
         }
     }
 }
 
-/// Who has come, and where.
+/// Writes that a client connected, and to which address.
 fn tell_coming<W: fmt::Write>(
     place: &Place<'_>,
     visitor: &Visitor,
     f: &mut Formatter<W>,
 ) -> fmt::Result {
-    write!(f, "client {} came to {place}", visitor.number)?;
+    write!(f, "client {} connected to {place}", visitor.number)?;
     match visitor.peer {
         Some(peer) => write!(f, " from {peer}"),
         None => Ok(()),
     }
 }
 
-/// Who has gone, and what it did.
+/// Writes that a client disconnected, with its volume, requests and bytes.
 fn tell_going<W: fmt::Write>(
     visitor: &Visitor,
     visit: &Visit,
     f: &mut Formatter<W>,
 ) -> fmt::Result {
-    write!(f, "client {} went: ", visitor.number)?;
+    write!(f, "client {} disconnected: ", visitor.number)?;
     match visit.volume {
         Some(volume) => write!(f, "volume {}", volume.number())?,
         None => f.write_str("no volume")?,
@@ -130,7 +133,7 @@ fn tell_going<W: fmt::Write>(
     )
 }
 
-/// That the pool failed, and why.
+/// Writes that the pool failed, and why.
 fn tell_failure<W: fmt::Write>(
     image: &str,
     trouble: &Option<Trouble>,
@@ -143,7 +146,7 @@ fn tell_failure<W: fmt::Write>(
     }
 }
 
-/// That few blocks of a kind are free.
+/// Writes that few blocks of a kind are free.
 fn tell_low<W: fmt::Write>(kind: &str, blocks: &Use, f: &mut Formatter<W>) -> fmt::Result {
     write!(
         f,
@@ -153,9 +156,9 @@ fn tell_low<W: fmt::Write>(kind: &str, blocks: &Use, f: &mut Formatter<W>) -> fm
     )
 }
 
-/// That clones were deleted.
+/// Writes how many clones were deleted.
 fn tell_cleared<W: fmt::Write>(count: u32, f: &mut Formatter<W>) -> fmt::Result {
-    write!(f, "deleted clones that a server left: {count}")
+    write!(f, "deleted {count} clones left by a previous server")
 }
 
 impl Use {
@@ -250,7 +253,7 @@ impl<'m, R: Wait + Clock> Journal<'m, R> {
         self.has_more.notify_one();
     }
 
-    /// The same of what is no fault.
+    /// Logs `news` unless `--quiet` was given.
     fn note_unless_quiet(&self, news: &News<'_>) {
         if !self.is_quiet {
             self.note(news);
@@ -265,7 +268,7 @@ impl<'m, R: Wait + Clock> Journal<'m, R> {
         }
     }
 
-    /// Notes how many clones were deleted that a server left, if there were some.
+    /// Logs how many clones of a previous server were deleted, if there were any.
     pub(crate) fn cleared(&self, cleared: Result<u32, AllocError>) {
         match cleared {
             Ok(count) => {

@@ -115,7 +115,9 @@ pub fn without_streams<E: Write>(error: &io::Error, errors: &mut E) -> Status
     told
 }
 
-/// What is done where the system's words cannot be taken over: one that is no UTF-8 is a bad command line, and it is told which one.
+/// Reports that the command line cannot be read, and returns the exit status.
+///
+/// An argument that is not valid UTF-8 is a usage error, and the message has its number.
 pub fn without_words<E: Write>(why: NoWords, errors: &mut E) -> Status
     ensures { result ≡ status_without why }
 {
@@ -123,7 +125,7 @@ pub fn without_words<E: Write>(why: NoWords, errors: &mut E) -> Status
         NoWords::NotUtf8(number) => {
             let _ = write!(
                 errors,
-                "error: argument {number} is no UTF-8: paths and all other words have to be UTF-8 (argument 0 is the program's name)\n\nUsage: thinpool <COMMAND>\n"
+                "error: argument {number} is not valid UTF-8; all arguments, including paths, must be UTF-8 (argument 0 is the program's name)\n\nUsage: thinpool <COMMAND>\n"
             );
             Status::Misused
         }
