@@ -106,7 +106,8 @@ where
     }
 }
 
-/// What is done where nothing can be put in the place of a standard stream that is closed: a fault, since an image could be opened there.
+/// Reports that a closed standard stream cannot be replaced by /dev/null, with error 5 (Fault): an
+/// image could be opened in its place.
 pub fn without_streams<E: Write>(error: &io::Error, errors: &mut E) -> Status
     ensures { result ≡ Status.Refused }
 {
@@ -133,7 +134,7 @@ pub fn without_words<E: Write>(why: NoWords, errors: &mut E) -> Status
     }
 }
 
-/// The status of a bad command line, after it was told what is wrong with it.
+/// Prints a usage error and returns its exit status.
 fn misuse<E: Write>(text: &str, errors: &mut E) -> Status
     ensures { result ≡ Status.Misused }
 {
@@ -141,7 +142,7 @@ fn misuse<E: Write>(text: &str, errors: &mut E) -> Status
     Status::Misused
 }
 
-/// The status of a task, after its refusal was told.
+/// Prints the error of a task, if any, and returns the exit status.
 fn conclude<E: Write>(done: Result<(), Refusal>, errors: &mut E) -> Status
     ensures { result ≡ status_of done }
 {
@@ -154,7 +155,8 @@ fn conclude<E: Write>(done: Result<(), Refusal>, errors: &mut E) -> Status
     }
 }
 
-/// Tells a refusal by its number and name, and where that is wanted, or says how many volumes fit, what it means, each on a line.
+/// Prints the number and name of an error, and its explanation on a second line if `explains` or if
+/// it has the number of volumes that fit.
 fn tell_failure<E: Write>(task: &Task<'_>, failure: Failure, explains: bool, errors: &mut E) {
     let told = writeln!(errors, "thinpool: {}", failure.refusal);
     if (explains || failure.tells_what_fits()) && told.is_ok() {
@@ -166,7 +168,7 @@ fn tell_failure<E: Write>(task: &Task<'_>, failure: Failure, explains: bool, err
     }
 }
 
-/// The status of a task that may be a script, after it was told why it was refused or which line is bad.
+/// Prints the error of a task or the number of a bad script line, and returns the exit status.
 fn conclude_task<E: Write>(
     task: &Task<'_>,
     done: Result<(), Unplayed>,

@@ -228,7 +228,7 @@ fn program_name<S: AsStr>(words: &[S]) -> Option<&str> {
     Path::new(words.first()?.as_str()).file_name()
 }
 
-/// An argument that has to be there.
+/// Makes a required argument.
 pub(crate) fn text<'a>(alloc: Global, id: &'a str, help: &'a str) -> Arg<'a>
     ensures rule { rule_of result ≡ text_rule id.entry.now }
     ensures local { result.global ≡ false }
@@ -236,7 +236,7 @@ pub(crate) fn text<'a>(alloc: Global, id: &'a str, help: &'a str) -> Arg<'a>
     Arg::new(alloc, id).required(true).help(help)
 }
 
-/// One that is a number of 64 bits.
+/// Makes a required argument that is a 64-bit number.
 pub(crate) fn number<'a>(alloc: Global, id: &'a str, help: &'a str) -> Arg<'a>
     ensures rule { rule_of result ≡ number_rule id.entry.now }
     ensures local { result.global ≡ false }
@@ -244,7 +244,7 @@ pub(crate) fn number<'a>(alloc: Global, id: &'a str, help: &'a str) -> Arg<'a>
     text(alloc, id, help).value_parser(clap::value_parser!(u64))
 }
 
-/// The same, that may be left out.
+/// Makes an optional argument that is a 64-bit number.
 fn optional_number<'a>(alloc: Global, id: &'a str, help: &'a str) -> Arg<'a>
     ensures rule { rule_of result ≡ optional_number_rule id.entry.now }
     ensures local { result.global ≡ false }
@@ -295,7 +295,7 @@ pub(crate) fn repeated<'a>(
         .action(ArgAction::Append)
 }
 
-/// An argument that may be left out.
+/// Makes an optional argument.
 pub(crate) fn optional<'a>(alloc: Global, id: &'a str, help: &'a str) -> Arg<'a>
     ensures rule { rule_of result ≡ optional_rule id.entry.now }
     ensures local { result.global ≡ false }
@@ -505,7 +505,8 @@ fn add_to_made<'a>(
     }
 }
 
-/// What is told of words that name no task: they are as the commands want them but for the number of clients, a size, or the places or the percentage of a server.
+/// Makes the usage error of arguments that `clap` accepts and that name no task: the number of
+/// clients, a size, or the addresses, the volume or the percentage of a server is out of range.
 fn misused(alloc: Global, matches: &ArgMatches<'_>) -> Unread
     ensures { (words : List Text) → mistakes words ≡ [] → NameNone words → IsUnread words result }
 {
@@ -522,7 +523,7 @@ fn misused(alloc: Global, matches: &ArgMatches<'_>) -> Unread
     }
 }
 
-/// What is told of words that `clap` does not take.
+/// Makes the help or the usage error of arguments that `clap` does not accept.
 fn unread<S: AsStr>(alloc: Global, words: &[S], error: &clap::Error) -> Unread
     ensures { (words : List Text) → HasKind (mistakes words) error.now → IsUnread words result }
 {
@@ -539,7 +540,8 @@ fn unread<S: AsStr>(alloc: Global, words: &[S], error: &clap::Error) -> Unread
     }
 }
 
-/// What `clap` says of these words, but for its tip to pass an argument as a value where no such value is taken.
+/// Returns the text of `clap`, without its tip to pass an argument as a value if that value would
+/// be invalid.
 fn told<S: AsStr>(alloc: Global, words: &[S], error: &clap::Error) -> Result<String, AllocError> {
     let text = format!(in alloc; "{error}")?;
     if let Some((before, argument, after)) = around_tip(text.as_str()) {

@@ -79,7 +79,7 @@ With --json it prints one line of JSON:
   thinpool free pool.img --json
     [{\"length\":10737287168,\"offset\":33685504}]";
 
-/// The flag by which what is listed is one line of JSON.
+/// Makes the flag `--json`.
 fn json<'a>(alloc: Global) -> Arg<'a>
     ensures rule { rule_of result ≡ json_rule }
     ensures local { result.global ≡ false }
@@ -87,7 +87,7 @@ fn json<'a>(alloc: Global) -> Arg<'a>
     flag(alloc, "JSON", "json", "Print one line of JSON")
 }
 
-/// The flag by which a pool that is in use is asked.
+/// Makes the flag `--at`.
 fn in_use<'a>(alloc: Global) -> Arg<'a>
     ensures rule { rule_of result ≡ at_rule }
     ensures local { result.global ≡ false }

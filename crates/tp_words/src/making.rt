@@ -38,7 +38,7 @@ error 1 (BadGeometry), prints the number of volumes that fit, and does not touch
 
   thinpool create pool.img --size 10G --volume-size 100G --volumes 4";
 
-/// An option `--name VALUE` that has to be there.
+/// Makes a required option `--name VALUE`.
 fn wanted<'a>(alloc: Global, id: &'a str, name: &'a str, value: &'a str, help: &'a str) -> Arg<'a>
     ensures rule { rule_of result ≡ wanted_rule id.entry.now name.entry.now }
     ensures local { result.global ≡ false }
@@ -46,7 +46,7 @@ fn wanted<'a>(alloc: Global, id: &'a str, name: &'a str, value: &'a str, help: &
     option(alloc, id, name, value, help).required(true)
 }
 
-/// The same of one that is a number of 64 bits.
+/// Makes a required option `--name VALUE` that is a 64-bit number.
 fn wanted_number<'a>(
     alloc: Global,
     id: &'a str,

@@ -47,7 +47,7 @@ After 'stop' or 'stop now' it waits until the server has closed the pool.
   thinpool ask unix:/run/thinpool/control.sock status 'create_thin 1'
   thinpool ask unix:/run/thinpool/control.sock 'stop now'";
 
-/// An option `--name VALUE` that is a number of 64 bits.
+/// Makes an option `--name VALUE` that is a 64-bit number.
 fn number_option<'a>(
     alloc: Global,
     id: &'a str,
@@ -61,7 +61,7 @@ fn number_option<'a>(
     option(alloc, id, name, value, help).value_parser(clap::value_parser!(u64))
 }
 
-/// The arguments that say what is told on standard error.
+/// Adds the options of the log.
 fn with_telling<'a>(
     alloc: Global,
     made: Result<Command<'a>, AllocError>,
