@@ -1,4 +1,4 @@
-//! What is told on standard error while clients are served without end.
+//! The log of `run` on standard error.
 
 use crate::moment::Moment;
 use std::alloc::{AllocError, Global};
@@ -17,10 +17,10 @@ use tp_model::Refusal;
 use tp_served::Served;
 use tp_words::{Service, Texts};
 
-/// At most so many lines wait to be written. Those that come then are lost.
+/// The most lines that wait to be written. Further lines are lost.
 const MOST_LINES: usize = 1000;
 
-/// It is told when less than so many hundredths are free, where no other number was given.
+/// The default of `--low-water`, in percent.
 const LOW_WATER: u64 = 10;
 
 /// The TCP address of each door of clients, if it has one.
@@ -33,7 +33,10 @@ struct Pages {
     is_closed: bool,
 }
 
-/// Lines for standard error. Who notes one waits for no writer: a thread of its own writes them. One is lost where there is no memory for it, or where too many wait.
+/// The log: a queue of lines that a thread of its own writes to standard error.
+///
+/// A call that adds a line does not wait for the writer. A line is lost if there is no memory for it,
+/// or if `MOST_LINES` lines wait.
 #[derive(Drop)]
 pub(crate) struct Journal<'m, R: Wait + Clock> {
     rt: &'m R,
@@ -45,7 +48,7 @@ pub(crate) struct Journal<'m, R: Wait + Clock> {
     low_water: u64,
     pages: Mutex<Pages>,
     has_more: Condvar,
-    /// Whether it was told that little is free, and nothing else since.
+    /// Whether the last warning was that little is free.
     is_data_low: AtomicBool,
     is_metadata_low: AtomicBool,
 }
@@ -57,7 +60,7 @@ struct Use {
     all: u64,
 }
 
-/// A door of clients: its TCP address, or else the text that names it.
+/// A listener: its TCP address, otherwise the text that names it.
 #[derive(Clone, Copy)]
 struct Place<'a> {
     address: Option<SocketAddr>,
@@ -73,7 +76,7 @@ impl Display for Place<'_> {
     }
 }
 
-/// What is told.
+/// An event of the log.
 #[derive(Clone, Copy)]
 enum News<'a> {
     Came(Place<'a>, &'a Visitor),
@@ -176,7 +179,7 @@ impl Use {
         self.all.saturating_sub(self.used)
     }
 
-    /// Whether less than so many hundredths are.
+    /// Returns whether less than `percent` % are free.
     fn is_below(self, percent: u64) -> bool {
         self.free().saturating_mul(100) < self.all.saturating_mul(percent)
     }
@@ -239,7 +242,7 @@ impl<'m, R: Wait + Clock> Journal<'m, R> {
         }
     }
 
-    /// Notes a line, with the time.
+    /// Adds a line with the current time.
     fn note(&self, news: &News<'_>) {
         let moment = Moment::now(self.rt);
         let Ok(line) = format!(in self.alloc; "thinpool: {moment} {news}\n") else {
@@ -260,7 +263,7 @@ impl<'m, R: Wait + Clock> Journal<'m, R> {
         }
     }
 
-    /// Notes once that little is free, until it is more again.
+    /// Logs once that little is free, until more is free again.
     fn look_at(&self, kind: &str, blocks: Use, was_low: &AtomicBool) {
         let is_low = blocks.is_below(self.low_water);
         if !was_low.swap(is_low, Ordering::SeqCst) && is_low {
