@@ -71,7 +71,7 @@ process serves the image or sends it messages. Hold the lock from the listing to
   flock -s pool.img sh -c 'thinpool free pool.img | while read offset length; do
       fallocate -p -o $offset -l $length pool.img; done'
 
-A pool of 10 GiB with blocks of 64 KiB and 32 MiB of metadata, of which two data blocks are in use:
+A pool of 10 GiB with blocks of 64 KiB and 32 MiB of metadata; the first two data blocks are in use:
   thinpool free pool.img
     33685504 10737287168
 
