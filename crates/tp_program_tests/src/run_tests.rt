@@ -245,7 +245,7 @@ type Cleared = (Status, usize);
 /// How that ended.
 fn cleared_of(ran: &Ran) -> Cleared {
     let said = std::str::from_utf8(&ran.errors).unwrap_or("");
-    let cleared = said.matches(" deleted clones that a server left: 1\n");
+    let cleared = said.matches(" deleted 1 clones left by a previous server\n");
     (ran.status, cleared.count())
 }
 
