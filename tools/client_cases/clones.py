@@ -133,7 +133,7 @@ def killed_with_clones(host):
     del left
     host.ground.want_clean(golden.image)
     with golden.up() as again:
-        again.tells(rf"deleted clones that a server left: {CLONES}\n")
+        again.tells(rf"deleted {CLONES} clones left by a previous server\n")
         want((used(again) == before, f"{before} were in use before, {used(again)} are behind a kill"))
         golden.is_in(again)
         there = have_clones(again, golden)
@@ -158,7 +158,7 @@ def killed_in_the_middle(host):
                     there[at % 20] = Clone(server, golden, 100 * life + at)
         host.ground.want_clean(golden.image)
     with golden.up() as again:
-        want((int(again.tells(r"deleted clones that a server left: (\d+)\n")[1]) >= 20, "too few clones were left"))
+        want((int(again.tells(r"deleted (\d+) clones left by a previous server\n")[1]) >= 20, "too few clones were left"))
         want((used(again) == before, f"{before} were in use before, {used(again)} are behind four kills"))
         golden.is_in(again)
 

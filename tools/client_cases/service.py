@@ -191,7 +191,7 @@ def no_low_water(host):
         client.leave()
         want((" low" not in server.told(), f"told {server.told()!r}"))
     ran = ground.run("run", image, "--listen", f"unix:{ground.path('nbd.sock')}", "--low-water", "101")
-    want((ran.status == 2 and b"PERCENT is not from 0 to 100" in ran.err, ran.told()))
+    want((ran.status == 2 and b"<PERCENT>: must be in 0..=100" in ran.err, ran.told()))
 
 
 def four_places(host):

@@ -113,7 +113,7 @@ def bytes_out(server):
     """How many bytes clients were sent, as the server tells once all of them have gone."""
     for _ in range(100):
         told = server.told()
-        if told.count(" came to ") == told.count(" went: "):
+        if told.count(" connected to ") == told.count(" disconnected: "):
             return sum(int(it) for it in re.findall(r"(\d+) bytes out", told))
         time.sleep(0.1)
     raise AssertionError("a client has not gone")

@@ -55,7 +55,7 @@ def come_and_go(host):
         # The control client's own may be closed a moment later.
         time.sleep(0.5)
         want((handles(server) <= before, f"{before} handles before, {handles(server)} behind"))
-    counts = [server.told().count(it) for it in (" came to ", " went: volume 0, ")]
+    counts = [server.told().count(it) for it in (" connected to ", " disconnected: volume 0, ")]
     want((counts == [301, 301], f"{counts} are told to have come and gone"))
     return f"{300 / took:.0f} a second"
 
@@ -85,7 +85,7 @@ def four_connections(host):
     files, image = Files(host.ground), host.pool()
     with host.killed(image) as server:
         done("nbdcopy", "--connections=4", "--flush", files.random, server.uri("0"))
-        came = server.told().count(" came to ")
+        came = server.told().count(" connected to ")
     host.ground.want_clean(image)
     with host.up(image) as again:
         done("nbdcopy", "--connections=4", again.uri("0"), files.back)
@@ -331,8 +331,8 @@ def control_lines(host):
         client.leave()
         # The words leave the port to the system, which is told as it is.
         where = re.escape(str(server.place)) + ("" if host.over == "unix" else r" from 127\.0\.0\.1:\d+")
-        number = server.tells(rf"{TIME}client (\d+) came to {where}\n")[1]
-        want_bytes(server.tells(rf"{TIME}client {number} went: volume 1, (\d+) requests, (\d+) bytes in, (\d+) bytes out\n"))
+        number = server.tells(rf"{TIME}client (\d+) connected to {where}\n")[1]
+        want_bytes(server.tells(rf"{TIME}client {number} disconnected: volume 1, (\d+) requests, (\d+) bytes in, (\d+) bytes out\n"))
         said = server.told()
         want((re.search(rf"{TIME}control: create_thin 8\n", said) and said.count("control: ") == 1, f"told {said!r}"))
     said = server.told()

@@ -118,7 +118,7 @@ def asks_and_refuses(ground):
     with device(ground, holds=[(1080, b"\1")]) as node:
         before = held(node)
         ran = on_terminal([ground.program, "format", node, *SIZES], typed=b"yes\n")
-        want((ran.status == 1 and b"%d bytes that are no pool" % DEVICE in ran.err and b"14 Exists" in ran.err and held(node) == before, f"answered yes: {ran.told()}"))
+        want((ran.status == 1 and b"%d bytes that are not a pool" % DEVICE in ran.err and b"14 Exists" in ran.err and held(node) == before, f"answered yes: {ran.told()}"))
 
 
 CASES = [

@@ -101,7 +101,7 @@ _thinpool() {
 @commands@
     )
     _arguments -C \\
-        '--explain[say what was refused and why]' \\
+        '--explain[after an error, print what failed and why]' \\
         '(- *)'{-h,--help}'[print help]' \\
         '(- *)'{-V,--version}'[print the version]' \\
         '1: :->command' \\

@@ -22,3 +22,4 @@ pub mod Telling
 pub mod Holing
 pub mod Filling
 pub mod Flushing
+pub mod Zeros

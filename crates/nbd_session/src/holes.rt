@@ -33,10 +33,10 @@ pub(crate) fn may_have_holes(request: &Request) -> bool
     request.len >= LEAST_BLOCK
 }
 
-/// As many bytes as are tested for zeros together.
+/// Bytes that are tested for zeros together.
 const STRIDE: usize = 512;
 
-/// All bits that some byte has.
+/// Returns the bitwise OR of all bytes.
 fn bits_of(bytes: &[u8]) -> u8
     ensures { (result == 0) ≡ list_all (λ b. b == 0) bytes.now }
 {

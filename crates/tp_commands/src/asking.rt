@@ -139,7 +139,7 @@ fn says_yes<S: Stream>(alloc: Global, stream: &mut S) -> bool
     }
 }
 
-/// Asks whether what an image holds is to be destroyed.
+/// Asks whether to destroy the data of an image.
 fn ask<E: Write>(held: Held, name: &str, errors: &mut E) -> bool {
     let asked = match held {
         Held::Pool(1) => {
@@ -157,7 +157,7 @@ fn ask<E: Write>(held: Held, name: &str, errors: &mut E) -> bool {
         Held::Bytes(count) => {
             write!(
                 errors,
-                "thinpool: {name} holds {count} bytes that are no pool; type yes to destroy them: "
+                "thinpool: {name} holds {count} bytes that are not a pool; type yes to destroy them: "
             )
         }
     };

@@ -1,5 +1,4 @@
 pub mod Calls
-pub mod File
 pub mod HandedOut
 pub mod Log
 pub mod Memory

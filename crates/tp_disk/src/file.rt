@@ -2,12 +2,14 @@
 //! its state it is not honest, and no promise on contents speaks of it. What is proved of contents is proved of each honest disk; that files are such is a
 //! premise of those who use them.
 ghost use Rattle.std.specs.Prelude.{◌≡◌, ◌<◌, ◌≤◌, ◌-◌, ◌^◌, IfOk, OnOk, is_ok, false};
+ghost use Rattle.tp_disk.specs.HandedOut.{IsHandedOut};
+ghost use Rattle.tp_disk.specs.Syncs.{writes_of};
 ghost use Rattle.tp_model.specs.Disk.{IsSettled, IsWellFormed, after_flush};
 
 use crate::disk::{MOST_SECTORS, SECTOR};
+use crate::image_file::ImageFile;
 use crate::opening::{
-    LockedFile, OpenError, OpenStep, drop_cached, open_or_make, open_there, open_there_to_read,
-    sync_folder,
+    LockedFile, OpenError, OpenStep, open_or_make, open_there, open_there_to_read, sync_folder,
 };
 use crate::refused::RefusedReads;
 use crate::shadow::{Shadow, Step};
@@ -17,7 +19,6 @@ use crate::{Disk, Fault, SharedDisk};
 use std::alloc::Global;
 use std::fs::File;
 use std::io;
-use std::os::unix::fs::FileExt;
 use std::rt::Files;
 
 /// The most bytes that one call of the system writes. Linux keeps what one call wrote in a folio of that size where it can, and a later write of a part of a folio looks at
@@ -43,8 +44,8 @@ const MOST_WRITTEN: usize = 65_536;
 /// that open images through a `FileDisk` keep out of each other's way. It never has one of descriptors 0 to 2, to which a program writes what it
 /// tells.
 #[derive(Drop)]
-pub struct FileDisk {
-    file: LockedFile,
+pub struct FileDisk<F: ImageFile + Drop> {
+    file: F,
     size: u64,
     shadow: Shadow,
     trouble: Option<Trouble>,
@@ -64,19 +65,15 @@ pub struct FileDisk {
     ghost counted: { last.writes ≡ writes → writes < 2 ^ 64 - 1 → IsSettled shadow.state.cells },
 }
 
-impl FileDisk {
-    ghost use Rattle.tp_disk.specs.File.{file_state};
-    ghost use Rattle.tp_disk.specs.HandedOut.{IsHandedOut};
-    ghost use Rattle.tp_disk.specs.Syncs.{writes_of, writes_to};
-
+impl FileDisk<LockedFile> {
     /// The disk over an existing file, or over a whole block device. A part of a sector at the end is not counted. Refused where the system refuses, as for a missing file or one that
     /// cannot be synced or dropped from the page cache, where it is neither a regular file nor a block
     /// device, another open holds its lock, or it would have one of descriptors 0 to 2, and where there
     /// are more than 2^54 sectors.
-    pub fn open<R>(rt: &R, path: &str) -> Result<FileDisk, OpenError>
+    pub fn open<R>(rt: &R, path: &str) -> Result<FileDisk<LockedFile>, OpenError>
     where
         R: Files<File = File> + Alloc<A = Global>,
-        ensures { IfOk result (λ disk. IsHandedOut (file_state disk)) }
+        ensures { IfOk result (λ disk. IsHandedOut disk.shadow.state) }
     {
         let file = LockedFile::exclusive(open_there(rt, path)?)?;
         let size = file.length()?;
@@ -85,10 +82,10 @@ impl FileDisk {
 
     /// The same disk, to read alone: it needs no right to write the file, and each write of it is a `Fault`. Any number of such
     /// disks may be open over one file, and none beside a disk of `open` or `create`. Refused as `open`.
-    pub fn open_to_read<R>(rt: &R, path: &str) -> Result<FileDisk, OpenError>
+    pub fn open_to_read<R>(rt: &R, path: &str) -> Result<FileDisk<LockedFile>, OpenError>
     where
         R: Files<File = File> + Alloc<A = Global>,
-        ensures { IfOk result (λ disk. IsHandedOut (file_state disk)) }
+        ensures { IfOk result (λ disk. IsHandedOut disk.shadow.state) }
     {
         let file = LockedFile::shared(open_there_to_read(rt, path)?)?;
         let size = file.length()?;
@@ -99,11 +96,11 @@ impl FileDisk {
     /// device; and sets its length: what an existing file held stays up to that length, and what is added is zero. Refused as `open`, where the lock
     /// is tested before the length is set, for a block device, whose length is its own, and for more than 2^54 sectors, for which no file is touched. A link to a file that is absent is refused,
     /// since that file's folder is another one.
-    pub fn create<R>(rt: &R, path: &str, sectors: u64) -> Result<FileDisk, OpenError>
+    pub fn create<R>(rt: &R, path: &str, sectors: u64) -> Result<FileDisk<LockedFile>, OpenError>
     where
         R: Files<File = File> + Alloc<A = Global>,
-        ensures size { IfOk result (λ disk. (file_state disk).size ≡ sectors) }
-        ensures untouched { IfOk result (λ disk. IsHandedOut (file_state disk)) }
+        ensures size { IfOk result (λ disk. disk.shadow.state.size ≡ sectors) }
+        ensures untouched { IfOk result (λ disk. IsHandedOut disk.shadow.state) }
     {
         if sectors > MOST_SECTORS {
             return Err(OpenError::TooLarge);
@@ -117,33 +114,23 @@ impl FileDisk {
         }
         Ok(disk)
     }
+}
 
-    /// The last call of the system that failed, if one did: what stands behind a `Fault`.
-    pub fn trouble(&self) -> Option<Trouble> {
-        self.trouble
-    }
-
-    /// A sync behind the last write.
-    fn synced(&self) -> io::Result<Synced>
-        ensures { IfOk result (λ synced. writes_of synced ≡ writes_to self.now) }
-    {
-        if self.last.is_behind(self.writes) {
-            return Ok(self.last);
-        }
-        self.syncs.behind(self.file.file(), self.writes)
-    }
-
-    /// The disk over a locked file of this many sectors, all of which is on the device. The caller has
-    /// read nothing of it.
-    fn over(alloc: Global, file: LockedFile, size: u64) -> Result<FileDisk, OpenError>
-        ensures size { IfOk result (λ disk. (file_state disk).size ≡ size) }
-        ensures untouched { IfOk result (λ disk. IsHandedOut (file_state disk)) }
+impl<F: ImageFile + Drop> FileDisk<F> {
+    /// Makes a disk of this many sectors over a file of which nothing was read yet. It syncs the file,
+    /// and then drops its cached pages.
+    ///
+    /// Errors: `TooLarge` for more than 2^54 sectors; `System` if the file refuses to be synced or
+    /// dropped from the page cache.
+    pub fn over(alloc: Global, file: F, size: u64) -> Result<FileDisk<F>, OpenError>
+        ensures size { IfOk result (λ disk. disk.shadow.state.size ≡ size) }
+        ensures untouched { IfOk result (λ disk. IsHandedOut disk.shadow.state) }
     {
         if size > MOST_SECTORS {
             return Err(OpenError::TooLarge);
         }
-        let last = OpenStep::Sync.tried(Synced::at_opening(file.file()))?;
-        OpenStep::DropCached.tried(drop_cached(file.file()))?;
+        let last = OpenStep::Sync.tried(Synced::at_opening(&file))?;
+        OpenStep::DropCached.tried(file.drop_cached())?;
         let mut shadow = Shadow::new();
         shadow.note(&Step::Unclaimed { sectors: size }, &[]);
         Ok(FileDisk {
@@ -158,10 +145,25 @@ impl FileDisk {
             syncs: Syncs::none(),
         })
     }
+
+    /// The last call of the system that failed, if one did: what stands behind a `Fault`.
+    pub fn trouble(&self) -> Option<Trouble> {
+        self.trouble
+    }
+
+    /// A sync behind the last write.
+    fn synced(&self) -> io::Result<Synced>
+        ensures { IfOk result (λ synced. writes_of synced ≡ self.now.writes) }
+    {
+        if self.last.is_behind(self.writes) {
+            return Ok(self.last);
+        }
+        self.syncs.behind(&self.file, self.writes)
+    }
 }
 
 /// Writes bytes to a file from a byte of it on, in pieces.
-fn write_pieces(file: &File, mut at: u64, bytes: &[u8]) -> io::Result<()> {
+fn write_pieces<F: ImageFile>(file: &F, mut at: u64, bytes: &[u8]) -> io::Result<()> {
     for piece in bytes.chunks(MOST_WRITTEN) {
         file.write_all_at(piece, at)?;
         at = at.saturating_add(piece.len() as u64);
@@ -169,11 +171,8 @@ fn write_pieces(file: &File, mut at: u64, bytes: &[u8]) -> io::Result<()> {
     Ok(())
 }
 
-impl Disk for FileDisk {
-    ghost use Rattle.tp_disk.specs.File.{file_state};
-    ghost use Rattle.tp_disk.specs.Syncs.{IsSynced, writes_to};
-
-    ghost state = { file_state };
+impl<F: ImageFile + Drop> Disk for FileDisk<F> {
+    ghost state = { λ disk. disk.shadow.state };
 
     ghost well_formed = { λ disk. disk.well_formed };
 
@@ -184,7 +183,7 @@ impl Disk for FileDisk {
     fn read(&mut self, at: u64, out: &mut [u8]) -> Result<(), Fault> {
         let done = match self.refused.take(at, out.len()) {
             Some(error) => Err(error),
-            None => self.file.file().read_exact_at(out, SECTOR * at),
+            None => self.file.read_exact_at(out, SECTOR * at),
         };
         let ok = done.is_ok();
         note_trouble(&mut self.trouble, DiskCall::Read { at }, done);
@@ -196,7 +195,7 @@ impl Disk for FileDisk {
         self.writes = self.writes.saturating_add(1);
         self.unsynced = self.unsynced.saturating_add(bytes.len() as u64);
         self.refused.forget(at, bytes.len());
-        let done = write_pieces(self.file.file(), SECTOR * at, bytes);
+        let done = write_pieces(&self.file, SECTOR * at, bytes);
         let ok = done.is_ok();
         note_trouble(&mut self.trouble, DiskCall::Write { at }, done);
         self.shadow.note(&Step::Write { at, ok }, bytes);
@@ -205,9 +204,9 @@ impl Disk for FileDisk {
 
     /// It makes no call of the system where the file was synced behind its last write.
     fn flush(&mut self) -> Result<(), Fault>
-        ensures state { file_state self.new ≡ after_flush (is_ok result) (file_state self.old) }
-        ensures synced { OnOk result (IsSynced self.new) }
-        ensures writes { writes_to self.new ≡ writes_to self.old }
+        ensures state { self.new.shadow.state ≡ after_flush (is_ok result) self.old.shadow.state }
+        ensures synced { OnOk result (writes_of self.new.last ≡ self.new.writes) }
+        ensures writes { self.new.writes ≡ self.old.writes }
     {
         match self.synced() {
             Ok(synced) => {
@@ -225,9 +224,9 @@ impl Disk for FileDisk {
     }
 }
 
-impl SharedDisk for FileDisk {
+impl<F: ImageFile + Drop> SharedDisk for FileDisk<F> {
     fn read_shared(&self, at: u64, out: &mut [u8]) -> bool {
-        match self.file.file().read_exact_at(out, SECTOR * at) {
+        match self.file.read_exact_at(out, SECTOR * at) {
             Ok(()) => true,
             Err(error) => {
                 self.refused.note(at, out.len(), error);
@@ -238,7 +237,7 @@ impl SharedDisk for FileDisk {
 
     fn sync_ahead(&self, least: u64) {
         if self.unsynced >= least && !self.last.is_behind(self.writes) {
-            self.syncs.ahead(self.file.file(), self.writes);
+            self.syncs.ahead(&self.file, self.writes);
         }
     }
 }

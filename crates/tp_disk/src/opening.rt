@@ -3,11 +3,12 @@
 ghost use Rattle.std.specs.Prelude.{◌≡◌, IfOk, Ok};
 ghost use Rattle.tp_disk.specs.Streams.{IsNoStream};
 
+use crate::image_file::ImageFile;
 use std::fmt::{self, Display, Formatter};
 use std::fs::{self, File, Metadata, OpenOptions, TryLockError};
 use std::io::{self, ErrorKind, Seek, SeekFrom};
 use std::os::fd::AsRawFd;
-use std::os::unix::fs::{FileTypeExt, OpenOptionsExt};
+use std::os::unix::fs::{FileExt, FileTypeExt, OpenOptionsExt};
 use std::rt::Files;
 
 /// The rights of a file that is made: its owner alone reads and writes it.
@@ -217,11 +218,6 @@ impl LockedFile {
         Ok(LockedFile { file })
     }
 
-    /// The file, to read, write and sync.
-    pub(crate) fn file(&self) -> &File {
-        &self.file
-    }
-
     /// Sets the length of a regular file, in bytes. What is added is zero.
     ///
     /// Errors: `NotRegular` for a device, whose length is its own; `System` if the system refuses.
@@ -248,15 +244,34 @@ impl LockedFile {
     }
 }
 
-/// Drops the system's cached pages of a file, so that the next reads come from its device.
-///
-/// Linux marks a page clean even if writing it to the device failed. A client of shared storage may
-/// keep pages that another host has overwritten. Dirty pages stay, so sync the file first. Pages that
-/// another process has mapped stay too, and the answer is `Ok` all the same.
-pub(crate) fn drop_cached(file: &File) -> io::Result<()> {
-    match libc::posix_fadvise(file.as_raw_fd(), 0, 0, libc::POSIX_FADV_DONTNEED) {
-        0 => Ok(()),
-        code => Err(io::Error::from_raw_os_error(code)),
+impl FileExt for LockedFile {
+    fn read_at(&self, buf: &mut [u8], offset: u64) -> io::Result<usize> {
+        self.file.read_at(buf, offset)
+    }
+
+    fn write_at(&self, buf: &[u8], offset: u64) -> io::Result<usize> {
+        self.file.write_at(buf, offset)
+    }
+}
+
+impl ImageFile for LockedFile {
+    fn sync_all(&self) -> io::Result<()> {
+        self.file.sync_all()
+    }
+
+    fn sync_data(&self) -> io::Result<()> {
+        self.file.sync_data()
+    }
+
+    /// Linux marks a page clean even if writing it to the device failed, and a client of shared
+    /// storage may keep pages that another host has overwritten. Dirty pages stay, so the file must be
+    /// synced first. Pages that another process has mapped stay too, and the answer is `Ok` all the
+    /// same.
+    fn drop_cached(&self) -> io::Result<()> {
+        match libc::posix_fadvise(self.file.as_raw_fd(), 0, 0, libc::POSIX_FADV_DONTNEED) {
+            0 => Ok(()),
+            code => Err(io::Error::from_raw_os_error(code)),
+        }
     }
 }
 

@@ -2,7 +2,7 @@
 ghost use Rattle.std.specs.Prelude.{◌≡◌, ◌<◌, ◌^◌, IfOk, IfSome};
 ghost use Rattle.std.specs.Bool.{OnTrue};
 
-use std::fs::File;
+use crate::image_file::ImageFile;
 use std::io;
 use std::sync::Mutex;
 use std::sync::atomic::{AtomicU64, Ordering};
@@ -30,7 +30,7 @@ impl Synced {
     ghost use Rattle.tp_disk.specs.Syncs.{writes_of};
 
     /// The sync of a file that is opened, of all that it has.
-    pub(crate) fn at_opening(file: &File) -> io::Result<Synced>
+    pub(crate) fn at_opening<F: ImageFile>(file: &F) -> io::Result<Synced>
         ensures { IfOk result (λ synced. writes_of synced ≡ 0) }
     {
         file.sync_all()?;
@@ -66,7 +66,7 @@ impl Syncs {
     }
 
     /// Waits until the system has brought to the device what so many writes wrote to a file. Once one sync has failed, all do.
-    fn sync(&self, file: &File, writes: u64) -> io::Result<Synced>
+    fn sync<F: ImageFile>(&self, file: &F, writes: u64) -> io::Result<Synced>
         ensures { IfOk result (λ synced. writes_of synced ≡ writes) }
     {
         self.go_on()?;
@@ -93,7 +93,7 @@ impl Syncs {
     }
 
     /// A sync behind so many writes of a file: one that was made ahead, or a new one. Refused by the system, and where one was before.
-    pub(crate) fn behind(&self, file: &File, writes: u64) -> io::Result<Synced>
+    pub(crate) fn behind<F: ImageFile>(&self, file: &F, writes: u64) -> io::Result<Synced>
         ensures { IfOk result (λ synced. writes_of synced ≡ writes) }
     {
         self.go_on()?;
@@ -105,7 +105,7 @@ impl Syncs {
 
     /// Syncs a file behind so many writes, while others read it, for who asks for that sync next. Where another thread is about it, its sync may be
     /// forgotten.
-    pub(crate) fn ahead(&self, file: &File, writes: u64) {
+    pub(crate) fn ahead<F: ImageFile>(&self, file: &F, writes: u64) {
         if let Ok(synced) = self.behind(file, writes) {
             if let Some(mut newest) = self.ahead.try_lock() {
                 *newest = Some(synced);

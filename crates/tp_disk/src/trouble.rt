@@ -1,6 +1,6 @@
 //! What the system said of a call that failed a disk.
 
-use crate::{FileDisk, MemDisk};
+use crate::{FileDisk, ImageFile, MemDisk};
 use std::fmt::{self, Display, Formatter};
 use std::io;
 
@@ -47,7 +47,7 @@ pub trait TellsTrouble {
     fn trouble(&self) -> Option<Trouble>;
 }
 
-impl TellsTrouble for FileDisk {
+impl<F: ImageFile + Drop> TellsTrouble for FileDisk<F> {
     fn trouble(&self) -> Option<Trouble> {
         FileDisk::trouble(self)
     }

@@ -1,4 +1,4 @@
-//! What is told of a refusal behind its number and name: what was refused, why, and what to do.
+//! The second line of an error message: the object, what failed, why, and the next command.
 
 ghost use Rattle.std.specs.Prelude.{◌≤◌};
 
@@ -12,17 +12,17 @@ use tp_words::{Image, Sizes, Task};
 
 const SECTOR: u64 = 512;
 
-/// The most bytes of a message.
+/// The longest message, in bytes.
 const LONGEST: usize = 256;
 
-/// A refusal of a task, in words. It prints as one line without its end.
+/// The explanation of a failed task. It prints as one line without a newline.
 #[derive(Clone, Copy)]
 pub struct Explanation<'a> {
     pub task: Task<'a>,
     pub failure: Failure,
 }
 
-/// The image of a task, as the words name it.
+/// Returns the image of a task as the command line names it, or the address of a server.
 fn image_of<'a>(task: &Task<'a>) -> &'a str {
     match *task {
         Task::Format { image, .. }
@@ -41,7 +41,7 @@ fn image_of<'a>(task: &Task<'a>) -> &'a str {
     }
 }
 
-/// The script of a task, or nothing.
+/// Returns the script of a task, or an empty text.
 fn script_of<'a>(task: &Task<'a>) -> &'a str {
     match *task {
         Task::Play { script, .. } => script,
@@ -49,7 +49,7 @@ fn script_of<'a>(task: &Task<'a>) -> &'a str {
     }
 }
 
-/// The addresses of a task, of clients and of control lines, or nothing.
+/// Returns the addresses of a task for clients and for control lines, or empty texts.
 fn addresses_of<'a>(task: &Task<'a>) -> (&'a str, &'a str) {
     match *task {
         Task::Serve {
@@ -62,7 +62,8 @@ fn addresses_of<'a>(task: &Task<'a>) -> (&'a str, &'a str) {
     }
 }
 
-/// The place of this number of a task, or nothing.
+/// Returns the listen address of this number, or an empty text: 0 to 3 are for clients, 4 is for
+/// control lines.
 fn place_of<'a>(task: &Task<'a>, number: u8) -> &'a str {
     let Task::Run { service, .. } = *task else {
         return "";
@@ -100,11 +101,11 @@ impl Display for Explanation<'_> {
             Cause::Control(error) => explain_address(control, &error, f),
             Cause::Accept(came) => write!(
                 f,
-                "no more clients can be accepted on {address}: {came} had come"
+                "cannot accept further clients on {address}: {came} have connected"
             ),
             Cause::TurnedAway(count) => write!(
                 f,
-                "{count} clients were refused memory or a thread"
+                "{count} clients were disconnected: out of memory or threads"
             ),
             Cause::Place(number, error) => {
                 explain_address(place_of(&self.task, number), &error, f)
@@ -112,15 +113,15 @@ impl Display for Explanation<'_> {
             Cause::Group => write!(f, "group {} does not exist", group_of(&self.task)),
             Cause::Groups(error) => write!(f, "/etc/group cannot be read: {error}"),
             Cause::Threads => f.write_str(
-                "the system has no thread for each of 64 clients; the pool was closed",
+                "cannot create a thread for each of 64 clients; the pool was closed",
             ),
             Cause::Reach(error) => write!(f, "{address} cannot be reached: {error}"),
-            Cause::Answered => f.write_str("the server refused a line"),
-            Cause::Unanswered(count) => write!(f, "the server has gone: it answered {count} lines"),
-            Cause::Output => f.write_str(
-                "what is to be told cannot be written: the output is closed, or its disk is full; what was done is done",
-            ),
-            Cause::Declined => write!(f, "{image} was left as it is"),
+            Cause::Answered => f.write_str("the server replied `refused N` to a line"),
+            Cause::Unanswered(count) => {
+                write!(f, "server closed the connection after {count} replies")
+            }
+            Cause::Output => explain_output(&self.task, image, f),
+            Cause::Declined => write!(f, "{image} is unchanged"),
             Cause::Small { sectors, wanted } => explain_size(image, sectors, wanted, f),
             Cause::Taken => explain_taken(image, f),
             Cause::Unfit(unfit) => explain_unfit(&unfit, f),
@@ -128,6 +129,7 @@ impl Display for Explanation<'_> {
     }
 }
 
+/// Explains why a script was not opened.
 fn explain_script<W: fmt::Write>(
     script: &str,
     error: &io::Error,
@@ -136,22 +138,43 @@ fn explain_script<W: fmt::Write>(
     write!(f, "script {script} cannot be opened: {error}")
 }
 
+/// Explains why a read of a script failed.
 fn explain_script_end<W: fmt::Write>(script: &str, f: &mut Formatter<W>) -> fmt::Result {
     write!(
         f,
-        "script {script} cannot be read to its end: it is a directory, or its disk failed"
+        "script {script} cannot be read: it is a directory, or its disk failed"
     )
 }
 
-/// What stands on a device that is not to be lost unasked.
+/// Explains that standard output failed, and what the command did before.
+///
+/// `create` prints the sizes before it writes the image, and `play` stops at the first reply that
+/// it cannot print.
+fn explain_output<W: fmt::Write>(
+    task: &Task<'_>,
+    image: &str,
+    f: &mut Formatter<W>,
+) -> fmt::Result {
+    f.write_str("cannot write to standard output: it is closed or its disk is full; ")?;
+    match task {
+        Task::Create { .. } => write!(
+            f,
+            "`thinpool status {image}` prints whether the pool was created"
+        ),
+        Task::Play { .. } => f.write_str("the script stopped there"),
+        _ => f.write_str("the operation itself completed"),
+    }
+}
+
+/// Explains that a device holds data which `format` overwrites only with `--overwrite`.
 fn explain_taken<W: fmt::Write>(image: &str, f: &mut Formatter<W>) -> fmt::Result {
     write!(
         f,
-        "{image} has other bytes than zeros or a pool's among its first 8192; with --overwrite they are lost"
+        "{image} contains data that is not a thinpool image (checked: first 8192 bytes); --overwrite destroys it"
     )
 }
 
-/// Why an image was not opened.
+/// Explains why an image was not opened.
 fn explain_opening<W: fmt::Write>(
     task: &Task<'_>,
     image: &str,
@@ -160,26 +183,30 @@ fn explain_opening<W: fmt::Write>(
 ) -> fmt::Result {
     write!(f, "{image} {error}")?;
     match *error {
-        OpenError::NotRegular => f.write_str(": an image is one"),
+        OpenError::NotRegular => f.write_str("; an image must be one of them"),
         OpenError::System { error, .. } => advise(task, &error, f),
         OpenError::InUse | OpenError::TooLarge | OpenError::StandardStream => Ok(()),
     }
 }
 
-/// What to do about an error of the system at opening.
+/// Advises on an error of the operating system at opening.
 fn advise<W: fmt::Write>(task: &Task<'_>, error: &io::Error, f: &mut Formatter<W>) -> fmt::Result {
     match (error.kind(), task) {
         (ErrorKind::NotFound, Task::Format { .. } | Task::Create { .. }) => Ok(()),
-        (ErrorKind::NotFound, _) => f.write_str("; `thinpool format` makes an image"),
+        (ErrorKind::NotFound, _) => f.write_str(
+            "; `thinpool create --help` describes how to create an image",
+        ),
         (ErrorKind::StorageFull | ErrorKind::QuotaExceeded, _) => {
-            f.write_str("; make room on the host's disk, and then try again")
+            f.write_str("; free space on the host's disk, then try again")
         }
-        (ErrorKind::PermissionDenied, _) => f.write_str("; run it as the file's owner"),
+        (ErrorKind::PermissionDenied, _) => f.write_str(
+            "; check the owner and the mode of the file",
+        ),
         _ => Ok(()),
     }
 }
 
-/// What the system said of an image's disk.
+/// Explains an I/O error of an image's disk.
 fn explain_disk<W: fmt::Write>(
     image: &str,
     trouble: &Trouble,
@@ -188,13 +215,13 @@ fn explain_disk<W: fmt::Write>(
     write!(f, "{image}: {trouble}")?;
     match trouble.error.kind() {
         ErrorKind::StorageFull | ErrorKind::QuotaExceeded => f.write_str(
-            "; make room on the host's disk, and then open the image again",
+            "; free space on the host's disk, then open the image again",
         ),
-        _ => f.write_str("; what was flushed before is kept: open the image again"),
+        _ => f.write_str("; see the kernel's log, then open the image again"),
     }
 }
 
-/// Why an address is not listened on.
+/// Explains why the server cannot listen on an address.
 fn explain_address<W: fmt::Write>(
     address: &str,
     error: &io::Error,
@@ -203,7 +230,7 @@ fn explain_address<W: fmt::Write>(
     write!(f, "cannot listen on {address}: {error}")
 }
 
-/// How large a device is, and how large the pool.
+/// Explains that a device is too small: its size and the size of the pool, in bytes.
 fn explain_size<W: fmt::Write>(
     image: &str,
     sectors: u64,
@@ -214,24 +241,24 @@ fn explain_size<W: fmt::Write>(
     let wanted = wanted.saturating_mul(SECTOR);
     write!(
         f,
-        "{image} has {bytes} bytes, and a pool of these sizes takes {wanted}"
+        "{image} has {bytes} bytes; a pool of these sizes needs {wanted}"
     )
 }
 
-/// Why there is no pool that holds what is wanted.
+/// Explains why no pool has the requested sizes.
 fn explain_unfit<W: fmt::Write>(unfit: &Unfit, f: &mut Formatter<W>) -> fmt::Result {
     match *unfit {
         Unfit::OutOfRange => f.write_str(
-            "a pool holds 1 byte to 1 TiB, and a volume 1 byte to 16 TiB; at least one volume is to be wanted",
+            "--size must be 1 byte to 1 TiB, --volume-size 1 byte to 16 TiB, and --volumes at least 1",
         ),
         Unfit::TooMany { fit } => write!(
             f,
-            "the metadata of so many volumes would take more than 65536 blocks, even with data blocks of 1 MiB: {fit} volumes fit"
+            "the metadata of these volumes needs more than 65536 blocks, even with data blocks of 1 MiB; {fit} volumes fit"
         ),
     }
 }
 
-/// What a number means, of this task.
+/// Explains an error number for this task.
 fn explain_number<W: fmt::Write>(
     task: &Task<'_>,
     refusal: Refusal,
@@ -241,25 +268,25 @@ fn explain_number<W: fmt::Write>(
     match refusal {
         Refusal::BadGeometry => match *task {
             Task::Format { sizes, .. } => explain_sizes(&sizes, f),
-            _ => f.write_str("a size is out of its limits"),
+            _ => f.write_str("a size is out of range"),
         },
         Refusal::Damaged => write!(
             f,
-            "{image} has bytes that no pool writes, or is shorter than its pool; `thinpool check {image}` tells more"
+            "{image} is damaged, or shorter than its pool; run `thinpool check {image}`"
         ),
-        Refusal::NotAPool => write!(f, "{image} holds no pool; `thinpool format` makes one"),
+        Refusal::NotAPool => write!(f, "{image} is not a thinpool image; check the name"),
         Refusal::BadVersion => write!(
             f,
-            "{image} holds a pool of another version than this program's"
+            "{image} has an unknown format version; use the program that wrote it"
         ),
-        Refusal::Memory => f.write_str("the system has no memory for it"),
+        Refusal::Memory => f.write_str("out of memory"),
         Refusal::ReadOnly => write!(
             f,
-            "the pool is read-only since it wants a check; `thinpool check {image} --clear-needs-check-flag` makes that check"
+            "the pool needs a check and is read-only. Run `thinpool check {image} --clear-needs-check-flag`, then release the metadata snapshot or delete volumes"
         ),
         Refusal::Failed => write!(
             f,
-            "the pool failed at an earlier fault of its disk; open {image} again"
+            "the pool failed earlier, with error 5 (Fault) or 2 (Damaged); open {image} again"
         ),
         Refusal::BadSuper
         | Refusal::BadNode
@@ -273,29 +300,35 @@ fn explain_number<W: fmt::Write>(
     }
 }
 
-/// What a check found.
+/// Explains what a check found.
 fn explain_check<W: fmt::Write>(
     refusal: Refusal,
     image: &str,
     f: &mut Formatter<W>,
 ) -> fmt::Result {
     let found = match refusal {
-        Refusal::BadSuper => "no superblock can be used, or the file is shorter than it says",
+        Refusal::BadSuper => "no usable superblock, or the file is shorter than its pool",
         Refusal::BadNode =>
-            "a block that should hold a node of a tree holds none, or another one, or a volume's record of version 1 tells a size",
-        Refusal::BadOrder => "the keys of a node do not ascend, or lie outside of their range",
+            "a block is not the tree node that it should be, or a volume record of version 1 has a size",
+        Refusal::BadOrder => "the keys of a node are not ascending, or out of range",
         Refusal::BadCount =>
-            "the counts of references are not the true ones, or fewer than 128 metadata blocks are free",
+            "stored reference counts are wrong, or fewer than 128 metadata blocks are free",
         Refusal::OutOfPlace =>
-            "a block number is out of its range, or there are more than 65536 volumes",
+            "a block number is out of range, or there are more than 65536 volumes",
         Refusal::HalfEmpty => "a node has too few entries",
-        Refusal::BadMapped => "a volume's number of mapped blocks is not the true one",
-        _ => "a volume's record tells a size that no volume may have",
+        Refusal::BadMapped => "a volume's count of mapped blocks is wrong",
+        _ => "a volume record has an invalid size",
     };
-    write!(f, "{image}: {found}; put a clean copy in its place")
+    match refusal {
+        Refusal::BadSuper => write!(
+            f,
+            "{image}: {found}; check the name, or copy the image again"
+        ),
+        _ => write!(f, "{image}: {found}; use a clean copy instead"),
+    }
 }
 
-/// Why a message, or a question for a volume, was refused.
+/// Explains why a message, or a command on a volume, failed.
 fn explain_message<W: fmt::Write>(
     task: &Task<'_>,
     refusal: Refusal,
@@ -305,7 +338,7 @@ fn explain_message<W: fmt::Write>(
         Task::Message { line, .. } if line.len() > LONGEST => {
             return write!(
                 f,
-                "a message has at most {LONGEST} bytes, and this one has {}",
+                "the message has {} bytes; at most {LONGEST} are allowed",
                 line.len()
             );
         }
@@ -313,32 +346,99 @@ fn explain_message<W: fmt::Write>(
         Task::Status { id: Some(id), .. } => write!(f, "volume {id}: ")?,
         _ => {}
     }
-    f.write_str(match refusal {
-        Refusal::BadSyntax =>
-            "its words are too many or too few, or one that should be a number is none",
-        Refusal::UnknownMessage => {
-            "it begins with no message's name; `thinpool message --help` has them all"
-        }
-        Refusal::BadDeviceId => "a volume's id is at most 16777215",
-        Refusal::Exists => "a volume of that id exists",
-        Refusal::NoSuchDevice => "no volume of that id exists",
-        Refusal::Busy => "a client holds that volume",
-        Refusal::StaleTransactionId => {
-            "the pool's transaction id is another one; `thinpool status` tells it first"
-        }
-        Refusal::BadSize => "a volume never shrinks, and has at most 16777216 blocks",
-        Refusal::HeldRootExists => "a mapping is held already; release_metadata_snap gives it up",
-        Refusal::NoHeldRoot => "no mapping is held",
-        Refusal::NoMetadataSpace => {
-            "too few metadata blocks are free; delete a volume or a snapshot"
-        }
-        Refusal::TooManyDevices => "there are 65536 volumes, which are the most",
-        Refusal::NoDataSpace => "too few data blocks are free; delete a volume or a snapshot",
-        _ => "README's table of refusals tells more",
-    })
+    match refusal {
+        Refusal::BadSyntax => explain_syntax(line_of(task), f),
+        Refusal::NoSuchDevice => explain_missing(task, image_of(task), f),
+        Refusal::StaleTransactionId => write!(
+            f,
+            "the current transaction id is not OLD; `thinpool status {}` prints it first",
+            image_of(task)
+        ),
+        Refusal::HeldRootExists => write!(
+            f,
+            "a metadata snapshot exists; `thinpool message {} release_metadata_snap` deletes it",
+            image_of(task)
+        ),
+        Refusal::NoMetadataSpace => write!(
+            f,
+            "out of metadata space; the pool is now read-only. Run `thinpool check {} --clear-needs-check-flag`, then release the metadata snapshot or delete volumes",
+            image_of(task)
+        ),
+        _ => f.write_str(reason_of(refusal)),
+    }
 }
 
-/// Which size is out of its limits.
+/// Returns the reason of an error that needs no name of an object.
+fn reason_of(refusal: Refusal) -> &'static str {
+    match refusal {
+        Refusal::UnknownMessage => "unknown message; `thinpool message --help` lists all messages",
+        Refusal::BadDeviceId => "a volume id must be in 0..=16777215",
+        Refusal::Exists => "the volume exists",
+        Refusal::Busy => "a client has the volume open; disconnect it first",
+        Refusal::BadSize => "a volume cannot shrink, and has at most 16777216 blocks",
+        Refusal::NoHeldRoot => "no metadata snapshot exists",
+        Refusal::TooManyDevices => "the pool has 65536 volumes, the maximum; delete a volume first",
+        Refusal::NoDataSpace => "out of data space; delete volumes",
+        _ => "thinpool-errors(7) describes this error",
+    }
+}
+
+/// Returns the line of a message, or an empty text.
+fn line_of<'a>(task: &Task<'a>) -> &'a str {
+    match *task {
+        Task::Message { line, .. } => line,
+        _ => "",
+    }
+}
+
+/// Explains what is wrong with the arguments of a message.
+fn explain_syntax<W: fmt::Write>(line: &str, f: &mut Formatter<W>) -> fmt::Result {
+    for word in line.split(' ') {
+        if word.is_empty() {
+            return f.write_str("arguments must be separated by one space each");
+        }
+        if has_leading_zero(word) {
+            return write!(f, "{word} has a leading zero");
+        }
+    }
+    f.write_str("wrong number of arguments, or an argument is not a number")
+}
+
+/// Returns whether a word is a number after a leading zero.
+fn has_leading_zero(word: &str) -> bool {
+    match word.strip_prefix("0") {
+        Some(rest) => rest.parse::<u64>().is_ok(),
+        None => false,
+    }
+}
+
+/// Explains which volume does not exist.
+fn explain_missing<W: fmt::Write>(
+    task: &Task<'_>,
+    image: &str,
+    f: &mut Formatter<W>,
+) -> fmt::Result {
+    match *task {
+        Task::Message { line, .. } => write!(f, "volume {} does not exist", missing_id(line))?,
+        _ => f.write_str("no such volume")?,
+    }
+    write!(f, "; `thinpool ls {image}` lists the volumes")
+}
+
+/// Returns the id in a message that does not exist: the origin of a snapshot, otherwise the first
+/// argument.
+fn missing_id(line: &str) -> &str {
+    let Some((name, arguments)) = line.split_once(' ') else {
+        return line;
+    };
+    match arguments.split_once(' ') {
+        Some((_, origin)) if name == "create_snap" => origin,
+        Some((id, _)) => id,
+        None => arguments,
+    }
+}
+
+/// Explains which size is out of range.
 fn explain_sizes<W: fmt::Write>(sizes: &Sizes, f: &mut Formatter<W>) -> fmt::Result {
     let Sizes {
         block_sectors,
@@ -349,26 +449,29 @@ fn explain_sizes<W: fmt::Write>(sizes: &Sizes, f: &mut Formatter<W>) -> fmt::Res
     if !(128..=2048).contains(&block_sectors) || !block_sectors.is_multiple_of(128) {
         return write!(
             f,
-            "sectors of a data block: {block_sectors} is no multiple of 128 from 128 to 2048"
+            "BLOCK_SECTORS is {block_sectors}: it must be a multiple of 128 in 128..=2048"
         );
     }
     if !(1..=16_777_216).contains(&virtual_blocks) {
         return write!(
             f,
-            "blocks of a volume: {virtual_blocks} is out of 1 to 16777216"
+            "VIRTUAL_BLOCKS is {virtual_blocks}: it must be in 1..=16777216"
         );
     }
     if !(1..=1_048_576).contains(&data_blocks) {
-        return write!(f, "data blocks: {data_blocks} is out of 1 to 1048576");
+        return write!(f, "DATA_BLOCKS is {data_blocks}: it must be in 1..=1048576");
     }
     let least = least_metadata(data_blocks);
     write!(
         f,
-        "metadata blocks: {metadata_blocks} is out of {least} to 65536 for {data_blocks} data blocks"
+        "METADATA_BLOCKS is {metadata_blocks}: it must be in {least}..=65536 for {data_blocks} data blocks"
     )
 }
 
-/// The least number of metadata blocks for so many data blocks: two superblocks, two areas with a count block for each 1024 blocks of both kinds, and 1024 more.
+/// Returns the minimum of metadata blocks for `data_blocks` data blocks.
+///
+/// These are two superblocks, two areas with a count block for each 1024 blocks of both kinds, and
+/// 1024 more.
 fn least_metadata(data_blocks: u64) -> u64
     requires { data_blocks ≤ 1048576 }
 {

@@ -1,4 +1,4 @@
-//! Why a task was refused.
+//! Why a task failed.
 
 ghost use Rattle.std.specs.Prelude.{◌≡◌};
 ghost use Rattle.tp_failures.specs.Failures.{number_of};
@@ -8,62 +8,63 @@ use tp_disk::{OpenError, TellsTrouble, Trouble};
 use tp_model::Refusal;
 use tp_sizing::Unfit;
 
-/// Why a task was refused: by which number, and what is known of its cause.
+/// Why a task failed: its error number, and its cause.
 #[derive(Clone, Copy, Debug)]
 pub struct Failure {
     pub refusal: Refusal,
     pub cause: Cause,
 }
 
-/// What is known of a refusal's cause besides its number. Which image, script or address it was, the task says.
+/// The cause of an error. The image, the script and the addresses are those of the task.
 #[derive(Clone, Copy, Debug)]
 pub enum Cause {
-    /// What the number means.
+    /// The number states the cause.
     Meaning,
     /// The image was not opened.
     Image(OpenError),
-    /// The system failed the image's disk.
+    /// A call on the image's disk failed.
     Disk(Trouble),
     /// The script was not opened.
     Script(io::Error),
     /// A read of the script failed.
     ScriptEnded,
-    /// Clients cannot be waited for at their address.
+    /// The server cannot listen on the address for clients.
     Address(io::Error),
-    /// Control lines cannot be waited for at theirs.
+    /// The server cannot listen on the address for control lines.
     Control(io::Error),
-    /// An accept failed, and so many clients had come.
+    /// An accept failed after this number of clients had connected.
     Accept(u8),
-    /// So many clients were refused memory or a thread.
+    /// The number of clients that were disconnected for lack of memory or a thread.
     TurnedAway(u64),
-    /// The place of this number among those of a task is not listened at: 0 to 3 of clients, 4 of control lines.
+    /// The server cannot listen on the address of this number: 0 to 3 are for clients, 4 is for
+    /// control lines.
     Place(u8, io::Error),
     /// The group of socket files does not exist.
     Group,
     /// The file of groups cannot be read.
     Groups(io::Error),
-    /// A thread for clients or for control lines could not be made.
+    /// A thread for clients or for control lines cannot be created.
     Threads,
-    /// The place of a server cannot be reached, or its connection broke.
+    /// A server cannot be reached, or the connection to it failed.
     Reach(io::Error),
-    /// A line was refused.
+    /// The server replied `refused N` to a line.
     Answered,
-    /// So many lines alone were answered.
+    /// The server closed the connection after this number of replies.
     Unanswered(u64),
-    /// What is told cannot be written.
+    /// Standard output cannot be written.
     Output,
-    /// Who was asked did not say yes.
+    /// The answer to the confirmation was not `yes`.
     Declined,
-    /// A device has so many sectors, and the pool wants so many.
+    /// A device has `sectors` sectors, and the pool needs `wanted`.
     Small { sectors: u64, wanted: u64 },
-    /// A device holds something else than a pool, and was not to be overwritten.
+    /// A device contains data that is not a pool, and `--overwrite` was not given.
     Taken,
-    /// There is no pool that holds what is wanted.
+    /// No pool has the requested sizes.
     Unfit(Unfit),
 }
 
 impl Failure {
-    /// A refusal by the disk of an image that was not opened.
+    /// The error of an image that was not opened.
     pub fn unopened(error: OpenError) -> Failure
         ensures { result.refusal ≡ Refusal.Fault }
     {
@@ -73,7 +74,7 @@ impl Failure {
         }
     }
 
-    /// A fault of this cause.
+    /// An error 5 (Fault) of this cause.
     pub fn fault(cause: Cause) -> Failure
         ensures { result.refusal ≡ Refusal.Fault }
     {
@@ -83,7 +84,7 @@ impl Failure {
         }
     }
 
-    /// A device has too few sectors for the sizes that are asked for.
+    /// The error of a device that is too small for the requested sizes.
     pub fn too_small(sectors: u64, wanted: u64) -> Failure
         ensures { result.refusal ≡ Refusal.BadGeometry }
     {
@@ -93,7 +94,7 @@ impl Failure {
         }
     }
 
-    /// A device is somebody else's.
+    /// The error of a device with data that is not a pool.
     pub fn taken() -> Failure
         ensures { result.refusal ≡ Refusal.Exists }
     {
@@ -103,7 +104,7 @@ impl Failure {
         }
     }
 
-    /// No pool holds what is wanted.
+    /// The error of sizes that no pool has.
     pub fn unfit(unfit: Unfit) -> Failure
         ensures { result.refusal ≡ Refusal.BadGeometry }
     {
@@ -113,7 +114,7 @@ impl Failure {
         }
     }
 
-    /// Whether it says how many volumes fit.
+    /// Returns whether the explanation has the number of volumes that fit.
     pub fn tells_what_fits(&self) -> bool {
         match self.cause {
             Cause::Unfit(Unfit::TooMany { .. }) => true,
@@ -123,7 +124,7 @@ impl Failure {
         }
     }
 
-    /// A refusal of a pool on a disk of which the system said this last.
+    /// The error of a pool, with the last error of its disk.
     pub fn on_disk(refusal: Refusal, trouble: Option<Trouble>) -> Failure
         ensures { result.refusal ≡ refusal }
     {
@@ -145,7 +146,8 @@ impl From<Refusal> for Failure {
     }
 }
 
-/// The cause of a pool's refusal. Its disk alone and the writer give faults, so where the system said nothing of the disk it is the writer.
+/// Returns the cause of a pool's error. Only the disk and the output return `Fault`, so without an
+/// error of the disk the output failed.
 fn cause_of(refusal: Refusal, trouble: Option<Trouble>) -> Cause {
     match trouble {
         Some(trouble) => match refusal {
@@ -159,7 +161,7 @@ fn cause_of(refusal: Refusal, trouble: Option<Trouble>) -> Cause {
     }
 }
 
-/// What a pool on this disk answered, with the cause of a refusal.
+/// Returns the result of a pool on this disk, with the cause of an error.
 pub fn because<D: TellsTrouble>(disk: &D, done: Result<(), Refusal>) -> Result<(), Failure>
     ensures { number_of result ≡ done }
 {

@@ -4,10 +4,7 @@ use Rattle.std.specs.Prelude.{IfOk, bytes_eq, is_some, unwrap_or, if◌then◌el
 use Rattle.std.specs.List.{All, AllByRecursion}
 use Rattle.std.proofs.lemmas.List.Elements.{All-cons, recursion_from_All}
 use Rattle.tp_model.specs.Disk.{DiskState}
-use Rattle.tp_disk.specs.File.{file_state}
 use Rattle.tp_disk.specs.HandedOut.{IsHandedOut}
-use Rattle.tp_disk.specs.declared.file.FileDisk.{FileDisk}
-use Rattle.tp_disk.specs.declared.opening.OpenError.{OpenError}
 use Rattle.tp_disk.proofs.Unclaimed.{unclaimed_promises}
 use Rattle.tp_images.specs.Deeds.{Answers, Closes, Deed, Lasts, Opens, Refuses, left_at}
 use Rattle.tp_images.specs.Files.{ClaimsNothing}
@@ -43,10 +40,10 @@ lasts_unclaimed ToMake name deeds disk all = tt
 lasts_unclaimed ToWrite name deeds disk all = λ closed left honest. unclaimed_promises closed.is_honest (unclaimed_at name deeds closed (recursion_from_All ClaimsNothing deeds all) left) honest
 lasts_unclaimed ToRead name deeds disk all = λ closed left honest. unclaimed_promises closed.is_honest (unclaimed_at name deeds closed (recursion_from_All ClaimsNothing deeds all) left) honest
 
-pub answers_unclaimed : (way : Way) (name : List ℕ) (old new : List Deed) (result : Result FileDisk OpenError) → All ClaimsNothing old → new ≡ answer_deed way name file_state result ∷ old
-    → IfOk result (λ disk. IsHandedOut (file_state disk)) → Answers way name old new file_state result
-answers_unclaimed way name old new (Ok disk) all e handed = record { deeds = e; handed_out = handed; lasts = lasts_unclaimed way name old (file_state disk) all }
-answers_unclaimed way name old new (Err error) all e handed = e
+pub answers_unclaimed : {D E : Type 0} (state : D → DiskState) (way : Way) (name : List ℕ) (old new : List Deed) (result : Result D E) → All ClaimsNothing old
+    → new ≡ answer_deed way name state result ∷ old → IfOk result (λ disk. IsHandedOut (state disk)) → Answers way name old new state result
+answers_unclaimed state way name old new (Ok disk) all e handed = record { deeds = e; handed_out = handed; lasts = lasts_unclaimed way name old (state disk) all }
+answers_unclaimed state way name old new (Err error) all e handed = e
 
 -- the disk of a deed that closes one
 abbrev disk_of : Deed → DiskState → DiskState
@@ -59,16 +56,17 @@ closes (Opens way name disk) = false
 closes (Refuses way name) = false
 closes (Closes name disk) = true
 
-answer_claims_nothing : (way : Way) (name : List ℕ) (result : Result FileDisk OpenError) → ClaimsNothing (answer_deed way name file_state result)
-answer_claims_nothing way name (Ok disk) other closed e = absurd (true≢false (sym (ap closes e)))
-answer_claims_nothing way name (Err error) other closed e = absurd (true≢false (sym (ap closes e)))
+answer_claims_nothing : {D E : Type 0} (state : D → DiskState) (way : Way) (name : List ℕ) (result : Result D E) → ClaimsNothing (answer_deed way name state result)
+answer_claims_nothing state way name (Ok disk) other closed e = absurd (true≢false (sym (ap closes e)))
+answer_claims_nothing state way name (Err error) other closed e = absurd (true≢false (sym (ap closes e)))
 
 -- What is opened claims nothing either, nor what is closed.
-pub opened_unclaimed : (way : Way) (name : List ℕ) (old new : List Deed) (result : Result FileDisk OpenError) → All ClaimsNothing old → new ≡ answer_deed way name file_state result ∷ old
-    → All ClaimsNothing new
-opened_unclaimed way name old new result all e = subst (λ (deeds : List Deed). All ClaimsNothing deeds) (sym e) (All-cons ClaimsNothing (answer_deed way name file_state result) old (answer_claims_nothing way name result) all)
+pub opened_unclaimed : {D E : Type 0} (state : D → DiskState) (way : Way) (name : List ℕ) (old new : List Deed) (result : Result D E) → All ClaimsNothing old
+    → new ≡ answer_deed way name state result ∷ old → All ClaimsNothing new
+opened_unclaimed state way name old new result all e =
+    subst (λ (deeds : List Deed). All ClaimsNothing deeds) (sym e) (All-cons ClaimsNothing (answer_deed way name state result) old (answer_claims_nothing state way name result) all)
 
-pub closed_unclaimed : (name : List ℕ) (old new : List Deed) (disk : FileDisk) → All ClaimsNothing old → new ≡ Closes name (file_state disk) ∷ old → All ClaimsNothing new
-closed_unclaimed name old new disk all e =
+pub closed_unclaimed : (name : List ℕ) (old new : List Deed) (disk : DiskState) → disk.is_honest ≡ false → All ClaimsNothing old → new ≡ Closes name disk ∷ old → All ClaimsNothing new
+closed_unclaimed name old new disk unclaimed all e =
     subst (λ (deeds : List Deed). All ClaimsNothing deeds) (sym e)
-    (All-cons ClaimsNothing (Closes name (file_state disk)) old (λ other closed is. sym (ap (λ deed. (disk_of deed closed).is_honest) is) ∙ disk.unclaimed) all)
+    (All-cons ClaimsNothing (Closes name disk) old (λ other closed is. sym (ap (λ deed. (disk_of deed closed).is_honest) is) ∙ unclaimed) all)

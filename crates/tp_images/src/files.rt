@@ -11,7 +11,7 @@ use std::alloc::Global;
 use std::fs::{self, File};
 use std::os::unix::fs::FileTypeExt;
 use std::rt::Files;
-use tp_disk::{FileDisk, OpenError};
+use tp_disk::{FileDisk, LockedFile, OpenError};
 
 /// The files and block devices of a system, by their paths. That they are honest disks is not claimed, so nothing is said of what they hold.
 #[derive(Drop)]
@@ -43,29 +43,29 @@ impl<'r, R> Images for FileImages<'r, R>
 where
     R: Files<File = File> + Alloc<A = Global>,
 {
-    type Disk = FileDisk;
+    type Disk = FileDisk<LockedFile>;
 
     ghost deeds = { λ images. images.log.deeds };
 
-    fn open(&mut self, name: &str) -> Result<FileDisk, OpenError> {
+    fn open(&mut self, name: &str) -> Result<FileDisk<LockedFile>, OpenError> {
         let answer = FileDisk::open(self.files, name);
         self.log = opened(&self.log, Way::ToWrite, name, &answer);
         answer
     }
 
-    fn open_to_read(&mut self, name: &str) -> Result<FileDisk, OpenError> {
+    fn open_to_read(&mut self, name: &str) -> Result<FileDisk<LockedFile>, OpenError> {
         let answer = FileDisk::open_to_read(self.files, name);
         self.log = opened(&self.log, Way::ToRead, name, &answer);
         answer
     }
 
-    fn create(&mut self, name: &str, sectors: u64) -> Result<FileDisk, OpenError> {
+    fn create(&mut self, name: &str, sectors: u64) -> Result<FileDisk<LockedFile>, OpenError> {
         let answer = FileDisk::create(self.files, name, sectors);
         self.log = opened(&self.log, Way::ToMake, name, &answer);
         answer
     }
 
-    fn close(&mut self, name: &str, disk: FileDisk) {
+    fn close(&mut self, name: &str, disk: FileDisk<LockedFile>) {
         self.log = closed(&self.log, name, &disk);
     }
 

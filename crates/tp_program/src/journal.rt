@@ -1,4 +1,4 @@
-//! What is told on standard error while clients are served without end.
+//! The log of `run` on standard error.
 
 use crate::moment::Moment;
 use std::alloc::{AllocError, Global};
@@ -17,10 +17,10 @@ use tp_model::Refusal;
 use tp_served::Served;
 use tp_words::{Service, Texts};
 
-/// At most so many lines wait to be written. Those that come then are lost.
+/// The most lines that wait to be written. Further lines are lost.
 const MOST_LINES: usize = 1000;
 
-/// It is told when less than so many hundredths are free, where no other number was given.
+/// The default of `--low-water`, in percent.
 const LOW_WATER: u64 = 10;
 
 /// The TCP address of each door of clients, if it has one.
@@ -33,7 +33,10 @@ struct Pages {
     is_closed: bool,
 }
 
-/// Lines for standard error. Who notes one waits for no writer: a thread of its own writes them. One is lost where there is no memory for it, or where too many wait.
+/// The log: a queue of lines that a thread of its own writes to standard error.
+///
+/// A call that adds a line does not wait for the writer. A line is lost if there is no memory for it,
+/// or if `MOST_LINES` lines wait.
 #[derive(Drop)]
 pub(crate) struct Journal<'m, R: Wait + Clock> {
     rt: &'m R,
@@ -45,7 +48,7 @@ pub(crate) struct Journal<'m, R: Wait + Clock> {
     low_water: u64,
     pages: Mutex<Pages>,
     has_more: Condvar,
-    /// Whether it was told that little is free, and nothing else since.
+    /// Whether the last warning was that little is free.
     is_data_low: AtomicBool,
     is_metadata_low: AtomicBool,
 }
@@ -57,7 +60,7 @@ struct Use {
     all: u64,
 }
 
-/// A door of clients: its TCP address, or else the text that names it.
+/// A listener: its TCP address, otherwise the text that names it.
 #[derive(Clone, Copy)]
 struct Place<'a> {
     address: Option<SocketAddr>,
@@ -73,7 +76,7 @@ impl Display for Place<'_> {
     }
 }
 
-/// What is told.
+/// An event of the log.
 #[derive(Clone, Copy)]
 enum News<'a> {
     Came(Place<'a>, &'a Visitor),
@@ -94,31 +97,34 @@ impl Display for News<'_> {
             News::Failed(image, trouble) => tell_failure(image, trouble, f),
             News::Low(kind, blocks) => tell_low(kind, blocks, f),
             News::Cleared(count) => tell_cleared(*count, f),
-            News::NotCleared => write!(f, "no memory to delete clones that a server left"),
+            News::NotCleared => write!(
+                f,
+                "out of memory: clones left by a previous server were not deleted"
+            ),
         }
     }
 }
 
-/// Who has come, and where.
+/// Writes that a client connected, and to which address.
 fn tell_coming<W: fmt::Write>(
     place: &Place<'_>,
     visitor: &Visitor,
     f: &mut Formatter<W>,
 ) -> fmt::Result {
-    write!(f, "client {} came to {place}", visitor.number)?;
+    write!(f, "client {} connected to {place}", visitor.number)?;
     match visitor.peer {
         Some(peer) => write!(f, " from {peer}"),
         None => Ok(()),
     }
 }
 
-/// Who has gone, and what it did.
+/// Writes that a client disconnected, with its volume, requests and bytes.
 fn tell_going<W: fmt::Write>(
     visitor: &Visitor,
     visit: &Visit,
     f: &mut Formatter<W>,
 ) -> fmt::Result {
-    write!(f, "client {} went: ", visitor.number)?;
+    write!(f, "client {} disconnected: ", visitor.number)?;
     match visit.volume {
         Some(volume) => write!(f, "volume {}", volume.number())?,
         None => f.write_str("no volume")?,
@@ -130,7 +136,7 @@ fn tell_going<W: fmt::Write>(
     )
 }
 
-/// That the pool failed, and why.
+/// Writes that the pool failed, and why.
 fn tell_failure<W: fmt::Write>(
     image: &str,
     trouble: &Option<Trouble>,
@@ -143,7 +149,7 @@ fn tell_failure<W: fmt::Write>(
     }
 }
 
-/// That few blocks of a kind are free.
+/// Writes that few blocks of a kind are free.
 fn tell_low<W: fmt::Write>(kind: &str, blocks: &Use, f: &mut Formatter<W>) -> fmt::Result {
     write!(
         f,
@@ -153,9 +159,9 @@ fn tell_low<W: fmt::Write>(kind: &str, blocks: &Use, f: &mut Formatter<W>) -> fm
     )
 }
 
-/// That clones were deleted.
+/// Writes how many clones were deleted.
 fn tell_cleared<W: fmt::Write>(count: u32, f: &mut Formatter<W>) -> fmt::Result {
-    write!(f, "deleted clones that a server left: {count}")
+    write!(f, "deleted {count} clones left by a previous server")
 }
 
 impl Use {
@@ -173,7 +179,7 @@ impl Use {
         self.all.saturating_sub(self.used)
     }
 
-    /// Whether less than so many hundredths are.
+    /// Returns whether less than `percent` % are free.
     fn is_below(self, percent: u64) -> bool {
         self.free().saturating_mul(100) < self.all.saturating_mul(percent)
     }
@@ -236,7 +242,7 @@ impl<'m, R: Wait + Clock> Journal<'m, R> {
         }
     }
 
-    /// Notes a line, with the time.
+    /// Adds a line with the current time.
     fn note(&self, news: &News<'_>) {
         let moment = Moment::now(self.rt);
         let Ok(line) = format!(in self.alloc; "thinpool: {moment} {news}\n") else {
@@ -250,14 +256,14 @@ impl<'m, R: Wait + Clock> Journal<'m, R> {
         self.has_more.notify_one();
     }
 
-    /// The same of what is no fault.
+    /// Logs `news` unless `--quiet` was given.
     fn note_unless_quiet(&self, news: &News<'_>) {
         if !self.is_quiet {
             self.note(news);
         }
     }
 
-    /// Notes once that little is free, until it is more again.
+    /// Logs once that little is free, until more is free again.
     fn look_at(&self, kind: &str, blocks: Use, was_low: &AtomicBool) {
         let is_low = blocks.is_below(self.low_water);
         if !was_low.swap(is_low, Ordering::SeqCst) && is_low {
@@ -265,7 +271,7 @@ impl<'m, R: Wait + Clock> Journal<'m, R> {
         }
     }
 
-    /// Notes how many clones were deleted that a server left, if there were some.
+    /// Logs how many clones of a previous server were deleted, if there were any.
     pub(crate) fn cleared(&self, cleared: Result<u32, AllocError>) {
         match cleared {
             Ok(count) => {

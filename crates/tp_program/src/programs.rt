@@ -106,7 +106,8 @@ where
     }
 }
 
-/// What is done where nothing can be put in the place of a standard stream that is closed: a fault, since an image could be opened there.
+/// Reports that a closed standard stream cannot be replaced by /dev/null, with error 5 (Fault): an
+/// image could be opened in its place.
 pub fn without_streams<E: Write>(error: &io::Error, errors: &mut E) -> Status
     ensures { result ≡ Status.Refused }
 {
@@ -115,7 +116,9 @@ pub fn without_streams<E: Write>(error: &io::Error, errors: &mut E) -> Status
     told
 }
 
-/// What is done where the system's words cannot be taken over: one that is no UTF-8 is a bad command line, and it is told which one.
+/// Reports that the command line cannot be read, and returns the exit status.
+///
+/// An argument that is not valid UTF-8 is a usage error, and the message has its number.
 pub fn without_words<E: Write>(why: NoWords, errors: &mut E) -> Status
     ensures { result ≡ status_without why }
 {
@@ -123,7 +126,7 @@ pub fn without_words<E: Write>(why: NoWords, errors: &mut E) -> Status
         NoWords::NotUtf8(number) => {
             let _ = write!(
                 errors,
-                "error: argument {number} is no UTF-8: paths and all other words have to be UTF-8 (argument 0 is the program's name)\n\nUsage: thinpool <COMMAND>\n"
+                "error: argument {number} is not valid UTF-8; all arguments, including paths, must be UTF-8 (argument 0 is the program's name)\n\nUsage: thinpool <COMMAND>\n"
             );
             Status::Misused
         }
@@ -131,7 +134,7 @@ pub fn without_words<E: Write>(why: NoWords, errors: &mut E) -> Status
     }
 }
 
-/// The status of a bad command line, after it was told what is wrong with it.
+/// Prints a usage error and returns its exit status.
 fn misuse<E: Write>(text: &str, errors: &mut E) -> Status
     ensures { result ≡ Status.Misused }
 {
@@ -139,7 +142,7 @@ fn misuse<E: Write>(text: &str, errors: &mut E) -> Status
     Status::Misused
 }
 
-/// The status of a task, after its refusal was told.
+/// Prints the error of a task, if any, and returns the exit status.
 fn conclude<E: Write>(done: Result<(), Refusal>, errors: &mut E) -> Status
     ensures { result ≡ status_of done }
 {
@@ -152,7 +155,8 @@ fn conclude<E: Write>(done: Result<(), Refusal>, errors: &mut E) -> Status
     }
 }
 
-/// Tells a refusal by its number and name, and where that is wanted, or says how many volumes fit, what it means, each on a line.
+/// Prints the number and name of an error, and its explanation on a second line if `explains` or if
+/// it has the number of volumes that fit.
 fn tell_failure<E: Write>(task: &Task<'_>, failure: Failure, explains: bool, errors: &mut E) {
     let told = writeln!(errors, "thinpool: {}", failure.refusal);
     if (explains || failure.tells_what_fits()) && told.is_ok() {
@@ -164,7 +168,7 @@ fn tell_failure<E: Write>(task: &Task<'_>, failure: Failure, explains: bool, err
     }
 }
 
-/// The status of a task that may be a script, after it was told why it was refused or which line is bad.
+/// Prints the error of a task or the number of a bad script line, and returns the exit status.
 fn conclude_task<E: Write>(
     task: &Task<'_>,
     done: Result<(), Unplayed>,

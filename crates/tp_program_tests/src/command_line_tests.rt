@@ -32,7 +32,7 @@ const BAD_LINES: &[(&[&str], &str)] = &[
     (&["thinpool", "check"], "Usage: thinpool check <IMAGE>"),
     (
         &["thinpool", "serve", "bad.img", "127.0.0.1:0", "65"],
-        "error: COUNT is not from 1 to 64",
+        "error: invalid value for <COUNT>: must be in 1..=64",
     ),
     (
         &[
@@ -54,7 +54,7 @@ const BAD_LINES: &[(&[&str], &str)] = &[
             "thinpool", "run", "bad.img", "--listen", "a:1", "--listen", "a:2", "--listen", "a:3",
             "--listen", "a:4", "--listen", "a:5",
         ],
-        "error: there are more than four places to listen at\n",
+        "error: --listen may be given at most four times\n",
     ),
     (
         &[
@@ -66,7 +66,7 @@ const BAD_LINES: &[(&[&str], &str)] = &[
             "--default",
             "16777216",
         ],
-        "error: ID is not from 0 to 16777215\n",
+        "error: invalid value for --default <ID>: must be in 0..=16777215\n",
     ),
     (
         &[
@@ -78,7 +78,7 @@ const BAD_LINES: &[(&[&str], &str)] = &[
             "--low-water",
             "101",
         ],
-        "error: PERCENT is not from 0 to 100\n",
+        "error: invalid value for --low-water <PERCENT>: must be in 0..=100\n",
     ),
     (
         &[
@@ -234,7 +234,7 @@ fn told_without_words(alloc: Global, why: NoWords, text: &[u8]) -> (Status, bool
 
 /// What is said of words that are no UTF-8.
 const NOT_UTF8: &[u8] =
-    b"error: argument 2 is no UTF-8: paths and all other words have to be UTF-8 (argument 0 is the program's name)\n\nUsage: thinpool <COMMAND>\n";
+    b"error: argument 2 is not valid UTF-8; all arguments, including paths, must be UTF-8 (argument 0 is the program's name)\n\nUsage: thinpool <COMMAND>\n";
 
 #[test]
 fn words_that_are_no_utf8_are_a_bad_command_line(rt: HostRuntime) {
@@ -247,7 +247,7 @@ fn words_that_are_no_utf8_are_a_bad_command_line(rt: HostRuntime) {
 
 /// Command lines that ask for help, and what it says among others.
 const HELP_LINES: &[(&[&str], &str)] = &[
-    (&["thinpool", "--help"], "      --explain  Behind a refusal"),
+    (&["thinpool", "--help"], "      --explain  After an error"),
     (
         &["thinpool", "--explain", "--help"],
         "Usage: thinpool <COMMAND>\n",

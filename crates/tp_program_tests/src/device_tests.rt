@@ -212,12 +212,12 @@ const EXPLAINED: &[(u64, Option<u64>, &str)] = &[
     (
         POOL - 1,
         None,
-        "thinpool: 1 BadGeometry\nthinpool: image has 8650240 bytes, and a pool of these sizes takes 8650752\n",
+        "thinpool: 1 BadGeometry\nthinpool: image has 8650240 bytes; a pool of these sizes needs 8650752\n",
     ),
     (
         POOL,
         Some(2),
-        "thinpool: 14 Exists\nthinpool: image has other bytes than zeros or a pool's among its first 8192; with --overwrite they are lost\n",
+        "thinpool: 14 Exists\nthinpool: image contains data that is not a thinpool image (checked: first 8192 bytes); --overwrite destroys it\n",
     ),
 ];
 

@@ -34,49 +34,49 @@ type Wrong = (&'static [&'static str], &'static str);
 const SIZES: &[Wrong] = &[
     (
         &["thinpool", "format", "new.img", "100", "16", "2048", "4"],
-        "thinpool: 1 BadGeometry\nthinpool: sectors of a data block: 100 is no multiple of 128 from 128 to 2048\n",
+        "thinpool: 1 BadGeometry\nthinpool: BLOCK_SECTORS is 100: it must be a multiple of 128 in 128..=2048\n",
     ),
     (
         &["thinpool", "format", "new.img", "4096", "16", "2048", "4"],
-        "thinpool: 1 BadGeometry\nthinpool: sectors of a data block: 4096 is no multiple of 128 from 128 to 2048\n",
+        "thinpool: 1 BadGeometry\nthinpool: BLOCK_SECTORS is 4096: it must be a multiple of 128 in 128..=2048\n",
     ),
     (
         &["thinpool", "format", "new.img", "0", "16", "2048", "4"],
-        "thinpool: 1 BadGeometry\nthinpool: sectors of a data block: 0 is no multiple of 128 from 128 to 2048\n",
+        "thinpool: 1 BadGeometry\nthinpool: BLOCK_SECTORS is 0: it must be a multiple of 128 in 128..=2048\n",
     ),
     (
         &["thinpool", "format", "new.img", "128", "0", "2048", "4"],
-        "thinpool: 1 BadGeometry\nthinpool: blocks of a volume: 0 is out of 1 to 16777216\n",
+        "thinpool: 1 BadGeometry\nthinpool: VIRTUAL_BLOCKS is 0: it must be in 1..=16777216\n",
     ),
     (
         &[
             "thinpool", "format", "new.img", "128", "16777217", "2048", "4",
         ],
-        "thinpool: 1 BadGeometry\nthinpool: blocks of a volume: 16777217 is out of 1 to 16777216\n",
+        "thinpool: 1 BadGeometry\nthinpool: VIRTUAL_BLOCKS is 16777217: it must be in 1..=16777216\n",
     ),
     (
         &["thinpool", "format", "new.img", "128", "16", "2048", "0"],
-        "thinpool: 1 BadGeometry\nthinpool: data blocks: 0 is out of 1 to 1048576\n",
+        "thinpool: 1 BadGeometry\nthinpool: DATA_BLOCKS is 0: it must be in 1..=1048576\n",
     ),
     (
         &[
             "thinpool", "format", "new.img", "128", "16", "2048", "1048577",
         ],
-        "thinpool: 1 BadGeometry\nthinpool: data blocks: 1048577 is out of 1 to 1048576\n",
+        "thinpool: 1 BadGeometry\nthinpool: DATA_BLOCKS is 1048577: it must be in 1..=1048576\n",
     ),
     (
         &["thinpool", "format", "new.img", "128", "16", "1031", "4"],
-        "thinpool: 1 BadGeometry\nthinpool: metadata blocks: 1031 is out of 1032 to 65536 for 4 data blocks\n",
+        "thinpool: 1 BadGeometry\nthinpool: METADATA_BLOCKS is 1031: it must be in 1032..=65536 for 4 data blocks\n",
     ),
     (
         &[
             "thinpool", "format", "new.img", "128", "16", "3081", "1048576",
         ],
-        "thinpool: 1 BadGeometry\nthinpool: metadata blocks: 3081 is out of 3082 to 65536 for 1048576 data blocks\n",
+        "thinpool: 1 BadGeometry\nthinpool: METADATA_BLOCKS is 3081: it must be in 3082..=65536 for 1048576 data blocks\n",
     ),
     (
         &["thinpool", "format", "new.img", "128", "16", "65537", "4"],
-        "thinpool: 1 BadGeometry\nthinpool: metadata blocks: 65537 is out of 1032 to 65536 for 4 data blocks\n",
+        "thinpool: 1 BadGeometry\nthinpool: METADATA_BLOCKS is 65537: it must be in 1032..=65536 for 4 data blocks\n",
     ),
 ];
 
@@ -84,15 +84,15 @@ const SIZES: &[Wrong] = &[
 const FILES: &[Wrong] = &[
     (
         &["thinpool", "status", "missing.img"],
-        "thinpool: 5 Fault\nthinpool: missing.img cannot be opened: No such file or directory (os error 2); `thinpool format` makes an image\n",
+        "thinpool: 5 Fault\nthinpool: missing.img cannot be opened: No such file or directory (os error 2); `thinpool create --help` describes how to create an image\n",
     ),
     (
         &["thinpool", "message", "missing.img", "create_thin 0"],
-        "thinpool: 5 Fault\nthinpool: missing.img cannot be opened: No such file or directory (os error 2); `thinpool format` makes an image\n",
+        "thinpool: 5 Fault\nthinpool: missing.img cannot be opened: No such file or directory (os error 2); `thinpool create --help` describes how to create an image\n",
     ),
     (
         &["thinpool", "check", "missing.img"],
-        "thinpool: 5 Fault\nthinpool: missing.img cannot be opened: No such file or directory (os error 2); `thinpool format` makes an image\n",
+        "thinpool: 5 Fault\nthinpool: missing.img cannot be opened: No such file or directory (os error 2); `thinpool create --help` describes how to create an image\n",
     ),
     (
         &[
@@ -101,19 +101,19 @@ const FILES: &[Wrong] = &[
             "missing.img",
             "--clear-needs-check-flag",
         ],
-        "thinpool: 5 Fault\nthinpool: missing.img cannot be opened: No such file or directory (os error 2); `thinpool format` makes an image\n",
+        "thinpool: 5 Fault\nthinpool: missing.img cannot be opened: No such file or directory (os error 2); `thinpool create --help` describes how to create an image\n",
     ),
     (
         &["thinpool", "feed", "missing.img"],
-        "thinpool: 5 Fault\nthinpool: missing.img cannot be opened: No such file or directory (os error 2); `thinpool format` makes an image\n",
+        "thinpool: 5 Fault\nthinpool: missing.img cannot be opened: No such file or directory (os error 2); `thinpool create --help` describes how to create an image\n",
     ),
     (
         &["thinpool", "play", "missing.img", "/dev/null"],
-        "thinpool: 5 Fault\nthinpool: missing.img cannot be opened: No such file or directory (os error 2); `thinpool format` makes an image\n",
+        "thinpool: 5 Fault\nthinpool: missing.img cannot be opened: No such file or directory (os error 2); `thinpool create --help` describes how to create an image\n",
     ),
     (
         &["thinpool", "serve", "missing.img", "127.0.0.1:0", "1"],
-        "thinpool: 5 Fault\nthinpool: missing.img cannot be opened: No such file or directory (os error 2); `thinpool format` makes an image\n",
+        "thinpool: 5 Fault\nthinpool: missing.img cannot be opened: No such file or directory (os error 2); `thinpool create --help` describes how to create an image\n",
     ),
     (
         &[
@@ -133,7 +133,7 @@ const FILES: &[Wrong] = &[
     ),
     (
         &["thinpool", "status", "."],
-        "thinpool: 5 Fault\nthinpool: . is neither a regular file nor a block device: an image is one\n",
+        "thinpool: 5 Fault\nthinpool: . is neither a regular file nor a block device; an image must be one of them\n",
     ),
     (
         &["thinpool", "message", ".", "create_thin 0"],
@@ -145,11 +145,11 @@ const FILES: &[Wrong] = &[
     ),
     (
         &["thinpool", "play", "mem:", "."],
-        "thinpool: 5 Fault\nthinpool: script . cannot be read to its end: it is a directory, or its disk failed\n",
+        "thinpool: 5 Fault\nthinpool: script . cannot be read: it is a directory, or its disk failed\n",
     ),
     (
         &["thinpool", "status", "missing.img", "16777216"],
-        "thinpool: 13 BadDeviceId\nthinpool: volume 16777216: a volume's id is at most 16777215\n",
+        "thinpool: 13 BadDeviceId\nthinpool: volume 16777216: a volume id must be in 0..=16777215\n",
     ),
 ];
 
@@ -157,59 +157,67 @@ const FILES: &[Wrong] = &[
 const POOL: &[Wrong] = &[
     (
         &["thinpool", "status", "told.img", "5"],
-        "thinpool: 15 NoSuchDevice\nthinpool: volume 5: no volume of that id exists\n",
+        "thinpool: 15 NoSuchDevice\nthinpool: volume 5: no such volume; `thinpool ls told.img` lists the volumes\n",
     ),
     (
         &["thinpool", "message", "told.img", "create_thin 0"],
-        "thinpool: 14 Exists\nthinpool: 'create_thin 0': a volume of that id exists\n",
+        "thinpool: 14 Exists\nthinpool: 'create_thin 0': the volume exists\n",
     ),
     (
         &["thinpool", "message", "told.img", "create_snap 0 0"],
-        "thinpool: 14 Exists\nthinpool: 'create_snap 0 0': a volume of that id exists\n",
+        "thinpool: 14 Exists\nthinpool: 'create_snap 0 0': the volume exists\n",
     ),
     (
         &["thinpool", "message", "told.img", "create_snap 1 7"],
-        "thinpool: 15 NoSuchDevice\nthinpool: 'create_snap 1 7': no volume of that id exists\n",
+        "thinpool: 15 NoSuchDevice\nthinpool: 'create_snap 1 7': volume 7 does not exist; `thinpool ls told.img` lists the volumes\n",
     ),
     (
         &["thinpool", "message", "told.img", "delete 9"],
-        "thinpool: 15 NoSuchDevice\nthinpool: 'delete 9': no volume of that id exists\n",
+        "thinpool: 15 NoSuchDevice\nthinpool: 'delete 9': volume 9 does not exist; `thinpool ls told.img` lists the volumes\n",
     ),
     (
         &["thinpool", "message", "told.img", "set_transaction_id 5 6"],
-        "thinpool: 17 StaleTransactionId\nthinpool: 'set_transaction_id 5 6': the pool's transaction id is another one; `thinpool status` tells it first\n",
+        "thinpool: 17 StaleTransactionId\nthinpool: 'set_transaction_id 5 6': the current transaction id is not OLD; `thinpool status told.img` prints it first\n",
     ),
     (
         &["thinpool", "message", "told.img", "create_thin"],
-        "thinpool: 11 BadSyntax\nthinpool: 'create_thin': its words are too many or too few, or one that should be a number is none\n",
+        "thinpool: 11 BadSyntax\nthinpool: 'create_thin': wrong number of arguments, or an argument is not a number\n",
     ),
     (
         &["thinpool", "message", "told.img", "create_thin x"],
-        "thinpool: 11 BadSyntax\nthinpool: 'create_thin x': its words are too many or too few, or one that should be a number is none\n",
+        "thinpool: 11 BadSyntax\nthinpool: 'create_thin x': wrong number of arguments, or an argument is not a number\n",
+    ),
+    (
+        &["thinpool", "message", "told.img", "create_thin 007"],
+        "thinpool: 11 BadSyntax\nthinpool: 'create_thin 007': 007 has a leading zero\n",
+    ),
+    (
+        &["thinpool", "message", "told.img", "create_thin  1"],
+        "thinpool: 11 BadSyntax\nthinpool: 'create_thin  1': arguments must be separated by one space each\n",
     ),
     (
         &["thinpool", "message", "told.img", "create_thin 16777216"],
-        "thinpool: 13 BadDeviceId\nthinpool: 'create_thin 16777216': a volume's id is at most 16777215\n",
+        "thinpool: 13 BadDeviceId\nthinpool: 'create_thin 16777216': a volume id must be in 0..=16777215\n",
     ),
     (
         &["thinpool", "message", "told.img", "make_thin 1"],
-        "thinpool: 12 UnknownMessage\nthinpool: 'make_thin 1': it begins with no message's name; `thinpool message --help` has them all\n",
+        "thinpool: 12 UnknownMessage\nthinpool: 'make_thin 1': unknown message; `thinpool message --help` lists all messages\n",
     ),
     (
         &["thinpool", "message", "told.img", "reserve_metadata_snap 1"],
-        "thinpool: 11 BadSyntax\nthinpool: 'reserve_metadata_snap 1': its words are too many or too few, or one that should be a number is none\n",
+        "thinpool: 11 BadSyntax\nthinpool: 'reserve_metadata_snap 1': wrong number of arguments, or an argument is not a number\n",
     ),
     (
         &["thinpool", "message", "told.img", "release_metadata_snap"],
-        "thinpool: 27 NoHeldRoot\nthinpool: 'release_metadata_snap': no mapping is held\n",
+        "thinpool: 27 NoHeldRoot\nthinpool: 'release_metadata_snap': no metadata snapshot exists\n",
     ),
     (
         &["thinpool", "message", "told.img", "grow 9 1"],
-        "thinpool: 15 NoSuchDevice\nthinpool: 'grow 9 1': no volume of that id exists\n",
+        "thinpool: 15 NoSuchDevice\nthinpool: 'grow 9 1': volume 9 does not exist; `thinpool ls told.img` lists the volumes\n",
     ),
     (
         &["thinpool", "message", "told.img", "grow 16777216 1"],
-        "thinpool: 13 BadDeviceId\nthinpool: 'grow 16777216 1': a volume's id is at most 16777215\n",
+        "thinpool: 13 BadDeviceId\nthinpool: 'grow 16777216 1': a volume id must be in 0..=16777215\n",
     ),
     (
         &["thinpool", "play", "told.img", "missing.txt"],
@@ -257,11 +265,11 @@ const HELD: &[Wrong] = &[
 const NO_POOL: &[Wrong] = &[
     (
         &["thinpool", "status", "none.img"],
-        "thinpool: 3 NotAPool\nthinpool: none.img holds no pool; `thinpool format` makes one\n",
+        "thinpool: 3 NotAPool\nthinpool: none.img is not a thinpool image; check the name\n",
     ),
     (
         &["thinpool", "check", "none.img"],
-        "thinpool: 30 BadSuper\nthinpool: none.img: no superblock can be used, or the file is shorter than it says; put a clean copy in its place\n",
+        "thinpool: 30 BadSuper\nthinpool: none.img: no usable superblock, or the file is shorter than its pool; check the name, or copy the image again\n",
     ),
 ];
 
@@ -395,7 +403,7 @@ const AGAIN: &[&str] = &["thinpool", "format", "asked.img", "128", "16", "2048",
 
 /// What is asked, and what is told where the answer is none.
 const KEPT: &[u8] =
-    b"thinpool: asked.img holds a pool with 1 volume; type yes to destroy it: thinpool: 14 Exists\nthinpool: asked.img was left as it is\n";
+    b"thinpool: asked.img holds a pool with 1 volume; type yes to destroy it: thinpool: 14 Exists\nthinpool: asked.img is unchanged\n";
 
 /// Whether what is told on standard error is this where this is answered to the question.
 fn is_kept<H>(rt: &H, answer: &[u8]) -> bool

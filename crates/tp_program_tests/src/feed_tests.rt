@@ -1,7 +1,7 @@
 //! Tests of one client over a pool in memory.
 
 use crate::parts::{
-    CLEAN, CLIENT_GO, Call, EXPORT_NAME, EXTENDED, FLAGS, GO_REPLIES, GREETING, MADE, Part,
+    CLEAN, CLIENT_GO, Call, EXPORT_NAME, EXTENDED, FLAGS, GO_REPLIES, GREETING, MADE, Part, STRICT,
     is_answered, is_sent, joined, told_into,
 };
 use crate::steps::{Step, take_steps};
@@ -459,9 +459,6 @@ const LONG_DONE: &[Part<'static>] = &[
     Part::Text(b"\x00\x00\x00\x00\x00\x40\x00\x00\x01\x6d"),
     Part::Reply(0, 1),
 ];
-
-/// The call that feeds it in a strict session.
-const STRICT: Call = ("feed", &[], 0, "");
 
 /// Lets volume 0 have 4 MiB.
 const GROWN: &[Call] = &[("message", &["grow 0 64"], 0, "ok\n")];

@@ -1,6 +1,6 @@
 //! Tests of the commands on image files. Each call is a program of its own; each test has a file of its own, for they run side by side.
 
-use crate::parts::{CLIENT_GO, Call, GO_REPLIES, GREETING, MADE, Part, first_untold};
+use crate::parts::{CLIENT_GO, Call, GO_REPLIES, GREETING, MADE, Part, STRICT, first_untold};
 use crate::steps::{Step, make_calls, make_last_calls, take_steps};
 use std::alloc::Global;
 use std::fs::File;
@@ -198,9 +198,6 @@ const READ: &[Part<'static>] = &[
     Part::Fill(0x62, 512),
 ];
 
-/// A call that feeds a client.
-const FEED: Call = ("feed", &[], 0, "");
-
 /// A volume with one block, and a snapshot of it.
 const SHARED: &[Call] = &[
     (
@@ -236,10 +233,10 @@ const ALONE: &[Call] = &[
 /// Two clients of an image that write, one that reads behind them, and the calls before, between and behind them.
 const FED: &[Step] = &[
     Step::Calls(MADE),
-    Step::Fed(FEED, FILLS_FIRST, FILLED),
+    Step::Fed(STRICT, FILLS_FIRST, FILLED),
     Step::Calls(SHARED),
-    Step::Fed(FEED, FILLS_SECOND, FILLED),
-    Step::Fed(FEED, READS, READ),
+    Step::Fed(STRICT, FILLS_SECOND, FILLED),
+    Step::Fed(STRICT, READS, READ),
     Step::Calls(ALONE),
 ];
 

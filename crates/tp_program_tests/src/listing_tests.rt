@@ -266,7 +266,7 @@ const CREATED: &[Call] = &[
         "create",
         &["--size", "10G", "--volume-size", "100G", "--volumes", "400"],
         1,
-        "thinpool: 1 BadGeometry\nthinpool: the metadata of so many volumes would take more than 65536 blocks, even with data blocks of 1 MiB: 397 volumes fit\n",
+        "thinpool: 1 BadGeometry\nthinpool: the metadata of these volumes needs more than 65536 blocks, even with data blocks of 1 MiB; 397 volumes fit\n",
     ),
     (
         "create",

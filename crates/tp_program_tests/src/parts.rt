@@ -268,7 +268,10 @@ pub(crate) const MADE: &[Call] = &[
 /// A pool of an image is checked, and found clean.
 pub(crate) const CLEAN: &[Call] = &[("check", &[], 0, "clean\n")];
 
-/// A client is fed who is offered what `run` offers.
+/// A client is fed that is offered what `serve` offers.
+pub(crate) const STRICT: Call = ("feed", &[], 0, "");
+
+/// A client is fed that is offered what `run` offers.
 pub(crate) const EXTENDED: Call = ("feed", &["--extended"], 0, "");
 
 /// Adds the words of a call on this image.

@@ -1,8 +1,8 @@
 //! Tests of clients without end over the system's sockets, until a control line ends them.
 
-use crate::parts::{CLIENT_GO, Call, GO_REPLIES, GREETING, MADE, Part, Ran};
+use crate::parts::{CLIENT_GO, Call, GO_REPLIES, GREETING, MADE, Part, Ran, STRICT};
 use crate::servers::{Places, is_exchanged, is_sent_back, run_server};
-use crate::steps::{make_calls, make_last_calls};
+use crate::steps::{Step, make_calls, make_last_calls, take_steps};
 use std::alloc::Global;
 use std::fs::{self, File};
 use std::io::{self, ErrorKind, Read};
@@ -89,9 +89,21 @@ where
 }
 
 /// What is left: what was written is there, though nobody flushed it.
-const LEFT: &[Call] = &[
-    ("status", &["0"], 0, "128 127\n"),
-    ("check", &[], 0, "clean\n"),
+const LEFT: &[Step] = &[
+    Step::Calls(&[
+        ("status", &["0"], 0, "128 127\n"),
+        ("check", &[], 0, "clean\n"),
+    ]),
+    Step::Fed(
+        STRICT,
+        &[Part::Text(CLIENT_GO), Part::Ask(0, 8, 0, 512)],
+        &[
+            Part::Text(GREETING),
+            Part::Text(GO_REPLIES),
+            Part::Reply(0, 8),
+            Part::Fill(b'a', 512),
+        ],
+    ),
 ];
 
 /// How the program ends, and what the client is told.
@@ -119,7 +131,7 @@ where
 fn a_line_stops_all(rt: HostRuntime) -> Result<(), Fail> {
     make_calls(&rt, "stopped.img", MADE)?;
     let told = told_of_stop(&rt, "stopped.img")?;
-    make_last_calls(&rt, "stopped.img", LEFT)?;
+    take_steps(&rt, "stopped.img", LEFT)?;
     assert_eq!(rt; told, (Status::Done, (true, 0)));
     Ok(())
 }
@@ -233,7 +245,7 @@ type Cleared = (Status, usize);
 /// How that ended.
 fn cleared_of(ran: &Ran) -> Cleared {
     let said = std::str::from_utf8(&ran.errors).unwrap_or("");
-    let cleared = said.matches(" deleted clones that a server left: 1\n");
+    let cleared = said.matches(" deleted 1 clones left by a previous server\n");
     (ran.status, cleared.count())
 }
 

@@ -1,11 +1,11 @@
 //! Tests of clients over the system's sockets and of a pipe. Each test has a file of its own, for they run side by side.
 
 use crate::parts::{
-    CLEAN, CLIENT_GO, Call, FAULT, GO_REPLIES, GREETING, MADE, Part, Ran, add, greeted, joined,
-    told_of_unread,
+    CLEAN, CLIENT_GO, Call, FAULT, GO_REPLIES, GREETING, MADE, Part, Ran, STRICT, add, greeted,
+    joined, told_of_unread,
 };
 use crate::servers::{Places, addresses_in, exchange, is_exchanged, run_server};
-use crate::steps::{make_calls, make_last_calls};
+use crate::steps::{Step, make_calls, make_last_calls, take_steps};
 use std::alloc::{AllocError, Global};
 use std::fs::File;
 use std::io;
@@ -206,11 +206,15 @@ where
     Ok((is_done, are_answered?))
 }
 
+/// The image that is left has the data that a client wrote.
+const READ_LATER: &[Step] = &[Step::Calls(WRITTEN), Step::Fed(STRICT, READING, READ)];
+
+/// Each of two clients is sent its answers, and the closed image has what one of them wrote.
 #[test]
 fn two_clients_at_once(rt: HostRuntime) -> Result<(), Fail> {
     make_calls(&rt, "later.img", MADE)?;
     let told = told_of_two(&rt, "later.img")?;
-    make_last_calls(&rt, "later.img", WRITTEN)?;
+    take_steps(&rt, "later.img", READ_LATER)?;
     assert_eq!(rt; told, (true, (true, true)));
     Ok(())
 }
@@ -306,7 +310,7 @@ where
     make_calls(rt, image, MADE)?;
     let told = told_of_session(rt, image, address, is_behind)?;
     assert_eq!(rt; told, (true, true));
-    make_last_calls(rt, image, WRITTEN)
+    take_steps(rt, image, READ_LATER)
 }
 
 #[test]

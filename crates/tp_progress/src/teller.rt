@@ -1,14 +1,16 @@
-//! How far work is, as lines.
+//! Progress of long work, as lines.
 
 use crate::progress::Progress;
 use std::io::Write;
 use std::time::Clock;
 
-/// As many seconds lie between two lines at most.
+/// The longest time between two lines, in seconds.
 const LONGEST_PAUSE: u64 = 15;
 
-/// Tells on a line, where work takes over a second, how many bytes were read and written so far: behind the first second, and then each time that a quarter of the time so far has gone by, a second at least and
-/// fifteen at most.
+/// Writes a line about long work: the bytes read and written so far.
+///
+/// The first line is written after 1 s, then each time the elapsed time has grown by 25 %, at least
+/// 1 s and at most 15 s after the previous line.
 #[derive(Drop)]
 pub struct Teller<'c, C: Clock, W: Write + Drop> {
     clock: &'c C,
@@ -30,7 +32,7 @@ fn second_of<C: Clock>(clock: &C) -> Option<u64> {
 }
 
 impl<'c, C: Clock, W: Write + Drop> Teller<'c, C, W> {
-    /// Of work that begins now, to lines that somebody reads as they come, or nobody.
+    /// Starts the clock of work that begins now. If `is_read` is false, no line is written.
     pub fn new(clock: &'c C, lines: W, is_read: bool) -> Teller<'c, C, W> {
         let began = if is_read { second_of(clock) } else { None };
         Teller {
@@ -43,7 +45,7 @@ impl<'c, C: Clock, W: Write + Drop> Teller<'c, C, W> {
         }
     }
 
-    /// Writes a line where one is due.
+    /// Writes a line if one is due.
     fn tell(&mut self) {
         let Some(began) = self.began else {
             return;

@@ -456,7 +456,27 @@ fn bad_images_are_refused(rt: HostRuntime) {
     assert_eq!(rt; first_wrong_byte(rt.alloc()), None);
 }
 
-/// What the opening of a disk answers that has a superblock and nothing else.
+/// Has so many of the first metadata blocks count 1.
+fn raise_counts(disk: &mut MemDisk, used: usize) -> Result<(), Fault> {
+    for b in 0..used {
+        change(disk, if b < 1024 { 2 } else { 3 }, 4 * (b % 1024), 1)?;
+    }
+    Ok(())
+}
+
+/// What the opening of a disk answers where so many of its metadata blocks count 1.
+fn opened_with_used(alloc: Global, disk: &mut MemDisk, used: usize) -> Result<(u64, u64), Refusal> {
+    match raise_counts(disk, used) {
+        Ok(()) => opened_on(alloc, disk),
+        Err(Fault) => Err(Refusal::Fault),
+    }
+}
+
+/// Metadata blocks that count 1 on a disk that has a superblock and counts alone: the fixed part and
+/// the root are among them.
+const COUNTED: usize = 64;
+
+/// The result of opening a disk that has a superblock, counts, and no nodes.
 fn opened_behind_write(
     alloc: Global,
     disk: &mut MemDisk,
@@ -465,7 +485,7 @@ fn opened_behind_write(
     if disk.sectors() > 0 && disk.write(0, superblock).is_err() {
         return Err(Refusal::Fault);
     }
-    opened_on(alloc, disk)
+    opened_with_used(alloc, disk, COUNTED)
 }
 
 /// The same of a disk of so many sectors.
@@ -489,7 +509,6 @@ fn told_of_cuts(alloc: Global) -> Result<[Result<(u64, u64), Refusal>; 2], Fault
     let superblock = superblock_of(alloc)?;
     Ok([
         told_of_cut(alloc, SECTORS - 1, &superblock),
-        // No counts: the metadata blocks of the fixed part count 0, which are zeros and so good counts.
         told_of_cut(alloc, SECTORS, &superblock),
     ])
 }
@@ -498,22 +517,6 @@ fn told_of_cuts(alloc: Global) -> Result<[Result<(u64, u64), Refusal>; 2], Fault
 fn an_image_that_is_cut_off_is_refused(rt: HostRuntime) {
     let told = told_of_cuts(rt.alloc());
     assert_eq!(rt; told, Ok([Err(Refusal::Damaged), Ok((0, 0))]));
-}
-
-/// Has so many of the first metadata blocks count 1.
-fn raise_counts(disk: &mut MemDisk, used: usize) -> Result<(), Fault> {
-    for b in 0..used {
-        change(disk, if b < 1024 { 2 } else { 3 }, 4 * (b % 1024), 1)?;
-    }
-    Ok(())
-}
-
-/// What the opening of a disk answers where so many of its metadata blocks count 1.
-fn opened_with_used(alloc: Global, disk: &mut MemDisk, used: usize) -> Result<(u64, u64), Refusal> {
-    match raise_counts(disk, used) {
-        Ok(()) => opened_on(alloc, disk),
-        Err(Fault) => Err(Refusal::Fault),
-    }
 }
 
 /// The same of the example pool.

@@ -94,7 +94,7 @@ fn digits_of(text: &str, letter: u8) -> &str
 /// What is wrong with the arguments of `create`, where they name no task.
 pub fn fault_of_create(arguments: &ArgMatches<'_>) -> &'static str {
     if size_of(arguments, "SIZE").is_none() {
-        return "error: SIZE of --size is no number of bytes below 2^64, as 10737418240 or 10G\n\nUsage: thinpool create [OPTIONS] --size <SIZE> --volume-size <SIZE> --volumes <N> <IMAGE>\n";
+        return "error: invalid value for --size <SIZE>: must be a number of bytes below 2^64, such as 10737418240 or 10G\n\nUsage: thinpool create [OPTIONS] --size <SIZE> --volume-size <SIZE> --volumes <N> <IMAGE>\n";
     }
-    "error: SIZE of --volume-size is no number of bytes below 2^64, as 10737418240 or 10G\n\nUsage: thinpool create [OPTIONS] --size <SIZE> --volume-size <SIZE> --volumes <N> <IMAGE>\n"
+    "error: invalid value for --volume-size <SIZE>: must be a number of bytes below 2^64, such as 10737418240 or 10G\n\nUsage: thinpool create [OPTIONS] --size <SIZE> --volume-size <SIZE> --volumes <N> <IMAGE>\n"
 }

@@ -137,13 +137,13 @@ fn mode_if_there(arguments: &ArgMatches<'_>, id: &str) -> Option<Option<u32>>
 /// What is wrong with the arguments of `run`, where they name no task.
 pub fn fault_of_run(arguments: &ArgMatches<'_>) -> &'static str {
     if texts_of(arguments, "LISTEN").is_none() {
-        return "error: there are more than four places to listen at\n\nUsage: thinpool run [OPTIONS] --listen <WHERE> <IMAGE>\n";
+        return "error: --listen may be given at most four times\n\nUsage: thinpool run [OPTIONS] --listen <WHERE> <IMAGE>\n";
     }
     if number_up_to(arguments, "DEFAULT", GREATEST_ID).is_none() {
-        return "error: ID is not from 0 to 16777215\n\nUsage: thinpool run [OPTIONS] --listen <WHERE> <IMAGE>\n";
+        return "error: invalid value for --default <ID>: must be in 0..=16777215\n\nUsage: thinpool run [OPTIONS] --listen <WHERE> <IMAGE>\n";
     }
     if mode_if_there(arguments, "SOCKET_MODE").is_none() {
-        return "error: MODE is not an octal number from 0 to 0777\n\nUsage: thinpool run [OPTIONS] --listen <WHERE> <IMAGE>\n";
+        return "error: invalid value for --socket-mode <MODE>: must be octal, in 0..=0777\n\nUsage: thinpool run [OPTIONS] --listen <WHERE> <IMAGE>\n";
     }
-    "error: PERCENT is not from 0 to 100\n\nUsage: thinpool run [OPTIONS] --listen <WHERE> <IMAGE>\n"
+    "error: invalid value for --low-water <PERCENT>: must be in 0..=100\n\nUsage: thinpool run [OPTIONS] --listen <WHERE> <IMAGE>\n"
 }

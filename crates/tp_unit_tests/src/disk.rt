@@ -4,7 +4,7 @@ use std::io;
 use std::os::unix::fs::{MetadataExt, symlink};
 use std::rt::Files;
 use std::test::Fail;
-use tp_disk::{Disk, Fault, FileDisk, MemDisk, OpenError, SharedDisk, SharedReader};
+use tp_disk::{Disk, Fault, FileDisk, LockedFile, MemDisk, OpenError, SharedDisk, SharedReader};
 
 // Fills one sector with a byte.
 fn fill<D: Disk>(disk: &mut D, at: u64, byte: u8) -> Result<(), Fault> {
@@ -316,7 +316,7 @@ fn refused_memory_changes_no_sector(rt: HostRuntime) {
 }
 
 // What is told of a disk that is opened, or a fault where it is not.
-fn told_of_opened(opened: Result<FileDisk, OpenError>) -> Result<Told, Fault> {
+fn told_of_opened(opened: Result<FileDisk<LockedFile>, OpenError>) -> Result<Told, Fault> {
     match opened {
         Ok(mut disk) => told_of(&mut disk),
         Err(_) => Err(Fault),
@@ -324,7 +324,9 @@ fn told_of_opened(opened: Result<FileDisk, OpenError>) -> Result<Told, Fault> {
 }
 
 // How many sectors a file has, and what they are filled with.
-fn shown_of_opened(opened: Result<FileDisk, OpenError>) -> Result<(u64, [u8; 8]), Fault> {
+fn shown_of_opened(
+    opened: Result<FileDisk<LockedFile>, OpenError>,
+) -> Result<(u64, [u8; 8]), Fault> {
     match opened {
         Ok(mut disk) => Ok((disk.sectors(), fillings(&mut disk)?)),
         Err(_) => Err(Fault),
@@ -383,7 +385,7 @@ fn first_other<D: Disk>(disk: &mut D, bytes: &[u8]) -> Result<Option<usize>, Fau
 
 // The same of 300 sectors, and what the sectors beside these are filled with.
 fn first_other_and_beside(
-    disk: &mut FileDisk,
+    disk: &mut FileDisk<LockedFile>,
     bytes: &[u8],
 ) -> Result<(Option<usize>, [u8; 2]), Fault> {
     let other = first_other(disk, bytes)?;
@@ -393,7 +395,7 @@ fn first_other_and_beside(
 // The same of a disk that is opened.
 fn long_write(
     alloc: Global,
-    opened: Result<FileDisk, OpenError>,
+    opened: Result<FileDisk<LockedFile>, OpenError>,
 ) -> Result<(Option<usize>, [u8; 2]), Fault> {
     match (opened, numbered(alloc, 300)) {
         (Ok(mut disk), Ok(bytes)) => first_other_and_beside(&mut disk, &bytes),
@@ -476,7 +478,7 @@ fn make_file<R: Files<File = File>>(rt: &R, name: &str, bytes: u64) -> Result<()
 }
 
 // How many sectors a disk has that is opened.
-fn sectors_of(opened: Result<FileDisk, OpenError>) -> Result<u64, Fault> {
+fn sectors_of(opened: Result<FileDisk<LockedFile>, OpenError>) -> Result<u64, Fault> {
     match opened {
         Ok(disk) => Ok(disk.sectors()),
         Err(_) => Err(Fault),
@@ -496,7 +498,7 @@ fn a_part_of_a_sector_is_not_counted(rt: HostRuntime) {
 }
 
 // Fills sector 1 of a disk that is opened.
-fn fill_opened(opened: Result<FileDisk, OpenError>) -> Result<(), Fault> {
+fn fill_opened(opened: Result<FileDisk<LockedFile>, OpenError>) -> Result<(), Fault> {
     match opened {
         Ok(mut disk) => fill(&mut disk, 1, 3),
         Err(_) => Err(Fault),
@@ -512,7 +514,7 @@ fn length_of<R: Files<File = File>>(rt: &R, name: &str) -> Result<u64, Fault> {
 }
 
 // How many sectors a disk has that is opened, and what two of them are filled with.
-fn two_of_opened(opened: Result<FileDisk, OpenError>) -> Result<(u64, [u8; 2]), Fault> {
+fn two_of_opened(opened: Result<FileDisk<LockedFile>, OpenError>) -> Result<(u64, [u8; 2]), Fault> {
     match opened {
         Ok(mut disk) => Ok((
             disk.sectors(),
@@ -598,7 +600,7 @@ fn an_image_is_a_file_of_its_owner(rt: HostRuntime) {
 // What the last two sectors of a disk are filled with whose file is shortened to three sectors and a part of one.
 fn shorten<R: Files<File = File>>(
     rt: &R,
-    disk: &mut FileDisk,
+    disk: &mut FileDisk<LockedFile>,
 ) -> Result<[Result<u8, Fault>; 2], Fault> {
     fill(disk, 3, 6)?;
     make_file(rt, "short.img", 3 * 512 + 100)?;
@@ -633,7 +635,7 @@ fn a_refusal_of_the_system_is_a_fault(rt: HostRuntime) {
 }
 
 // Whether this is told of a file that is not opened.
-fn is_told(alloc: Global, opened: Result<FileDisk, OpenError>, text: &str) -> bool {
+fn is_told(alloc: Global, opened: Result<FileDisk<LockedFile>, OpenError>, text: &str) -> bool {
     let Err(error) = opened else {
         return false;
     };
@@ -721,7 +723,12 @@ fn a_file_in_use_is_told_and_no_link_makes_a_file(rt: HostRuntime) {
 }
 
 // Whether a disk has no trouble before it fails, and this is told of it behind a read of this sector.
-fn is_trouble_told(alloc: Global, disk: &mut FileDisk, at: u64, text: &str) -> (bool, bool) {
+fn is_trouble_told(
+    alloc: Global,
+    disk: &mut FileDisk<LockedFile>,
+    at: u64,
+    text: &str,
+) -> (bool, bool) {
     let before = disk.trouble().is_none();
     let _ = filling(disk, at);
     let Some(trouble) = disk.trouble() else {
@@ -737,7 +744,7 @@ fn is_trouble_told(alloc: Global, disk: &mut FileDisk, at: u64, text: &str) -> (
 fn is_shortening_told<R: Files<File = File>>(
     rt: &R,
     alloc: Global,
-    disk: &mut FileDisk,
+    disk: &mut FileDisk<LockedFile>,
 ) -> Result<(bool, bool), Fault> {
     make_file(rt, "trouble.img", 3 * 512 + 100)?;
     Ok(is_trouble_told(
@@ -769,7 +776,7 @@ fn what_the_system_said_is_told(rt: HostRuntime) {
 type Unwritten = (u64, [Result<(), Fault>; 2], Result<u8, Fault>);
 
 // The same of a disk that is opened.
-fn told_of_read(opened: Result<FileDisk, OpenError>) -> Result<Unwritten, Fault> {
+fn told_of_read(opened: Result<FileDisk<LockedFile>, OpenError>) -> Result<Unwritten, Fault> {
     match opened {
         Ok(mut disk) => {
             let answers = [fill(&mut disk, 1, 7), disk.flush()];

@@ -14,6 +14,8 @@ mod counts;
 #[cfg(test)]
 mod disk;
 #[cfg(test)]
+mod file_calls;
+#[cfg(test)]
 mod layout;
 #[cfg(test)]
 mod messages;

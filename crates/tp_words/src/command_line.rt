@@ -19,117 +19,131 @@ use tp_tasks::{Asked, Unread, fault_of_create, fault_of_run, task_of};
 const VERSION: &str = "0.1.0 (rattle-kit-13f logic dac8208d650f15bf)";
 
 const AFTER_HELP: &str = "\
-In front of the command:
-      --explain  Behind a refusal, say what was refused and why, as in 'thinpool --explain status pool.img'
+Before the command:
+      --explain  After an error, also print what failed, why, and what to do. On a terminal this is
+                 the default. Example: thinpool --explain status pool.img
 
-An image is a regular file, as large as its pool, and sparse until it is written, or a block device that is at least as large: it holds two
-parts, of metadata and of data.
-While a program works on an image it holds the file's lock, and every other one is refused; but status, ls, map, delta, free and check, without
-its flag, only read it, and share the lock with each other.
+An image is a regular file, as large as its pool and sparse until it is written, or a block device
+that is at least as large. It has a metadata part and a data part.
+Commands that may write take an exclusive lock on the image. Commands that only read it (status, ls,
+map, delta, free, and check without its flag) take a shared lock.
 
-A pool of 10 GiB with volumes of 100 GiB each, from nothing:
+Create a pool of 10 GiB with volumes of 100 GiB each:
   thinpool create pool.img --size 10G --volume-size 100G --volumes 4
   thinpool message pool.img 'create_thin 0'
   thinpool status pool.img
   thinpool ls pool.img
-  thinpool feed pool.img
   thinpool check pool.img";
 
 const MESSAGE_HELP: &str = "\
-LINE is one word of the command line, so it stands in quotes:
-  'create_thin ID'              a new volume that reads zero
-  'create_snap ID ORIGIN'       a new volume with what the volume ORIGIN has now
-  'delete ID'                   the volume is removed, where no client holds it
-  'grow ID BLOCKS'              the volume has BLOCKS blocks from now on, where no client holds it: no fewer than before, 16777216 at
-                                most. What is new reads zero
-  'set_transaction_id OLD NEW'  sets a number of the user's own that the pool keeps, where it is OLD now
-  reserve_metadata_snap         the mapping of all volumes is held as it is now, where none is
-  release_metadata_snap         what is held is given up, and its blocks are free again
-An ID is a number from 0 to 16777215, OLD and NEW are numbers of 64 bits. BLOCKS are of the pool's own block size:
-with blocks of 64 KiB, 16384 make 1 GiB, and 3276800 make 200 GiB. What a message does is on the disk before 'ok' is printed.
+LINE is one argument, so quote it:
+  'create_thin ID'              Create a volume that reads as zeros
+  'create_snap ID ORIGIN'       Create a volume with the current data of volume ORIGIN
+  'delete ID'                   Delete a volume. No client may have it open
+  'grow ID BLOCKS'              Set the size of a volume to BLOCKS data blocks: at least its current
+                                size, at most 16777216. The new blocks read as zeros. No client may
+                                have the volume open
+  'set_transaction_id OLD NEW'  Set the transaction id of the pool to NEW if it is OLD
+  reserve_metadata_snap         Create the metadata snapshot of the pool, if none exists
+  release_metadata_snap         Delete the metadata snapshot and free its blocks
+ID and ORIGIN are numbers in 0..=16777215, OLD and NEW are 64-bit numbers. All numbers are decimal,
+without leading zeros. With data blocks of 64 KiB, 16384 BLOCKS are 1 GiB and 3276800 are 200 GiB.
+The change is durable when 'ok' is printed.
 
   thinpool message pool.img 'create_thin 0'
   thinpool message pool.img 'grow 0 3276800'";
 
 const STATUS_HELP: &str = "\
-A pool's line: transaction id, used/all metadata blocks of 4096 bytes, used/all data blocks, '-' or the root of a held
-mapping, mode (rw, ro, out_of_data_space or Fail), no_discard_passdown, error_if_no_space, needs_check or '-', 512 (the bytes of a sector).
-A volume's line: how many of its sectors are mapped, and the highest of them or '-'.
+Fields of a pool's line: transaction id; used/total metadata blocks of 4096 bytes; used/total data
+blocks; root of the metadata snapshot, or '-'; mode (rw, ro, out_of_data_space or Fail);
+no_discard_passdown; error_if_no_space; needs_check, or '-'; 512 (bytes of a sector).
+Fields of a volume's line: mapped sectors; highest mapped sector, or '-'.
 
-Of a pool of 10 GiB with one volume in which nothing is written:
+A pool of 10 GiB with one volume that was never written:
   thinpool status pool.img      0 340/8192 0/163840 - rw no_discard_passdown error_if_no_space - 512
   thinpool status pool.img 0    0 -";
 
 const CHECK_HELP: &str = "\
-It prints 'clean', or one fault of the image on standard error, by number and name, and ends with 1. It wants no right to write, and
-shares the file's lock with what else only reads it, as 'status' and other checks. It reads each node once, and takes 60 bytes of memory
-for each metadata block and 4 for each data block.
+Prints 'clean'; or prints the number and name of one error on standard error, with exit status 1.
+The image is opened read-only, with the shared lock. Each node is read once. The check needs 60
+bytes of memory for each metadata block and 4 for each data block.
 
-A pool wants a check ('needs_check' in its status line) since there was no room for its metadata, and is read-only. With
---clear-needs-check-flag it wants none where the image is clean: then it can be written again, and volumes deleted. That is on the disk
-before 'clean' is printed. It wants the right to write the file, and its lock alone. An image that is not clean is not written.
+A pool that ran out of metadata space has 'needs_check' in its status line and is read-only. With
+--clear-needs-check-flag, check clears needs_check if the image is clean. Volumes can then be
+deleted and written again. This needs the right to write the file and the exclusive lock, and is
+durable when 'clean' is printed. An image that is not clean is not written.
 
-The check was not made, and nothing is said of the image:
-   5 Fault       the file is missing, neither a regular file nor a block device, not yours to read or in use by another process, or a
-                 read of it or standard output failed: see to that, and check again. With the flag also: not yours to write, or a write failed, and then the
-                 pool wants a check still or none any more, as its status line says
-  10 Memory      there is no memory for it: check where there is more
+The image was not checked, and may be clean or not:
+   5 Fault       The file does not exist, is neither a regular file nor a block device, may not be
+                 opened, or is in use by another process; or a read or standard output failed.
+                 Correct the cause and check again. With the flag, also: the file may not be
+                 written, or a write failed. The status line then shows whether needs_check is set
+  10 Memory      Out of memory
 
-The image has this fault:
-  30 BadSuper    no superblock that can be used, or a file that is shorter than it says: no image, part of one, or one whose 'format'
-                 did not end. Format it again, or copy it again and whole
-  31 BadNode     a block that should hold a node of a tree holds none, or another one
-  32 BadOrder    the keys of a node do not ascend, or lie outside of their range
-  33 BadCount    the counts of references are not the true ones, or fewer than 128 metadata blocks are free
-  34 OutOfPlace  a block number is out of its range, or there are too many volumes
-  35 HalfEmpty   a node has too few entries
-  36 BadMapped   a volume's number of mapped blocks is not the true one
+The image has this error:
+  30 BadSuper    No superblock is usable, or the file is shorter than its pool: it is not an
+                 image, an incomplete copy, or a 'format' did not end. Check the name, copy the
+                 image again, or format it again
+  31 BadNode     A block is not the tree node that it should be
+  32 BadOrder    The keys of a node are not ascending, or out of range
+  33 BadCount    Stored reference counts are wrong, or fewer than 128 metadata blocks are free
+  34 OutOfPlace  A block number is out of range, or there are too many volumes
+  35 HalfEmpty   A node has too few entries
+  36 BadMapped   A volume's count of mapped blocks is wrong
   37 BadRecordSize
-                 a volume's record tells a size that no volume may have
+                 A volume record has an invalid size
 
-A pool that is stopped at any moment, also by a failing disk, leaves none of 31 to 37: the file was changed by something else, or the
-disk under it lost writes. There is no repair. Give the image no message and serve no writes from it, which could overwrite what
-other volumes have; put in its place a copy that is clean. To save what can be read, copy the file, and serve the copy by 'feed'.
+No crash and no failed disk leaves an image with an error from 31 to 37: another program wrote the
+file, or the disk lost synced writes. There is no repair. Send the image no message and serve no
+writes from it, because they could overwrite other volumes. Use a clean copy instead. To save
+readable data, copy the file and read volumes from the copy with 'feed' or 'serve'.
 
   thinpool check pool.img
   thinpool check pool.img --clear-needs-check-flag";
 
 const FEED_HELP: &str = "\
-The client speaks NBD (fixed newstyle) on standard input, and is answered on standard output. The volumes' names are their ids. Offsets
-and lengths are in bytes, whole sectors of 512; a request has 1048576 bytes at most, but with --extended TRIM, WRITE_ZEROES and
-BLOCK_STATUS, which may have up to 4294967295. A FLUSH that is answered is on the disk. When the client ends, the pool is closed, and what it wrote is on the disk.
-TRIM frees blocks of the pool, and gives nothing back to the host.
+The client speaks NBD (fixed newstyle) on standard input, and reads replies on standard output. The
+export names are the volume ids. Offsets and lengths are in bytes, multiples of 512. A request has
+at most 1048576 bytes; with --extended TRIM, WRITE_ZEROES and BLOCK_STATUS have at most 4294967295.
+When a FLUSH is replied to, its data is durable. When the client ends, the pool is closed and all
+its writes are durable. TRIM frees blocks of the pool, but no space on the host.
 
-The volume 0 of a pool of 10 GiB is asked for by
+This opens volume 0 of a pool of 10 GiB and prints the replies:
   printf '\\0\\0\\0\\3IHAVEOPT\\0\\0\\0\\7\\0\\0\\0\\7\\0\\0\\0\\0010\\0\\0' | thinpool feed pool.img | xxd";
 
 const SERVE_HELP: &str = "\
-The clients speak NBD (fixed newstyle) to the TCP address ADDR, as 127.0.0.1:10809 or [::1]:10809, each as it comes. COUNT of them are
-served, connections in all, and then the pool is closed. With port 0 the system picks one, which is told on standard error. There
-is no authentication and no time limit: listen on loopback or on a network of your own. A FLUSH that is answered is on the disk, also
-where the server is stopped.
+Clients speak NBD (fixed newstyle) and connect to the TCP address ADDR, such as 127.0.0.1:10809 or
+[::1]:10809. The server accepts COUNT connections in total, and then closes the pool. With port 0
+the system picks a port, which is printed on standard error. There is no authentication and no time
+limit, so listen on loopback or on a private network. When a FLUSH is replied to, its data is
+durable, even if the server is killed.
 
-With --control the server also listens on ADDRESS, for lines of clients that come one after the other. Each line that is ended by a
-newline is answered by one: 'status' and 'thin ID' by a status line, and any other line is a message to the pool as those of
-'thinpool message', answered 'ok' or 'refused N' by the number of the refusal. Whoever connects there can delete volumes: keep it on
-loopback. It ends when the last of the COUNT clients has.
+With --control the server also listens on ADDRESS for control lines, from one client at a time. Each
+line that ends with a newline gets one reply: 'status' and 'thin ID' a status line, and any other
+line is a message as for 'thinpool message', with the reply 'ok' or 'refused N', N being the error
+number. A client of this address can delete volumes, so listen on loopback. The address is closed
+after the last of the COUNT clients disconnects.
 
   thinpool serve pool.img 127.0.0.1:10809 1
   thinpool serve pool.img 127.0.0.1:10809 1 --control 127.0.0.1:10810";
 
 const PLAY_HELP: &str = "\
-SCRIPT is a file of lines, each an event; its answers are printed, a line each. SID is a client's number from 0 to 63, ID a volume's, HEX 1 to
-8192 bytes, each in two digits of 0 to 9 and a to f. An empty line does nothing.
-  open SID         a client comes: 'sent SID HEX' is its greeting
-  bytes SID HEX    it sends these bytes: 'sent SID HEX' for each answer, and 'end SID' where its session is over
-  hangup SID       it goes: 'end SID'
-  message TEXT     a message to the pool: 'ok'
-  status           the pool's status line
-  thin ID          a volume's
-What is refused prints 'refused N', the number of the refusal, and the script goes on. At a line that is none of these it stops with status 2, and the
-pool is not closed: what was not flushed is as after a stop. Else the pool is closed at the end.
+Each line of the file SCRIPT is an event, and its replies are printed on one line each. SID is a
+client number in 0..=63, ID a volume id, HEX 1 to 8192 bytes of two digits each, 0 to 9 and a to f.
+Empty lines are ignored.
+  open SID         A client connects. Prints 'sent SID HEX' with the greeting
+  bytes SID HEX    It sends these bytes. Prints 'sent SID HEX' for each reply, and 'end SID' if its
+                   connection is closed
+  hangup SID       It disconnects. Prints 'end SID'
+  message TEXT     Sends a message to the pool. Prints 'ok'
+  status           Prints the status line of the pool
+  thin ID          Prints the status line of a volume
+An event that fails prints 'refused N', N being the error number, and the script continues. Any
+other line ends the script with exit status 2: the pool is not closed, and data that was not flushed
+may be lost as in a crash. Otherwise the pool is closed at the end.
 
-With --extended the clients may send TRIM and WRITE_ZEROES of any length, and ask for structured replies and block status, as those of 'run'.
+With --extended clients may send TRIM and WRITE_ZEROES of any length, and request structured replies
+and block status, as with 'run'.
 
   thinpool play mem: script.txt";
 
@@ -214,7 +228,7 @@ fn program_name<S: AsStr>(words: &[S]) -> Option<&str> {
     Path::new(words.first()?.as_str()).file_name()
 }
 
-/// An argument that has to be there.
+/// Makes a required argument.
 pub(crate) fn text<'a>(alloc: Global, id: &'a str, help: &'a str) -> Arg<'a>
     ensures rule { rule_of result ≡ text_rule id.entry.now }
     ensures local { result.global ≡ false }
@@ -222,7 +236,7 @@ pub(crate) fn text<'a>(alloc: Global, id: &'a str, help: &'a str) -> Arg<'a>
     Arg::new(alloc, id).required(true).help(help)
 }
 
-/// One that is a number of 64 bits.
+/// Makes a required argument that is a 64-bit number.
 pub(crate) fn number<'a>(alloc: Global, id: &'a str, help: &'a str) -> Arg<'a>
     ensures rule { rule_of result ≡ number_rule id.entry.now }
     ensures local { result.global ≡ false }
@@ -230,7 +244,7 @@ pub(crate) fn number<'a>(alloc: Global, id: &'a str, help: &'a str) -> Arg<'a>
     text(alloc, id, help).value_parser(clap::value_parser!(u64))
 }
 
-/// The same, that may be left out.
+/// Makes an optional argument that is a 64-bit number.
 fn optional_number<'a>(alloc: Global, id: &'a str, help: &'a str) -> Arg<'a>
     ensures rule { rule_of result ≡ optional_number_rule id.entry.now }
     ensures local { result.global ≡ false }
@@ -281,7 +295,7 @@ pub(crate) fn repeated<'a>(
         .action(ArgAction::Append)
 }
 
-/// An argument that may be left out.
+/// Makes an optional argument.
 pub(crate) fn optional<'a>(alloc: Global, id: &'a str, help: &'a str) -> Arg<'a>
     ensures rule { rule_of result ≡ optional_rule id.entry.now }
     ensures local { result.global ≡ false }
@@ -334,9 +348,9 @@ pub(crate) fn named<'a>(alloc: Global, name: &'a str, about: &'a str, help: &'a 
 fn message_command<'a>(alloc: Global) -> Result<Command<'a>, AllocError>
     ensures { IfOk result (IsMade message_app) }
 {
-    let about = "Give a pool one message, and print 'ok'";
-    let image = "The file that holds the pool";
-    let line = "The message, in quotes: 256 bytes at most";
+    let about = "Send one message to a pool, and print 'ok'";
+    let image = "Image of the pool";
+    let line = "The message, in quotes: at most 256 bytes";
     let made = of_image(alloc, "message", about, image, MESSAGE_HELP);
     with(made, text(alloc, "LINE", line))
 }
@@ -344,9 +358,9 @@ fn message_command<'a>(alloc: Global) -> Result<Command<'a>, AllocError>
 fn status_command<'a>(alloc: Global) -> Result<Command<'a>, AllocError>
     ensures { IfOk result (IsMade status_app) }
 {
-    let about = "Print the status line of a pool or of a volume. Nothing is written to the image";
-    let image = "The file that holds the pool";
-    let id = "The volume, 0 to 16777215; without it, the line is the pool's";
+    let about = "Print the status line of a pool or of a volume. Does not write to the image";
+    let image = "Image of the pool";
+    let id = "Volume id [0 to 16777215]; without it, print the line of the pool";
     let made = of_image(alloc, "status", about, image, STATUS_HELP);
     with(made, optional_number(alloc, "ID", id))
 }
@@ -354,15 +368,9 @@ fn status_command<'a>(alloc: Global) -> Result<Command<'a>, AllocError>
 fn check_command<'a>(alloc: Global) -> Result<Command<'a>, AllocError>
     ensures { IfOk result (IsMade check_app) }
 {
-    let about = "Print 'clean' where an image is so. Without a flag nothing is written to it";
-    let clears = "Where the image is clean, clear the flag by which its pool wants a check";
-    let made = of_image(
-        alloc,
-        "check",
-        about,
-        "The file that holds the pool",
-        CHECK_HELP,
-    );
+    let about = "Check an image; print 'clean' if it is consistent. Writes only with the flag";
+    let clears = "If the image is clean, clear needs_check, so that the pool can be written";
+    let made = of_image(alloc, "check", about, "Image of the pool", CHECK_HELP);
     with(made, flag(alloc, "CLEAR", "clear-needs-check-flag", clears))
 }
 
@@ -380,8 +388,7 @@ fn feed_command<'a>(alloc: Global) -> Result<Command<'a>, AllocError>
     ensures { IfOk result (IsMade feed_app) }
 {
     let about = "Serve one NBD client on standard input and output, then close the pool";
-    let image =
-        "The file that holds the pool, or 'mem:' for a fresh pool in memory with one volume, 0";
+    let image = "Image of the pool, or 'mem:' for a new pool in memory with one volume, 0";
     let made = of_image(alloc, "feed", about, image, FEED_HELP);
     with(made, extended(alloc))
 }
@@ -389,12 +396,11 @@ fn feed_command<'a>(alloc: Global) -> Result<Command<'a>, AllocError>
 fn serve_command<'a>(alloc: Global) -> Result<Command<'a>, AllocError>
     ensures { IfOk result (IsMade serve_app) }
 {
-    let about = "Serve NBD clients of a TCP address, then close the pool";
-    let image = "The file that holds the pool";
-    let address = "Where to listen: an IP address or a host, and a port";
-    let clients = "How many clients are served: 1 to 64";
-    let control =
-        "Where to listen for messages and questions for status lines while clients are served";
+    let about = "Serve COUNT NBD clients on a TCP address, then close the pool";
+    let image = "Image of the pool";
+    let address = "Address to listen on: an IP address or a host, and a port";
+    let clients = "Number of clients to serve [1 to 64]";
+    let control = "Address to listen on for control lines while clients are served";
     let made = of_image(alloc, "serve", about, image, SERVE_HELP);
     let made = with(made, text(alloc, "ADDR", address));
     let made = with(made, number(alloc, "COUNT", clients));
@@ -408,10 +414,9 @@ fn play_command<'a>(alloc: Global) -> Result<Command<'a>, AllocError>
     ensures { IfOk result (IsMade play_app) }
 {
     let about = "Play the events of a script over a pool, then close the pool";
-    let image =
-        "The file that holds the pool, or 'mem:' for a fresh pool in memory with one volume, 0";
+    let image = "Image of the pool, or 'mem:' for a new pool in memory with one volume, 0";
     let made = of_image(alloc, "play", about, image, PLAY_HELP);
-    let made = with(made, text(alloc, "SCRIPT", "The file of the script"));
+    let made = with(made, text(alloc, "SCRIPT", "File of the script"));
     with(made, extended(alloc))
 }
 
@@ -500,7 +505,8 @@ fn add_to_made<'a>(
     }
 }
 
-/// What is told of words that name no task: they are as the commands want them but for the number of clients, a size, or the places or the percentage of a server.
+/// Makes the usage error of arguments that `clap` accepts and that name no task: the number of
+/// clients, a size, or the addresses, the volume or the percentage of a server is out of range.
 fn misused(alloc: Global, matches: &ArgMatches<'_>) -> Unread
     ensures { (words : List Text) → mistakes words ≡ [] → NameNone words → IsUnread words result }
 {
@@ -508,7 +514,7 @@ fn misused(alloc: Global, matches: &ArgMatches<'_>) -> Unread
         Some(("run", arguments)) => fault_of_run(arguments),
         Some(("create", arguments)) => fault_of_create(arguments),
         _ => {
-            "error: COUNT is not from 1 to 64\n\nUsage: thinpool serve [OPTIONS] <IMAGE> <ADDR> <COUNT>\n"
+            "error: invalid value for <COUNT>: must be in 1..=64\n\nUsage: thinpool serve [OPTIONS] <IMAGE> <ADDR> <COUNT>\n"
         }
     };
     match String::from_str(alloc, text) {
@@ -517,7 +523,7 @@ fn misused(alloc: Global, matches: &ArgMatches<'_>) -> Unread
     }
 }
 
-/// What is told of words that `clap` does not take.
+/// Makes the help or the usage error of arguments that `clap` does not accept.
 fn unread<S: AsStr>(alloc: Global, words: &[S], error: &clap::Error) -> Unread
     ensures { (words : List Text) → HasKind (mistakes words) error.now → IsUnread words result }
 {
@@ -534,7 +540,8 @@ fn unread<S: AsStr>(alloc: Global, words: &[S], error: &clap::Error) -> Unread
     }
 }
 
-/// What `clap` says of these words, but for its tip to pass an argument as a value where no such value is taken.
+/// Returns the text of `clap`, without its tip to pass an argument as a value if that value would
+/// be invalid.
 fn told<S: AsStr>(alloc: Global, words: &[S], error: &clap::Error) -> Result<String, AllocError> {
     let text = format!(in alloc; "{error}")?;
     if let Some((before, argument, after)) = around_tip(text.as_str()) {

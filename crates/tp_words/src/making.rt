@@ -10,30 +10,35 @@ use clap::{Arg, Command};
 use std::alloc::{AllocError, Global};
 
 const FORMAT_HELP: &str = "\
-A file is made where it is absent, and set to the pool's exact size: what it held is lost, and a longer file is cut. A new one is for its
-owner alone (mode 0600). It stays sparse unless `fallocate` takes its space on the host at once, before or after. A host disk that is
-full fails the pool. TRIM gives nothing back to the host.
+A file is created if it does not exist (mode 0600), and gets the exact size of the pool: its data is
+destroyed, and a longer file is truncated. It stays sparse unless `fallocate` allocates its space on
+the host, before or after. A full host disk makes the pool fail. TRIM frees no space on the host.
 
-A block device has to be as large as the pool, or larger: what is behind the pool is not touched. It is refused where one of its first 8192
-bytes is neither zero nor a pool's, as of a file system or a partition table: with --overwrite that is lost. To a file that flag says nothing.
+A block device must be at least as large as the pool. Bytes past the end of the pool are not
+changed. format fails with error 14 (Exists) if the first 8192 bytes contain data that is not a
+pool, such as a file system or a partition table; with --overwrite that data is destroyed. The flag
+has no effect on a regular file.
 
-A pool of 10 GiB with blocks of 64 KiB, volumes of 100 GiB and 32 MiB of metadata, in a file of 10770972672 bytes:
+A pool of 10 GiB with blocks of 64 KiB, volumes of 100 GiB and 32 MiB of metadata, in a file of
+10770972672 bytes:
   thinpool format pool.img 128 1638400 8192 163840";
 
 const CREATE_HELP: &str = "\
-It chooses the four numbers of 'format', prints them on a line as 'format' takes them, and does with them what 'format' does: its help says
-what becomes of a file and of a block device, and what --overwrite is for.
+Computes the four numbers of 'format', prints them on one line as arguments of 'format', and does
+what 'format' does. 'thinpool format --help' describes files, block devices and --overwrite.
 
-A SIZE is a number of bytes below 2^64. With K, M, G or T behind a number it is that many times 1024, 1024^2, 1024^3 or 1024^4 bytes: 10G are
-10737418240. The SIZE of --size is what all volumes together can hold; the image is larger by its metadata.
+A SIZE is a number of bytes below 2^64. The suffix K, M, G or T multiplies it by 1024, 1024^2,
+1024^3 or 1024^4: 10G is 10737418240. --size is the data that all volumes together can store. The
+image is larger by its metadata.
 
-The data blocks are the smallest, of 64 KiB to 1 MiB, with which data, volumes and metadata have room. N is a guarantee, not a limit: while
-there are at most N volumes, no request fails for lack of metadata space. If N volumes have no room even with blocks of 1 MiB, nothing is
-made: it is refused by 1, and the number of volumes that fit is printed.
+The data blocks are the smallest, of 64 KiB to 1 MiB, with which data, volumes and metadata fit. N
+is a guarantee, not a limit: while there are at most N volumes and no metadata snapshot, no request
+runs out of metadata space. If N volumes do not fit even with blocks of 1 MiB, create fails with
+error 1 (BadGeometry), prints the number of volumes that fit, and does not touch the image.
 
   thinpool create pool.img --size 10G --volume-size 100G --volumes 4";
 
-/// An option `--name VALUE` that has to be there.
+/// Makes a required option `--name VALUE`.
 fn wanted<'a>(alloc: Global, id: &'a str, name: &'a str, value: &'a str, help: &'a str) -> Arg<'a>
     ensures rule { rule_of result ≡ wanted_rule id.entry.now name.entry.now }
     ensures local { result.global ≡ false }
@@ -41,7 +46,7 @@ fn wanted<'a>(alloc: Global, id: &'a str, name: &'a str, value: &'a str, help: &
     option(alloc, id, name, value, help).required(true)
 }
 
-/// The same of one that is a number of 64 bits.
+/// Makes a required option `--name VALUE` that is a 64-bit number.
 fn wanted_number<'a>(
     alloc: Global,
     id: &'a str,
@@ -59,14 +64,14 @@ pub(crate) fn format_command<'a>(alloc: Global) -> Result<Command<'a>, AllocErro
     ensures { IfOk result (IsMade format_app) }
 {
     let about =
-        "Make a file or block device the image of an empty pool, and print its status line. What it held is lost";
-    let image = "The file or block device that is to hold the pool";
-    let overwrites = "Destroy what a block device holds, also where that is no pool";
-    let block = "Sectors of 512 bytes in a data block: 128 to 2048, a multiple of 128";
-    let volume = "Data blocks in each volume: 1 to 16777216";
+        "Create an empty pool in a file or block device, and print its status line. Destroys its data";
+    let image = "File or block device to create the pool in";
+    let overwrites = "Destroy the data of a block device, even if it is not a pool";
+    let block = "Sectors of 512 bytes in a data block [128 to 2048, a multiple of 128]";
+    let volume = "Data blocks in each volume [1 to 16777216]";
     let metadata =
-        "Metadata blocks of 4096 bytes: at least 1024 and the fixed part (2, and two for each 1024 blocks of either part), at most 65536";
-    let data = "Data blocks of the pool: 1 to 1048576";
+        "Metadata blocks of 4096 bytes: at least 1026 and two for each 1024 metadata and data blocks, at most 65536";
+    let data = "Data blocks of the pool [1 to 1048576]";
     let made = of_image(alloc, "format", about, image, FORMAT_HELP);
     let made = with(made, number(alloc, "BLOCK_SECTORS", block));
     let made = with(made, number(alloc, "VIRTUAL_BLOCKS", volume));
@@ -79,12 +84,12 @@ pub(crate) fn create_command<'a>(alloc: Global) -> Result<Command<'a>, AllocErro
     ensures { IfOk result (IsMade create_app) }
 {
     let about =
-        "Make a file or block device the image of an empty pool that can hold so much in so many volumes. What it held is lost";
-    let image = "The file or block device that is to hold the pool";
-    let size = "What all volumes together can hold: bytes, or K, M, G or T of them";
-    let volume = "The size of each volume: bytes, or K, M, G or T of them";
-    let volumes = "How many volumes there can be, snapshots among them";
-    let overwrites = "Destroy what a block device holds, also where that is no pool";
+        "Create an empty pool of a given size, for volumes of a given size and number. Destroys the data of IMAGE";
+    let image = "File or block device to create the pool in";
+    let size = "Data that all volumes together can store: bytes, or with K, M, G or T";
+    let volume = "Size of each volume: bytes, or with K, M, G or T";
+    let volumes = "Number of volumes, including snapshots, that always fit";
+    let overwrites = "Destroy the data of a block device, even if it is not a pool";
     let made = of_image(alloc, "create", about, image, CREATE_HELP);
     let made = with(made, wanted(alloc, "SIZE", "size", "SIZE", size));
     let made = with(

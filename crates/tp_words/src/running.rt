@@ -10,40 +10,44 @@ use clap::{Arg, Command};
 use std::alloc::{AllocError, Global};
 
 const RUN_HELP: &str = "\
-WHERE is 'unix:PATH', a socket file, or 'HOST:PORT', a TCP address, as 127.0.0.1:10809 or [::1]:10809. The clients speak NBD (fixed
-newstyle), 64 of them at a time, each as it comes; who comes then waits for a place. It serves until a control line tells it to stop, and
-then closes the pool. A socket file is for its owner alone (mode 0600). One that a server left that runs no more is replaced. At a TCP address
-there is no authentication, and a client whose system does not answer any more is let go within some minutes.
+WHERE is 'unix:PATH', a socket file, or 'HOST:PORT', a TCP address such as 127.0.0.1:10809 or
+[::1]:10809. Clients speak NBD (fixed newstyle). 64 are served at a time; further clients wait until
+a connection slot is free. The server runs until a control line stops it, and then closes the pool.
+A socket file has mode 0600. A socket file of a server that no longer runs is replaced. On TCP there
+is no authentication; a client whose host no longer responds is disconnected after some minutes.
 
-TRIM, WRITE_ZEROES and BLOCK_STATUS may be as long as a client likes; READ and WRITE have 1048576 bytes at most. A client may have several connections. With --default
-a client who names no volume has that one, as of nbd://host.
+TRIM, WRITE_ZEROES and BLOCK_STATUS may have any length; READ and WRITE have at most 1048576 bytes.
+A client may use several connections. With --default, a client that names no volume (nbd://host)
+opens that one.
 
-With --clones a client who names 'clone:ID' has a snapshot of volume ID for itself, which is made then and deleted when it goes. Clones are the volumes from 8388608
-to 8388671: those that a server left which was killed are deleted at the start, and so is what somebody made there. No client can name or list a volume from 8388608
-on then. Each connection has a clone of its own, also one that is made again.
+With --clones, a client that opens 'clone:ID' gets a new snapshot of volume ID, which is deleted
+when the client disconnects. Each connection has a clone of its own, even after a reconnect. Clones
+are the volumes 8388608 to 8388671; at the start all volumes with these ids are deleted. No client
+can open or list a volume with an id of 8388608 or more.
 
-Standard error is told, a line each with the time in UTC: who comes and goes, with its volume, requests and bytes; which control lines changed
-something; that the pool failed, and why; and once each time that less than PERCENT of the data blocks, or of the metadata blocks, are free. With
---quiet it is told faults alone, and not where it listens.
+The log on standard error has one line for each event, with the time in UTC: a client connects or
+disconnects (with its volume, requests and bytes); a control line changed something; the pool
+failed, and why; free data or metadata falls below PERCENT %, once each time. With --quiet only
+errors are logged, and the listen addresses are not printed.
 
-With --control it also answers lines, each by one: those of 'serve --control', and
-  clients   how many clients are served, and the ids of the volumes that they have, ascending: '3 of 64: 0 7 7'
-  flush     what was written is on the disk: 'ok'
-  stop      nobody is let in any more, and it ends when the last client has gone: 'ok'
-  stop now  the clients' streams are ended too, behind the answers of what was read of them: 'ok'. Who has not taken these within
-            some five seconds is let go without
-Whoever can connect there can delete volumes: take a socket file. 'thinpool ask' sends such lines.
+With --control the server also replies to control lines: those of 'serve --control', and
+  clients   Number of clients and the volumes that they have open, ascending: '3 of 64: 0 7 7'
+  flush     Makes all completed writes durable. Reply: 'ok'
+  stop      Accepts no new connections, and ends when the last client disconnects. Reply: 'ok'
+  stop now  Also closes all connections after the replies to the requests read so far. Reply: 'ok'.
+            A client that has not read its replies after 5 s is disconnected
+A client of this address can delete volumes, so use a socket file. 'thinpool ask' sends such lines.
 
   thinpool run pool.img --listen unix:/run/thinpool/nbd.sock --control unix:/run/thinpool/control.sock";
 
 const ASK_HELP: &str = "\
-It prints a line of answer for each line. Where one is refused it ends with 1, behind all of them. Behind 'stop' or 'stop now' it waits until the
-server has closed its pool.
+Prints one reply for each line. If a reply is 'refused N', the exit status is 1, after all replies.
+After 'stop' or 'stop now' it waits until the server has closed the pool.
 
   thinpool ask unix:/run/thinpool/control.sock status 'create_thin 1'
   thinpool ask unix:/run/thinpool/control.sock 'stop now'";
 
-/// An option `--name VALUE` that is a number of 64 bits.
+/// Makes an option `--name VALUE` that is a 64-bit number.
 fn number_option<'a>(
     alloc: Global,
     id: &'a str,
@@ -57,15 +61,15 @@ fn number_option<'a>(
     option(alloc, id, name, value, help).value_parser(clap::value_parser!(u64))
 }
 
-/// The arguments that say what is told on standard error.
+/// Adds the options of the log.
 fn with_telling<'a>(
     alloc: Global,
     made: Result<Command<'a>, AllocError>,
 ) -> Result<Command<'a>, AllocError>
     ensures { (before : App) → IfOk made.entry (IsMade before) → IfOk result (IsMade (told_app before)) }
 {
-    let low = "Tell when less than so many hundredths are free: 0 to 100, 10 without it";
-    let quiet = "Tell faults alone";
+    let low = "Warn when free space falls below PERCENT % [0 to 100, default 10]";
+    let quiet = "Log errors only";
     let made = with(
         made,
         number_option(alloc, "LOW_WATER", "low-water", "PERCENT", low),
@@ -96,12 +100,12 @@ pub(crate) fn run_command<'a>(alloc: Global) -> Result<Command<'a>, AllocError>
     ensures { IfOk result (IsMade run_app) }
 {
     let about =
-        "Serve NBD clients without end, 64 at a time, until told to stop, then close the pool";
-    let image = "The file that holds the pool";
-    let listen = "Where to listen for clients; up to four times";
-    let control = "Where to listen for control lines while clients are served";
-    let default = "The volume of a client who names none, 0 to 16777215";
-    let clones = "Clients may have clones; deletes volumes 8388608 to 8388671 first";
+        "Serve NBD clients, 64 at a time, until a control line stops the server, then close the pool";
+    let image = "Image of the pool";
+    let listen = "Address to listen on for clients; up to four times";
+    let control = "Address to listen on for control lines while clients are served";
+    let default = "Volume of a client that names none [0 to 16777215]";
+    let clones = "Offer clones; deletes volumes 8388608 to 8388671 first";
     let made = of_image(alloc, "run", about, image, RUN_HELP);
     let made = with(made, repeated(alloc, "LISTEN", "listen", "WHERE", listen));
     let made = with(made, option(alloc, "CONTROL", "control", "WHERE", control));
@@ -116,13 +120,13 @@ pub(crate) fn run_command<'a>(alloc: Global) -> Result<Command<'a>, AllocError>
 pub(crate) fn ask_command<'a>(alloc: Global) -> Result<Command<'a>, AllocError>
     ensures { IfOk result (IsMade ask_app) }
 {
-    let about = "Send lines to the control place of a server, and print the answers";
-    let place = "The place that 'run' or 'serve' was given behind --control";
-    let line = "A line, in quotes";
+    let about = "Send lines to the control address of a server, and print the replies";
+    let place = "Address that 'run' or 'serve' has after --control";
+    let line = "Control line, in quotes";
     let made = Ok(named(alloc, "ask", about, ASK_HELP));
     let made = with(made, text(alloc, "WHERE", place));
     let made = with(made, text(alloc, "LINE", line));
-    let made = with(made, optional(alloc, "LINE2", "The next one"));
-    let made = with(made, optional(alloc, "LINE3", "The next one"));
-    with(made, optional(alloc, "LINE4", "The next one"))
+    let made = with(made, optional(alloc, "LINE2", "Further control line"));
+    let made = with(made, optional(alloc, "LINE3", "Further control line"));
+    with(made, optional(alloc, "LINE4", "Further control line"))
 }

@@ -5,7 +5,7 @@ use Rattle.tp_disk.proofs.Unclaimed.{unclaimed_is_settled, zeros_well}
 use Rattle.tp_disk.proofs.file.FileDisk.over.Goals as goal
 
 pub invariant_of-result : goal.invariant_of-result
-invariant_of-result c = record {
+invariant_of-result g c = record {
   size_is = ap (λ (d : DiskState). d.size) c.note.ensures;
   unclaimed = ap (λ (d : DiskState). d.is_honest) c.note.ensures;
   well_formed = subst (λ (d : DiskState). IsWellFormed d.size d.cells) (sym c.note.ensures) (zeros_well c.args.size (omega arith));

@@ -4,7 +4,7 @@ use Rattle.tp_disk.proofs.Unclaimed.{flushed_is_settled, kept_flush, unflushed_i
 use Rattle.tp_disk.proofs.file.FileDiskDisk.flush.Goals as goal
 
 pub invariant_of-self : goal.invariant_of-self
-invariant_of-self c =
+invariant_of-self g c =
     let disk = c.args.self.now in
     let kept = kept_flush true disk.shadow.state c.note.new.self.state disk.well_formed c.note.ensures in
     record {
@@ -16,7 +16,7 @@ invariant_of-self c =
     }
 
 pub invariant_of-self-in-Err : goal.invariant_of-self-in-Err
-invariant_of-self-in-Err c =
+invariant_of-self-in-Err g c =
     let disk = c.args.self.now in
     let kept = kept_flush false disk.shadow.state c.note-in-Err.new.self.state disk.well_formed c.note-in-Err.ensures in
     record {

@@ -3,7 +3,7 @@ use Rattle.tp_images.proofs.Unclaimed.{answers_unclaimed, opened_unclaimed}
 use Rattle.tp_images.proofs.files.FileImagesImages.open.Goals as goal
 
 pub returns : goal.returns
-returns g c = answers_unclaimed ToWrite c.args.name.now c.args.self.now.log.deeds c.opened-self.result.deeds c.open-answer.result c.args.self.now.unclaimed c.opened-self.ensures c.open-answer.ensures
+returns g c = answers_unclaimed _ ToWrite c.args.name.now c.args.self.now.log.deeds c.opened-self.result.deeds c.open-answer.result c.args.self.now.unclaimed c.opened-self.ensures c.open-answer.ensures
 
 pub invariant_of-self : goal.invariant_of-self
-invariant_of-self g c = record { unclaimed = opened_unclaimed ToWrite c.args.name.now c.args.self.now.log.deeds c.opened-self.result.deeds c.open-answer.result c.args.self.now.unclaimed c.opened-self.ensures }
+invariant_of-self g c = record { unclaimed = opened_unclaimed _ ToWrite c.args.name.now c.args.self.now.log.deeds c.opened-self.result.deeds c.open-answer.result c.args.self.now.unclaimed c.opened-self.ensures }
