@@ -307,7 +307,7 @@ def refused_group(host):
 def bad_modes(host):
     for mode in ("9999", "0888", "1000", "rw", "0x1ff", "40000000000"):
         ran = host.ground.run("run", host.pool(), "--listen", "127.0.0.1:0", "--socket-mode", mode)
-        want((ran.status == 2 and b"MODE is not an octal number from 0 to 0777" in ran.err, f"{mode}: {ran.told()}"))
+        want((ran.status == 2 and b"invalid value for --socket-mode <MODE>: must be octal, in 0..=0777" in ran.err, f"{mode}: {ran.told()}"))
 
 
 def stale(host):
