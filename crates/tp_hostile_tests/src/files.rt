@@ -6,7 +6,7 @@ use std::fs::{File, OpenOptions, remove_file};
 use std::rt::Files;
 use std::test::Fail;
 use tp_check::check;
-use tp_disk::{Disk, Fault, FileDisk};
+use tp_disk::{Disk, Fault, FileDisk, LockedFile};
 use tp_meta::Meta;
 use tp_model::Refusal;
 use tp_pool::Pool;
@@ -15,7 +15,7 @@ use tp_pool::Pool;
 type Told = [u8; 2];
 
 /// Makes a file of these sectors.
-fn put_file(disk: &mut FileDisk, bytes: &[u8]) -> Result<(), Fault> {
+fn put_file(disk: &mut FileDisk<LockedFile>, bytes: &[u8]) -> Result<(), Fault> {
     if bytes.len() % 512 != 0 || bytes.len() as u64 / 512 > disk.sectors() {
         return Err(Fault);
     }
@@ -23,7 +23,11 @@ fn put_file(disk: &mut FileDisk, bytes: &[u8]) -> Result<(), Fault> {
     disk.flush()
 }
 
-fn make_file<R: Files<File = File>>(rt: &R, name: &str, bytes: &[u8]) -> Result<(), Fault> {
+fn make_file<R: Files<File = File> + Alloc<A = Global>>(
+    rt: &R,
+    name: &str,
+    bytes: &[u8],
+) -> Result<(), Fault> {
     match FileDisk::create(rt, name, SECTORS) {
         Ok(mut disk) => put_file(&mut disk, bytes),
         Err(_) => Err(Fault),
@@ -37,20 +41,20 @@ fn cut<R: Files<File = File>>(rt: &R, name: &str, bytes: u64) -> Result<(), Fail
     Ok(())
 }
 
-fn told_of_disk(alloc: Global, disk: FileDisk) -> Told {
+fn told_of_disk(alloc: Global, disk: FileDisk<LockedFile>) -> Told {
     let mut disk = disk;
     let checked = match check(alloc, &mut disk) {
         Ok(()) => 0,
         Err(error) => error.refusal().number(),
     };
-    match Pool::<FileDisk, Meta>::open(alloc, disk) {
+    match Pool::<FileDisk<LockedFile>, Meta>::open(alloc, disk) {
         Ok(_) => [0, checked],
         Err((refusal, _)) => [refusal.number(), checked],
     }
 }
 
 /// The same of a file that is given this length.
-fn told_of_length<R: Files<File = File>>(
+fn told_of_length<R: Files<File = File> + Alloc<A = Global>>(
     rt: &R,
     alloc: Global,
     name: &str,
@@ -64,7 +68,7 @@ fn told_of_length<R: Files<File = File>>(
 }
 
 /// The same of a file that has a byte more than the image, is whole, has a byte less; then has one byte, and none.
-fn told_of_each<R: Files<File = File>>(
+fn told_of_each<R: Files<File = File> + Alloc<A = Global>>(
     rt: &R,
     alloc: Global,
     name: &str,
@@ -79,13 +83,20 @@ fn told_of_each<R: Files<File = File>>(
 }
 
 /// Makes the image a file.
-fn make_image<R: Files<File = File>>(rt: &R, alloc: Global, name: &str) -> Result<(), Fail> {
+fn make_image<R: Files<File = File> + Alloc<A = Global>>(
+    rt: &R,
+    alloc: Global,
+    name: &str,
+) -> Result<(), Fail> {
     let bytes = bytes_of_image(alloc)?;
     Ok(make_file(rt, name, &bytes)?)
 }
 
 /// What is told of the image as a file of these lengths.
-fn told_of_lengths<R: Files<File = File>>(rt: &R, alloc: Global) -> Result<[Told; 5], Fail> {
+fn told_of_lengths<R: Files<File = File> + Alloc<A = Global>>(
+    rt: &R,
+    alloc: Global,
+) -> Result<[Told; 5], Fail> {
     make_image(rt, alloc, "odd.img")?;
     let told = told_of_each(rt, alloc, "odd.img")?;
     remove_file(rt, "odd.img")?;
