@@ -1,5 +1,6 @@
 //! Two clients at once, and none.
 
+use crate::pools::served_over_pool;
 use crate::served::{Kept, Left, served_all};
 use crate::talk::{
     ANSWERED_FLUSH, ANSWERED_GO, ANSWERED_READ, ANSWERED_WRITE, FLUSH, GO, READ, write,
@@ -70,8 +71,11 @@ where
     Ok((told, written_to(&first, &second)))
 }
 
+/// A pool's status line with four data blocks, one of which is in use.
+const LINE_WRITTEN: &[u8] = b"0 10/2048 1/4 - rw no_discard_passdown error_if_no_space - 512";
+
 /// A client that writes, and ends when another one was read to, which reads when the first one was answered.
-fn told_of_both<H>(rt: &H) -> Result<((Left, Kept), Written), Fail>
+fn told_of_both<H>(rt: &H) -> Result<((u8, u64, bool), Written), Fail>
 where
     H: Threads + Wait + Sync + Alloc<A = Global>,
 {
@@ -82,7 +86,11 @@ where
         is_slow: false,
         wanted: ANSWERED_READ,
     };
-    told_of_two(rt, 0, &one, &reads_behind(1, ANSWERED_WRITE))
+    let (first, second) = (Seen::nothing(), Seen::nothing());
+    let other = client(&reads_behind(1, ANSWERED_WRITE), &second, &first);
+    let clients = vec![in rt.alloc(); client(&one, &first, &second), other]?;
+    let told = served_over_pool(rt, clients, LINE_WRITTEN)?;
+    Ok((told, written_to(&first, &second)))
 }
 
 /// A client that reads, and waits before that read until the other one was written so much.
@@ -99,16 +107,9 @@ fn reads_behind(waits_before: usize, wanted: u64) -> Plan<'static> {
 /// the other.
 #[test]
 fn two_clients_at_once(rt: HostRuntime) -> Result<(), Fail> {
-    let ((left, (first_bytes, _)), written) = told_of_both(&rt)?;
+    let told = told_of_both(&rt)?;
     let bytes = (ANSWERED_WRITE, ANSWERED_READ);
-    assert_eq!(rt;
-        (left, first_bytes, written),
-        (
-            (2, 0, 0),
-            (Some(0x61), Some(0)),
-            (bytes, (0, 512), (false, false))
-        )
-    );
+    assert_eq!(rt; told, ((2, 0, true), (bytes, (0, 512), (false, false))));
     Ok(())
 }
 

@@ -22,6 +22,8 @@ mod parts;
 #[cfg(test)]
 mod pauses;
 #[cfg(test)]
+mod pools;
+#[cfg(test)]
 mod served;
 #[cfg(test)]
 mod statuses;

@@ -34,6 +34,9 @@ lent P m u z n own alike named p =
     subst (λ (t : Tm). P t z n) (sym own)
     (subst (λ (y : StaleBlocks). P m.mapping.tm y n) (sym alike) (subst (λ (x : Superblock). P m.mapping.tm m.stale.value x) (sym named) p))
 
+at_most_two : {b : Bool} → b ≡ true → (before after : ℕ) → after ≤ before + 2 → after ≤ before + (if b then 2 else 1)
+at_most_two changed before after few = subst (λ (b : Bool). after ≤ before + (if b then 2 else 1)) (sym changed) few
+
 module _ (m : Meta) (before after : DiskState) (changed : m.is_changed ≡ true) (sized : IsSized m.mapping.tm) where
   abbrev t : Tm
   t = m.mapping.tm
@@ -50,7 +53,7 @@ module _ (m : Meta) (before after : DiskState) (changed : m.is_changed ≡ true)
     geometry = sizes;
     room = tt;
     unchanged = tt;
-    ran = record { time = c.ran.time; same_disk = c.ran.same_disk; cause = c.ran.cause; flushes = c.ran.flushes; flushed = tt; settled = tt };
+    ran = record { time = c.ran.time; same_disk = c.ran.same_disk; cause = c.ran.cause; flushes = (c.ran.flushes.0, at_most_two changed before.flushes after.flushes c.ran.flushes.1); flushed = tt; settled = tt };
   }
 
   -- all parts were made
@@ -75,7 +78,7 @@ module _ (m : Meta) (before after : DiskState) (changed : m.is_changed ≡ true)
           time = c.ran.time;
           same_disk = c.ran.same_disk;
           cause = c.ran.cause;
-          flushes = c.ran.flushes;
+          flushes = (c.ran.flushes.0, at_most_two changed before.flushes after.flushes c.ran.flushes.1);
           flushed = subst (λ (b : Bool). after.flushes ≡ before.flushes + (if b then 2 else 1)) (sym changed) c.ran.flushed;
           settled = c.ran.settled;
         };

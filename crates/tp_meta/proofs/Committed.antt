@@ -261,7 +261,7 @@ module _ (m : Meta) (disk : DiskState) (now kept : Contents) (st : StandsFor m d
 
 -- where nothing has changed, a commit is a flush alone
 pub flush_alone : {A E : Type 0} (changed : Bool) → changed ≡ false → (result : Result A E) (before after : DiskState) → after ≡ after_flush (is_ok result) before
-    → RanWithFlushes (if changed then 2 else 1) 2 (is_err result) result before after
+    → RanWithFlushes (if changed then 2 else 1) (if changed then 2 else 1) (is_err result) result before after
 flush_alone changed unchanged (Ok value) before after is =
     let failures : after.failures ≡ before.failures = ap (λ (x : DiskState). x.failures) is in
     let flushes : after.flushes ≡ before.flushes + 1 = ap (λ (x : DiskState). x.flushes) is in
@@ -269,7 +269,7 @@ flush_alone changed unchanged (Ok value) before after is =
       time = later_flush true before after is;
       same_disk = record { size = ap (λ (x : DiskState). x.size) is; is_honest = ap (λ (x : DiskState). x.is_honest) is };
       cause = record { no_fewer = omega (arith, failures); more = λ yes. absurd (false≢true yes); none = λ _. failures };
-      flushes = (omega (arith, flushes), omega (arith, flushes));
+      flushes = (omega (arith, flushes), subst (λ (b : Bool). after.flushes ≤ before.flushes + (if b then 2 else 1)) (sym unchanged) (omega (arith, flushes)));
       flushed = subst (λ (b : Bool). after.flushes ≡ before.flushes + (if b then 2 else 1)) (sym unchanged) flushes;
       settled = is_settled before after is;
     }
@@ -280,7 +280,7 @@ flush_alone changed unchanged (Err error) before after is =
       time = later_flush false before after is;
       same_disk = record { size = ap (λ (x : DiskState). x.size) is; is_honest = ap (λ (x : DiskState). x.is_honest) is };
       cause = record { no_fewer = omega (arith, failures); more = λ _. omega (arith, failures); none = λ none. absurd (false≢true none) };
-      flushes = (omega (arith, flushes), omega (arith, flushes));
+      flushes = (omega (arith, flushes), subst (λ (b : Bool). after.flushes ≤ before.flushes + (if b then 2 else 1)) (sym unchanged) (omega (arith, flushes)));
       flushed = tt;
       settled = tt;
     }

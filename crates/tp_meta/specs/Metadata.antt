@@ -144,7 +144,7 @@ module _ {M : Type 0} (sizes : M → Geometry) (stands : M → DiskState → Con
     pub geometry : sizes new ≡ sizes old
     pub room : OnOk result (room_of old ≤ room_of new)
     pub unchanged : OnOk result (changed_of new ≡ false)
-    pub ran : RanWithFlushes (if changed_of old then 2 else 1) 2 (is_err result) result before after
+    pub ran : RanWithFlushes (if changed_of old then 2 else 1) (if changed_of old then 2 else 1) (is_err result) result before after
 
 module _ {M : Type 0} (sizes : M → Geometry) (stands tells : M → DiskState → Contents → Contents → Type 0) where
   -- Between two parts of a commit, which was begun on the disk `before`: look-ups tell what stood there, and no data block has changed.

@@ -25,7 +25,7 @@ returns-in_err-flush g c =
       geometry = search rules;
       room = search rules;
       unchanged = search rules;
-      ran = subst (λ (r : Result (Unit {0}) Fault). RanWithFlushes (if m.is_changed then 2 else 1) 2 (is_err r) r old new) (sym p.1)
+      ran = subst (λ (r : Result (Unit {0}) Fault). RanWithFlushes (if m.is_changed then 2 else 1) (if m.is_changed then 2 else 1) (is_err r) r old new) (sym p.1)
           (flush_alone {A = Unit {0}} {E = Fault} m.is_changed c.if-not-self.true (Err p.0) old new c.in_err-flush.ensures);
     }
 

@@ -1,0 +1,77 @@
+//! A crowd over a pool, in place of a shelf.
+
+ghost use Rattle.std.specs.Prelude.{◌≡◌};
+ghost use Rattle.std.specs.FinMap.{empty};
+ghost use Rattle.tp_holders.specs.Holders.{holds_of};
+
+use crate::waiting::{Seen, Waiting};
+use std::alloc::Global;
+use std::sync::Wait;
+use std::thread::Threads;
+use tp_cache::ReadCache;
+use tp_crowd::{Served as Crowd, serve_all};
+use tp_disk::MemDisk;
+use tp_hub::{Answers, Event, Hub};
+use tp_meta::Meta;
+use tp_model::{DevId, Geometry, Refusal};
+use tp_samples::{closed, create_thin, empty};
+use tp_served::{Room, Served};
+
+type MemServed = Served<ReadCache<MemDisk>, Meta>;
+
+/// Room for few blocks.
+const ROOM: Room = Room {
+    changed: 32,
+    read: 4,
+};
+
+/// The disk of a pool of four data blocks with volume 0, closed.
+fn disk_of_volume(alloc: Global) -> Result<MemDisk, Refusal> {
+    let mut pool = empty(alloc, Geometry::new(128, 16, 2048, 4)?)?;
+    create_thin(&mut pool, DevId::new(0))?;
+    closed(pool)
+}
+
+/// The hub over a pool of which nobody holds a volume.
+fn hub_of(pool: MemServed) -> Hub<MemServed>
+    requires { holds_of pool.besides.holders ≡ empty }
+{
+    Hub::new(pool)
+}
+
+/// The hub over that pool.
+fn hub_of_volume(alloc: Global) -> Result<Hub<MemServed>, Refusal> {
+    match MemServed::open(alloc, disk_of_volume(alloc)?, ROOM) {
+        Ok(pool) => Ok(hub_of(pool)),
+        Err((refusal, _)) => Err(refusal),
+    }
+}
+
+/// Whether this is the status line of a hub, which ends.
+fn has_line(mut hub: Hub<MemServed>, alloc: Global, line: &[u8]) -> bool {
+    let mut out = Answers::new(alloc);
+    let _ = hub.take(alloc, Event::Status, &mut out);
+    let _ = hub.into_pool().into_disk();
+    out.bytes() == line
+}
+
+/// Serves these clients over a pool of four data blocks with volume 0: how many came, how many
+/// were refused, and whether the pool's status line is this one then.
+pub(crate) fn served_over_pool<H>(
+    rt: &H,
+    clients: Vec<Waiting<'_>>,
+    line: &[u8],
+) -> Result<(u8, u64, bool), Refusal>
+where
+    H: Threads + Wait + Sync + Alloc<A = Global>,
+{
+    let hub = hub_of_volume(rt.alloc())?;
+    let Crowd { hub, came, refused } = serve_all(
+        rt,
+        rt.alloc(),
+        hub,
+        clients.into_iter(),
+        &Seen::nothing(),
+    );
+    Ok((came, refused, has_line(hub, rt.alloc(), line)))
+}
