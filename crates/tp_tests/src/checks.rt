@@ -1,6 +1,6 @@
 //! Pools that ran out of metadata room, and what clears the flag by which they want a check.
 
-use std::alloc::Global;
+use std::alloc::{AllocError, Global};
 use std::test::Fail;
 use tp_check::check;
 use tp_disk::MemDisk;
@@ -8,17 +8,20 @@ use tp_meta::Meta;
 use tp_model::{DevId, Geometry, Mode, Refusal};
 use tp_pool::Pool;
 use tp_samples::{
-    MemPool, Stop, close, closed, formatted, grow, opened, restarted, trim, write_zeroes,
+    MemPool, Stop, close, closed, formatted, grow, has_line, opened, restarted, trim, write_zeroes,
 };
 use tp_users::{short_pool_is_used_again, stop_short_pool};
 
-const WANTS_CHECK: &[u8] = b"- ro no_discard_passdown error_if_no_space needs_check 512";
+const WANTS_CHECK: &str = "- ro no_discard_passdown error_if_no_space needs_check 512";
 
-const READ_ONLY: &[u8] = b"- ro no_discard_passdown error_if_no_space - 512";
+const READ_ONLY: &str = "- ro no_discard_passdown error_if_no_space - 512";
 
-const CLEARED: &[u8] = b"- rw no_discard_passdown error_if_no_space - 512";
+const CLEARED: &str = "- rw no_discard_passdown error_if_no_space - 512";
 
-const EMPTY: &[u8] = b"0 9/1032 0/4 - rw no_discard_passdown error_if_no_space - 512";
+/// The status line of a pool of 1,032 metadata blocks, so many of which are in use.
+fn line_of(alloc: Global, used: u64, end: &str) -> Result<String, AllocError> {
+    format!(in alloc; "0 {used}/1032 0/4 {end}")
+}
 
 /// How many metadata blocks are in use, by the status line of a pool whose transaction id is 0.
 fn used_by(pool: &MemPool) -> u64 {
@@ -37,10 +40,10 @@ fn used_by(pool: &MemPool) -> u64 {
 }
 
 /// Whether the pool's status line ends so.
-fn ends_with(pool: &MemPool, end: &[u8]) -> bool {
+fn ends_with(pool: &MemPool, end: &str) -> bool {
     let mut out = [0; 192];
     let length = pool.status(&mut out);
-    out[..length].ends_with(end)
+    out[..length].ends_with(end.as_bytes())
 }
 
 /// How many volumes were made before one was refused, why it was, and how many metadata blocks were in use before it and before the last that
@@ -172,28 +175,29 @@ fn growing_wants_room(rt: HostRuntime) -> Result<(), Fail> {
     Ok(())
 }
 
-/// What a pool lets its users do, whether its line ends as it should, and what it answers to a removal.
+/// What a pool lets its users do, whether this is its line, and what it answers to a removal.
 type Told = (Mode, bool, Result<(), Refusal>);
 
-fn told(pool: &mut MemPool, end: &[u8]) -> Told {
+fn told(pool: &mut MemPool, line: &str) -> Told {
     (
         pool.mode(),
-        ends_with(pool, end),
+        has_line(pool, line.as_bytes()),
         pool.delete(DevId::new(0)),
     )
 }
 
 /// What is told of a pool that wants a check, and of what a stop leaves of it.
-fn told_of_both(alloc: Global, pool: &mut MemPool) -> Result<(Told, Told), Fail> {
-    let before = told(pool, WANTS_CHECK);
+fn told_of_both(alloc: Global, pool: &mut MemPool, line: &str) -> Result<(Told, Told), Fail> {
+    let before = told(pool, line);
     let mut left = restarted(alloc, pool.disk(), &Stop::Oldest)?;
-    Ok((before, told(&mut left, WANTS_CHECK)))
+    Ok((before, told(&mut left, line)))
 }
 
 /// The same of a pool that ran out of metadata room.
 fn told_of_short(alloc: Global) -> Result<(Told, Told), Fail> {
-    let (mut pool, _) = out_of_room(alloc)?;
-    told_of_both(alloc, &mut pool)
+    let (mut pool, out) = out_of_room(alloc)?;
+    let line = line_of(alloc, out.used, WANTS_CHECK)?;
+    told_of_both(alloc, &mut pool, &line)
 }
 
 #[test]
@@ -203,12 +207,12 @@ fn short_pool_wants_a_check(rt: HostRuntime) -> Result<(), Fail> {
     Ok(())
 }
 
-/// The disk of a pool that ran out of metadata room, closed and cleared, with how many volumes it has.
-fn cleared(alloc: Global) -> Result<(MemDisk, u32), Fail> {
+/// The disk of a pool that ran out of metadata room, closed and cleared.
+fn cleared(alloc: Global) -> Result<(MemDisk, RunOut), Fail> {
     let (pool, out) = out_of_room(alloc)?;
     let mut disk = closed(pool)?;
     Pool::<MemDisk, Meta>::clear_needs_check(alloc, &mut disk)?;
-    Ok((disk, out.volumes))
+    Ok((disk, out))
 }
 
 /// The pool of a disk, opened to read only.
@@ -220,8 +224,8 @@ fn opened_to_read(alloc: Global, disk: MemDisk) -> Result<MemPool, Refusal> {
 }
 
 /// What is told of such a pool and of closing it, and how many calls its disk had before that and behind it.
-fn told_of_only_read(mut pool: MemPool) -> (Told, Result<(), Refusal>, (u64, u64)) {
-    let told = told(&mut pool, READ_ONLY);
+fn told_of_only_read(mut pool: MemPool, line: &str) -> (Told, Result<(), Refusal>, (u64, u64)) {
+    let told = told(&mut pool, line);
     let calls = pool.disk().calls();
     let (answer, disk) = close(pool);
     (told, answer, (calls, disk.calls()))
@@ -229,8 +233,10 @@ fn told_of_only_read(mut pool: MemPool) -> (Told, Result<(), Refusal>, (u64, u64
 
 #[test]
 fn cleared_pool_is_only_read(rt: HostRuntime) -> Result<(), Fail> {
-    let (disk, _) = cleared(rt.alloc())?;
-    let (told, answer, (calls, behind)) = told_of_only_read(opened_to_read(rt.alloc(), disk)?);
+    let (disk, out) = cleared(rt.alloc())?;
+    let line = line_of(rt.alloc(), out.used, READ_ONLY)?;
+    let pool = opened_to_read(rt.alloc(), disk)?;
+    let (told, answer, (calls, behind)) = told_of_only_read(pool, &line);
     let refused = (Mode::ReadOnly, true, Err(Refusal::ReadOnly));
     assert_eq!(rt; (told, answer, behind), (refused, Ok(()), calls));
     Ok(())
@@ -244,22 +250,22 @@ fn remove_each(pool: &mut MemPool, volumes: u32) -> Result<(), Refusal> {
     Ok(())
 }
 
-/// Whether a pool is cleared, what the removals of so many volumes are answered, whether it is empty then, what closing it is answered, and whether its image is clean.
+/// Whether a pool is cleared, what the removals of its volumes are answered, whether it is empty then, what closing it is answered, and whether its image is clean.
 type Emptied = (bool, Result<(), Refusal>, bool, Result<(), Refusal>, bool);
 
-fn told_of_removals(alloc: Global, mut pool: MemPool, volumes: u32) -> Emptied {
-    let before = ends_with(&pool, CLEARED);
-    let removed = remove_each(&mut pool, volumes);
-    let is_empty = ends_with(&pool, EMPTY);
+fn told_of_removals(alloc: Global, mut pool: MemPool, out: &RunOut) -> Result<Emptied, Fail> {
+    let before = has_line(&pool, line_of(alloc, out.used, CLEARED)?.as_bytes());
+    let removed = remove_each(&mut pool, out.volumes);
+    let is_empty = has_line(&pool, line_of(alloc, 9, CLEARED)?.as_bytes());
     let (answer, mut disk) = close(pool);
     let is_clean = check(alloc, &mut disk).is_ok();
-    (before, removed, is_empty, answer, is_clean)
+    Ok((before, removed, is_empty, answer, is_clean))
 }
 
 #[test]
 fn metadata_runs_out(rt: HostRuntime) -> Result<(), Fail> {
-    let (disk, volumes) = cleared(rt.alloc())?;
-    let told = told_of_removals(rt.alloc(), opened(rt.alloc(), disk)?, volumes);
+    let (disk, out) = cleared(rt.alloc())?;
+    let told = told_of_removals(rt.alloc(), opened(rt.alloc(), disk)?, &out)?;
     assert_eq!(rt; told, (true, Ok(()), true, Ok(()), true));
     Ok(())
 }
