@@ -6,7 +6,7 @@ use Rattle.tp_model.specs.Geometry.{Geometry, IsWithinLimits, sectors_of_image}
 use Rattle.tp_model.specs.Pool.{PlainPool}
 use Rattle.tp_model.specs.Calls.{Status, is_failed}
 use Rattle.tp_model.specs.Clauses.{IsOpened}
-use Rattle.tp_model.specs.Refusals.{is_fault as has_failed}
+use Rattle.tp_model.specs.Refusals.{is_fault as has_failed, is_fault_refusal}
 use Rattle.tp_model.specs.Disk.{DiskState, FaultHasCause, IsSameDisk, IsSettled, after_read, seen}
 use Rattle.tp_model.specs.DiskStops.{LeavesOnly}
 use Rattle.tp_hub.specs.Streams.{StreamCall}
@@ -24,6 +24,7 @@ use Rattle.tp_check.specs.Found.{HasFault}
 use Rattle.tp_meta.specs.declared.whole.Meta.{Meta}
 use Rattle.tp_meta.specs.Standing.{StandsFor, changed_of, geometry_of, marks_of, room_of}
 use Rattle.tp_pool.specs.Checked.{IsClearing, cleared}
+use Rattle.tp_pool.specs.Formatting.{IsBetween}
 use Rattle.tp_pool.specs.Held.{IsPool, shows}
 use Rattle.tp_served.specs.Served.{Cached, cached, disk_of, on_cache}
 use Rattle.tp_tasks.specs.declared.task.Sizes.{Sizes}
@@ -69,8 +70,16 @@ IsMessageGiven name line old new calls calls' result = OnName ToWrite name old n
 abbrev pub sizes_asked : Sizes → Geometry
 sizes_asked sizes = record { block_sectors = sizes.block_sectors; virtual_blocks = sizes.virtual_blocks; metadata_blocks = sizes.metadata_blocks; data_blocks = sizes.data_blocks }
 
+-- A pool of these sizes was being made on a disk. A fault is answered exactly where the disk failed; and where a pool stood on the settled disk, a stop at any moment leaves that pool,
+-- none, or the empty one.
+pub record Formats (g : Geometry) (faulted : Bool) (before after : DiskState) : Type 0 where
+  pub cause : FaultHasCause faulted before after
+  pub any_moment : IsTrue before.is_honest → IsSettled before.cells → (old : Geometry) (s : PlainPool) → IsPool old (seen before.cells) → images.StandsFor (seen before.cells) s
+      → LeavesOnly before after (IsBetween old s g)
+
 -- An empty pool was made on this disk, which is settled with its image. Where the disk is honest, the pool is as one that was opened on it.
 pub record IsMadeOn (g : Geometry) (before : DiskState) (c : Cached Meta) : Type 0 where
+  pub formats : Formats g false before (disk_of c)
   pub same_disk : IsSameDisk before (disk_of c)
   pub fresh : IsFreshOf g (seen (disk_of c).cells)
   pub settled : IsSettled (disk_of c).cells
@@ -80,7 +89,8 @@ pub record IsMadeOn (g : Geometry) (before : DiskState) (c : Cached Meta) : Type
 -- An empty pool was made on a disk, and its line is printed. Or the disk failed or memory was refused, and nothing was printed.
 abbrev pub FormatsOn : Geometry → List StreamCall → List StreamCall → Result (Unit {0}) Refusal → DiskState → DiskState → Type 0
 FormatsOn g calls calls' result before after =
-    ((reason : Refusal) × (result ≡ Err reason) × ((reason ≡ Fault) ⊎ (reason ≡ Memory)) × (reason ≢ Fault → after ≡ before) × IsSameDisk before after × (calls' ≡ calls))
+    ((reason : Refusal) × (result ≡ Err reason) × ((reason ≡ Fault) ⊎ (reason ≡ Memory)) × (reason ≢ Fault → after ≡ before) × Formats g (is_fault_refusal reason) before after
+    × IsSameDisk before after × (calls' ≡ calls))
     ⊎ ((made : Cached Meta) × (last : Cached Meta) × IsMadeOn g before made × PrintsCall (cached geometry_of StandsFor marks_of room_of changed_of) made last Status calls calls' result
     × IsLetGo last after)
 

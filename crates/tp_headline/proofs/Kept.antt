@@ -353,7 +353,7 @@ left_fresh fresh g before c limits made honest S found =
 
 made_on : FreshLaw → (name : List ℕ) (new : List Deed) (g : Geometry) (calls calls' : List StreamCall) (before after : DiskState) → IsWithinLimits g → IsTrue before.is_honest → left_at name new ≡ Some after
     → FormatsOn g calls calls' (Ok (tt {0})) before after → IsAccepted name new (empty_pool g) Status calls calls'
-made_on fresh name new g calls calls' before after limits honest last (inl (reason, e, refused, untouched, same, unprinted)) = refused_ok tt reason e
+made_on fresh name new g calls calls' before after limits honest last (inl (reason, e, refused, untouched, made, same, unprinted)) = refused_ok tt reason e
 made_on fresh name new g calls calls' before after limits honest last (inr (made, gone, is, prints, let_go)) =
     printed_behind name new made gone (empty_pool g) Status calls calls' after refl (is.shows_it honest) (left_fresh fresh g before made limits is honest) (status_stays (empty_pool g) None) prints let_go last
 
