@@ -14,20 +14,27 @@ use std::thread::{Threads, join};
 use std::time::Clock;
 use tp_images::MemImages;
 
-/// Answers whoever comes first, when all that he sends has come.
-fn answer(begun: &AtomicBool, listener: &TcpListener) {
-    begun.store(true, Ordering::SeqCst);
-    let Ok((mut stream, _)) = listener.accept() else {
-        return;
-    };
+/// Whether a client sends these bytes, and then no more.
+fn hears(client: &mut TcpStream, bytes: &[u8]) -> bool {
     let mut byte = [0];
-    for _ in 0..4096 {
-        match stream.read(&mut byte) {
-            Ok(1) => {}
-            _ => break,
+    for wanted in bytes {
+        match client.read(&mut byte) {
+            Ok(1) if byte == [*wanted] => {}
+            _ => return false,
         }
     }
-    let _ = stream.write_all(b"ok\n");
+    matches!(client.read(&mut byte), Ok(0))
+}
+
+/// Answers whoever comes first, if he sends the line.
+fn answer(begun: &AtomicBool, listener: &TcpListener) {
+    begun.store(true, Ordering::SeqCst);
+    let Ok((mut client, _)) = listener.accept() else {
+        return;
+    };
+    if hears(&mut client, b"create_thin 7\n") {
+        let _ = client.write_all(b"ok of this test\n");
+    }
 }
 
 /// Runs the program where somebody is there to answer, and then comes himself, for the program may not have.
@@ -85,7 +92,7 @@ where
     let ask = Ask {
         words: &["thinpool", "ask", &place, "create_thin 7"],
         input: b"",
-        output: b"ok\n",
+        output: b"ok of this test\n",
     };
     let ran = asked(rt, listener, &ask, address)?;
     Some(told(&ran, &ask))

@@ -1,7 +1,8 @@
 //! Who may connect to socket files: their mode, and their group.
 
-ghost use Rattle.std.specs.Prelude.{◌≡◌, IfErr, IfOk, is_some};
+ghost use Rattle.std.specs.Prelude.{◌≡◌, ℕ, IfErr, IfOk, IfSome, Ok, Some, is_some};
 ghost use Rattle.std.specs.Option.{unwrap_or};
+ghost use Rattle.tp_places.specs.Groups.{IsGroupNumber};
 
 use crate::groups::{number_in, number_of_group};
 use std::alloc::Global;
@@ -37,6 +38,7 @@ pub fn rights_of<R: Files<File = File>>(
 ) -> Result<Rights, Failure>
     ensures mode { IfOk result (λ rights. rights.mode ≡ unwrap_or wanted.now.mode 384) }
     ensures group { IfOk result (λ rights. is_some rights.group ≡ is_some wanted.now.group) }
+    ensures number { IfSome wanted.now.group (λ name. (n : ℕ) → IsGroupNumber name.now n → result ≡ Ok (record { mode = unwrap_or wanted.now.mode 384; group = Some n })) }
     ensures fault { IfErr result (λ why. why.refusal ≡ Refusal.Fault) }
 {
     let mode = wanted.mode.unwrap_or(OWNER_ONLY);
@@ -52,7 +54,8 @@ pub fn rights_of<R: Files<File = File>>(
 
 /// The number of a group.
 fn group_of<R: Files<File = File>>(rt: &R, alloc: Global, name: &str) -> Result<u32, Failure>
-    ensures { IfErr result (λ why. why.refusal ≡ Refusal.Fault) }
+    ensures number { (n : ℕ) → IsGroupNumber name.now n → result ≡ Ok n }
+    ensures fault { IfErr result (λ why. why.refusal ≡ Refusal.Fault) }
 {
     if let Some(number) = number_in(name.as_bytes()) {
         return Ok(number);
