@@ -29,6 +29,10 @@ use Rattle.tp_pool.proofs.Serving.{is_some_from}
 
 -- ---- numbers
 
+pub two_at_most : (b : Bool) (x y : ℕ) → y ≤ x + (if b then 2 else 1) → y ≤ x + 2
+two_at_most true x y le = le
+two_at_most false x y le = omega (arith, le)
+
 as_before : (n a k : ℕ) → n ≡ a → n ≤ a + k
 as_before n a k e = omega (arith, e)
 

@@ -85,7 +85,7 @@ module _ {M : Type 0} {geometry : M → Geometry} {stands : M → DiskState → 
         let k = c.kept now kept st spare in
         (record { standing = k.0; unmarked = c.marks; same_data = (c.committing now kept st spare).same_data; left = k.2; settled = c.ran.settled }, k.1))
         (λ now kept st spare. (c.committing now kept st spare).any_moment)
-        (record { time = c.ran.time; same_disk = c.ran.same_disk; cause = c.ran.cause; flushes = c.ran.flushes; flushed = c.ran.flushed; settled = c.ran.settled })
+        (record { time = c.ran.time; same_disk = c.ran.same_disk; cause = c.ran.cause; flushes = (c.ran.flushes.0, two_at_most (changed old.metadata) old.disk.flushes disk.flushes c.ran.flushes.1); flushed = c.ran.flushed; settled = c.ran.settled })
         c.unchanged new same tt
 
     pub keeps_failed : {A E : Type 0} (call : Call) → IsFlush call → (error : E) → IsCommitted geometry stands marks room changed {A = A} {E = E} old.metadata metadata (Err error) old.disk disk → (new : Held M)
@@ -93,7 +93,7 @@ module _ {M : Type 0} {geometry : M → Geometry} {stands : M → DiskState → 
     keeps_failed call is error c new same =
         keeps_by call is (Err Fault) refl tt
         (λ now kept st spare. (c.committing now kept st spare).any_moment)
-        (record { time = c.ran.time; same_disk = c.ran.same_disk; cause = c.ran.cause; flushes = c.ran.flushes; flushed = tt; settled = tt })
+        (record { time = c.ran.time; same_disk = c.ran.same_disk; cause = c.ran.cause; flushes = (c.ran.flushes.0, two_at_most (changed old.metadata) old.disk.flushes disk.flushes c.ran.flushes.1); flushed = tt; settled = tt })
         tt new tt same
 
     flushed_so : (result : Result (Unit {0}) Refusal) (new : Held M) → OnOk result (new ≡ mid) → IfErr result (λ reason. new ≡ failed_by reason mid) → IsMade geometry stands marks room changed old new Flush result
