@@ -23,7 +23,7 @@ use Rattle.tp_pool.specs.Unkept.{IsMade}
 use Rattle.tp_pool.specs.Writing.{IsKept, IsReclaiming}
 use Rattle.tp_pool.proofs.Answering.{flush_tried, flush_writes, settled_answers}
 use Rattle.tp_pool.proofs.Calling.{Laws, settled}
-use Rattle.tp_pool.proofs.Flushing.{flush_flushes}
+use Rattle.tp_pool.proofs.Flushing.{flush_flushes, two_at_most}
 use Rattle.tp_pool.proofs.Keeping.{flushes_are, keep_tried}
 use Rattle.tp_pool.proofs.Looking.{shared_read}
 use Rattle.tp_pool.proofs.Meeting.{met_same}
