@@ -12,6 +12,8 @@ mod frames;
 #[cfg(test)]
 mod images;
 #[cfg(test)]
+mod others;
+#[cfg(test)]
 mod places;
 #[cfg(test)]
 mod plain;
