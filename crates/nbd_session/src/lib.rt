@@ -25,7 +25,7 @@ mod shared;
 mod spans;
 mod status;
 
-pub use answer::MAX_ANSWER;
+pub use answer::{MAX_ANSWER, SHORT_ANSWER};
 pub use feeding::feed;
 pub use laws::{
     changes_are_exact, holes_are_exact, lives_are_runs, older_volumes_stay, one_place, pieces_join,
