@@ -4,6 +4,7 @@ ghost use Rattle.std.specs.Prelude.{◌≡◌, ◌<◌, ◌≤◌, [], false, le
 
 use crate::advance::{advance, has_ended_in};
 use crate::answer::{MAX_ANSWER, SHORT_ANSWER, end};
+use crate::buffers::give_back;
 use crate::flushes::{flushed, is_at_flush};
 use crate::phase::{Phase, Profile, has_older, is_at_work, is_to_flush};
 use crate::shared::take_read;
@@ -17,7 +18,6 @@ const GREETING: usize = 18;
 
 /// One client. It reserves its buffers when it is opened, and asks for no memory after that. What
 /// it does not use of them is never touched.
-#[derive(Drop)]
 pub struct Session {
     phase: Phase,
     filled: usize,
@@ -35,6 +35,19 @@ impl Model for Session {
     ghost view = { λ s. state s.phase (take s.filled s.input.items) };
 
     ghost invariant = { λ s. AreBuffers s.phase s.filled s.input.items s.output.items (vec_capacity s.input) (vec_capacity s.output) };
+}
+
+impl Drop for Session {
+    fn drop(self) {
+        let Session {
+            phase: _,
+            filled: _,
+            input,
+            output,
+        } = self;
+        give_back(input);
+        give_back(output);
+    }
 }
 
 /// What a step took of the piece, what it sends, and whether the session has ended.
