@@ -1,9 +1,9 @@
 -- What is sent for a request that the pool answered.
-use Rattle.std.proofs.Common.{◌≡◌, ℕ, ◌+◌, ◌-◌, ◌/◌, ◌%◌, ◌<◌, ◌≤◌, Bool, true, false, true≢false, List, ◌++◌, length, take, drop, Option, Some, None, refl, sym, ap, subst, ◌∙◌, arith}
+use Rattle.std.proofs.Common.{◌≡◌, ℕ, ◌+◌, ◌-◌, ◌/◌, ◌%◌, ◌<◌, ◌≤◌, Bool, true, false, true≢false, List, ◌++◌, length, take, drop, Option, Some, None, inl, inr, refl, sym, ap, subst, ◌∙◌, arith}
 use Rattle.std.specs.Prelude.{IfSome, MatchBool, nat_lt}
 use Rattle.std.specs.List.{concat}
 use Rattle.std.proofs.Math.Seq.{take-add}
-use Rattle.std.proofs.lemmas.Bool.{le-ltb, lt-ltb}
+use Rattle.std.proofs.lemmas.Bool.{cases_lt, le-ltb, lt-ltb}
 use Rattle.std.proofs.lemmas.List.{take_all, take_at, drop_at, length-take, length-drop}
 use borrow.Rule.Slice.PartMut.{put_mid, post_of}
 use Rattle.tp_model.specs.declared.refusal.NbdError.TheVariants.{Invalid}
@@ -34,6 +34,13 @@ use Rattle.nbd_session.specs.Session.{AnswersText, Compares, Describes, IsDescri
 -- bytes of whole sectors are those of their sectors
 pub bytes_again : (bytes : List ℕ) → length bytes % 512 ≡ 0 → concat (sectors_of bytes) ≡ bytes
 bytes_again bytes h = concat-chopped (length bytes / 512) bytes (omega arith)
+
+-- room for the simple reply to a READ, short or long
+pub room_of_read : (len room : ℕ) → len ≤ 1048576 → 65564 ≤ room → (65536 ≤ len → 2097172 ≤ room) → 16 + len ≤ room
+room_of_read len room most short long = elim (cases_lt len 65536) [
+  | inl less ↦ omega (arith, less, short)
+  | inr more ↦ let whole = long more in omega (arith, most, whole)
+]
 
 -- the place of the data behind a reply's head
 pub room_is : (at len : ℕ) (out : List ℕ) → at + len ≤ length out → length (take (at + len - at) (drop at out)) ≡ len

@@ -1,5 +1,5 @@
 -- Internal: the buffers of a session, and how much of the first is filled.
-use Rattle.std.specs.Prelude.{◌≡◌, ℕ, ◌<◌, ◌≤◌, List, length, take}
+use Rattle.std.specs.Prelude.{ℕ, ◌<◌, ◌≤◌, List, length, take}
 use Rattle.nbd_wire.specs.declared.Kind.TheVariants as kinds
 use Rattle.nbd_wire.specs.Reading.{wanted}
 use Rattle.nbd_session.specs.declared.phase.Course.TheVariants.{Listens, Works}
@@ -23,9 +23,12 @@ IsSound (Transmission volume size (Listens manner)) = Unit {0}
 IsSound (Transmission volume size (Works manner rest)) = IsLeft size rest
 IsSound Ended = Unit {0}
 
-pub record AreBuffers (phase : Phase) (filled : ℕ) (input output : List ℕ) : Type 0 where
-  pub input_len : length input ≡ 1048604
-  pub output_len : length output ≡ 2097172
+-- `room_in` and `room_out` are the bytes for which the buffers have memory
+pub record AreBuffers (phase : Phase) (filled : ℕ) (input output : List ℕ) (room_in room_out : ℕ) : Type 0 where
+  pub input_room : 1048604 ≤ room_in
+  pub output_room : 2097172 ≤ room_out
+  pub greeted : 18 ≤ length output
+  pub output_len : length output ≤ 2097172
   pub in_range : filled ≤ length input
   pub partial : filled < wanted_in phase (take filled input)
   pub sound : IsSound phase

@@ -1,12 +1,13 @@
 //! The answer to one frame.
 
-ghost use Rattle.std.specs.Prelude.{◌≡◌, ◌≤◌, ◌<◌, ◌+◌, ◌/◌, ℕ, [], ◌∷◌, true, false, length, take, drop, MatchBool};
+ghost use Rattle.std.specs.Prelude.{◌≡◌, ◌≤◌, ◌<◌, ◌+◌, ◌/◌, ℕ, [], ◌∷◌, true, false, length, take, drop, IfSome, MatchBool, None};
 ghost use Rattle.tp_model.specs.Sectors.{sectors_of};
 ghost use Rattle.tp_model.specs.Pool.{hold_count};
 ghost use Rattle.tp_model.specs.Calls.{Done, LetGo, Refused, Read, Write, Trim, WriteZeroes, Flush};
 ghost use Rattle.tp_model.specs.Refusals.{nbd_code, nbd_error};
 ghost use Rattle.nbd_wire.specs.Chunks.{data_chunk, error_chunk};
 ghost use Rattle.nbd_wire.specs.Grammar.{payload_len};
+ghost use Rattle.nbd_wire.specs.declared.TheConstants.{COMMAND_READ, OPTION_LIST};
 ghost use Rattle.nbd_wire.specs.Reading.{message_of};
 ghost use Rattle.nbd_wire.specs.Replies.{simple_reply};
 ghost use Rattle.nbd_session.specs.Requests.{IsWhole, has_fua, has_no_hole, is_kept_apart, known_bytes, to_keep, verdict_in};
@@ -24,13 +25,41 @@ use crate::phase::{
 use crate::request::{Verdict, is_chunked, judge_in};
 use crate::status::describe;
 use nbd_wire::{
-    COMMAND_FLUSH, Frame, Request, put_data_head, put_done_chunk, put_error_chunk,
-    put_simple_reply_head,
+    COMMAND_FLUSH, COMMAND_READ, Frame, OPTION_LIST, Request, put_data_head, put_done_chunk,
+    put_error_chunk, put_simple_reply_head,
 };
 use tp_model::{Cloned, DevId, NbdError, Refusal, Volumes, Walked};
 
 /// The longest answer, to LIST, in bytes.
 pub const MAX_ANSWER: usize = 2_097_172;
+
+/// The longest answer to a frame other than LIST and READs of 64 KiB or more, in bytes.
+pub const SHORT_ANSWER: usize = 65_564;
+
+/// Whether a buffer of `len` bytes has room for the answer to a request.
+pub(crate) fn has_room(request: &Request, len: usize) -> bool
+    ensures long { result ≡ true → request.now.kind ≡ COMMAND_READ → 65536 ≤ request.now.len → 2097172 ≤ len }
+    ensures none { result ≡ false → len < MAX_ANSWER }
+{
+    if len >= MAX_ANSWER {
+        return true;
+    }
+    if request.kind != COMMAND_READ {
+        return true;
+    }
+    request.len < 65_536
+}
+
+/// Whether a buffer of `len` bytes has room for the answer to an option.
+fn has_room_for_option(option: u32, len: usize) -> bool
+    ensures long { result ≡ true → option ≡ OPTION_LIST → 2097172 ≤ len }
+    ensures none { result ≡ false → len < MAX_ANSWER }
+{
+    if len >= MAX_ANSWER {
+        return true;
+    }
+    option != OPTION_LIST
+}
 
 /// A simple reply without data, at the front.
 pub(crate) fn put_reply(out: &mut [u8], error: u32, cookie: u64) -> usize
@@ -98,7 +127,7 @@ pub(crate) fn put_read_chunk_head(out: &mut [u8], request: &Request) -> usize
 /// A READ of some sectors that is answered by a simple reply, whose data goes to its place behind the reply's head.
 fn read_simply<V: Volumes>(pool: &mut V, volume: DevId, request: &Request, out: &mut [u8]) -> usize
     requires form { IsWhole (known_bytes (V.view.outline pool.old).geometry (V.view.more pool.old) volume) request.now }
-    requires room { 1048592 ≤ length out.old }
+    requires room { 16 + request.now.len ≤ length out.old }
     ensures answer { Performs V.view.outline (PoolCall V.view) (Read volume (request.now.offset / 512) (request.now.len / 512)) (reply_to request.now.cookie)
         pool.old (take result out.new) pool.new }
     ensures fits { result ≤ length out.new }
@@ -119,7 +148,7 @@ fn read_in_chunk<V: Volumes>(
     out: &mut [u8],
 ) -> usize
     requires form { IsWhole (known_bytes (V.view.outline pool.old).geometry (V.view.more pool.old) volume) request.now }
-    requires room { 1048604 ≤ length out.old }
+    requires room { 28 + request.now.len ≤ length out.old }
     ensures answer { Performs V.view.outline (PoolCall V.view) (Read volume (request.now.offset / 512) (request.now.len / 512)) (chunk_to request.now)
         pool.old (take result out.new) pool.new }
     ensures fits { result ≤ length out.new }
@@ -141,7 +170,8 @@ fn read_in_chunks<V: Walked>(
 ) -> usize
     requires form { IsWhole (known_bytes (V.view.outline pool.old).geometry (V.view.more pool.old) volume) request.now }
     requires inside { request.now.offset + request.now.len < 18446744073709551616 }
-    requires room { 2097172 ≤ length out.old }
+    requires room { 65564 ≤ length out.old }
+    requires long { 65536 ≤ request.now.len → 2097172 ≤ length out.old }
     ensures answer { ReadsInChunks V.view.outline (PoolCall V.view) volume request.now pool.old (take result out.new) pool.new }
     ensures fits { result ≤ length out.new }
     ensures len { length out.new ≡ length out.old }
@@ -163,7 +193,8 @@ fn read<V: Walked>(
 ) -> usize
     requires form { IsWhole (known_bytes (V.view.outline pool.old).geometry (V.view.more pool.old) volume) request.now }
     requires inside { request.now.offset + request.now.len < 18446744073709551616 }
-    requires room { 2097172 ≤ length out.old }
+    requires room { 65564 ≤ length out.old }
+    requires long { 65536 ≤ request.now.len → 2097172 ≤ length out.old }
     ensures answer { AnswersRead V.view.outline (PoolCall V.view) volume manner request.now pool.old (take result out.new) pool.new }
     ensures fits { result ≤ length out.new }
     ensures len { length out.new ≡ length out.old }
@@ -513,7 +544,8 @@ fn serve<V: Cloned>(
 ) -> (Phase, usize)
     requires ready { IsReady (Phase.Transmission volume size (Course.Listens manner)) (V.view.outline pool.old) (V.view.more pool.old) }
     requires payload { length payload.now ≡ payload_len request }
-    requires room { 2097172 ≤ length out.old }
+    requires room { 65564 ≤ length out.old }
+    requires long { request.kind ≡ COMMAND_READ → 65536 ≤ request.len → 2097172 ≤ length out.old }
     ensures answer { Serves V.view.outline (PoolCall V.view) (verdict_in manner size request) volume size manner request payload.now
         pool.old (take result.1 out.new) result.0 pool.new }
     ensures sound { IsSound result.0 }
@@ -555,29 +587,36 @@ fn agree(profile: Profile, no_zeroes: bool) -> Phase
     }
 }
 
-/// The answer to one frame, which stands at the front of `out`, and the next phase.
+/// The answer to one frame, which stands at the front of `out`, and the next phase. None if `out`
+/// has no room for it: then nothing was done.
 pub fn answer<V: Cloned>(
     phase: Phase,
     frame: Frame<'_>,
     out: &mut [u8],
     pool: &mut V,
-) -> (Phase, usize)
+) -> Option<(Phase, usize)>
     requires ready { IsReady phase (V.view.outline pool.old) (V.view.more pool.old) }
     requires frame { IsOf phase (message_of frame) }
-    requires room { MAX_ANSWER ≤ length out.old }
-    ensures answer { Answers V.view.outline (PoolCall V.view) phase (message_of frame.entry) pool.old (take result.1 out.new) result.0 pool.new }
-    ensures sound { IsSound result.0 }
-    ensures fits { result.1 ≤ length out.new }
+    requires room { SHORT_ANSWER ≤ length out.old }
+    ensures answer { IfSome result (λ a. Answers V.view.outline (PoolCall V.view) phase (message_of frame.entry) pool.old (take a.1 out.new) a.0 pool.new) }
+    ensures sound { IfSome result (λ a. IsSound a.0) }
+    ensures fits { IfSome result (λ a. a.1 ≤ length out.new) }
+    ensures none { result ≡ None → (pool.new ≡ pool.old) × (length out.old < MAX_ANSWER) }
     ensures len { length out.new ≡ length out.old }
 {
     match frame {
-        Frame::Malformed => (end(phase, pool), 0),
+        Frame::Malformed => Some((end(phase, pool), 0)),
         Frame::ClientFlags { no_zeroes } => match phase {
-            Phase::Flags { profile } => (agree(profile, no_zeroes), 0),
+            Phase::Flags { profile } => Some((agree(profile, no_zeroes), 0)),
             _ => unreachable!(),
         },
         Frame::ClientOption { option, payload } => match phase {
-            Phase::Options { terms } => answer_option(terms, option, payload, out, pool),
+            Phase::Options { terms } => {
+                if !has_room_for_option(option, out.len()) {
+                    return None;
+                }
+                Some(answer_option(terms, option, payload, out, pool))
+            }
             _ => unreachable!(),
         },
         Frame::Command { request, payload } => match phase {
@@ -587,7 +626,10 @@ pub fn answer<V: Cloned>(
                 course,
             } => match course {
                 Course::Listens { manner } => {
-                    serve(pool, volume, size, manner, request, payload, out)
+                    if !has_room(&request, out.len()) {
+                        return None;
+                    }
+                    Some(serve(pool, volume, size, manner, request, payload, out))
                 }
                 Course::Works { .. } => unreachable!(),
             },

@@ -1,6 +1,6 @@
 //! The answer to a long READ in chunks, which tells where the volume has no data block.
 
-ghost use Rattle.std.specs.Prelude.{◌≡◌, ◌≤◌, ◌<◌, ◌+◌, ◌==◌, IsTrue, length, take, drop, min, nat_le};
+ghost use Rattle.std.specs.Prelude.{◌≡◌, ◌≤◌, ◌<◌, ◌+◌, ◌==◌, false, IsTrue, length, take, drop, min, nat_le};
 ghost use Rattle.std.specs.List.{list_all};
 ghost use Rattle.tp_model.specs.Slots.{listed};
 ghost use Rattle.tp_model.specs.Clauses.{PoolCall};
@@ -29,6 +29,7 @@ const MOST_PIECES: u32 = 17;
 pub(crate) fn may_have_holes(request: &Request) -> bool
     ensures value { result ≡ nat_le 65536 request.now.len }
     ensures long { IsTrue result → 65536 ≤ request.now.len }
+    ensures short { result ≡ false → request.now.len < 65536 }
 {
     request.len >= LEAST_BLOCK
 }

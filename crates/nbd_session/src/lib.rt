@@ -7,6 +7,7 @@
 
 mod advance;
 mod answer;
+mod buffers;
 mod clones;
 mod feeding;
 mod flushes;
@@ -25,7 +26,8 @@ mod shared;
 mod spans;
 mod status;
 
-pub use answer::MAX_ANSWER;
+pub use answer::{MAX_ANSWER, SHORT_ANSWER};
+pub use buffers::give_back;
 pub use feeding::feed;
 pub use laws::{
     changes_are_exact, holes_are_exact, lives_are_runs, older_volumes_stay, one_place, pieces_join,

@@ -3,6 +3,7 @@
 ghost use Rattle.std.specs.Prelude.{◌≡◌, ◌≤◌, ◌<◌, ◌++◌, ℕ, List, length, nat_lt, take, MatchBool};
 ghost use Rattle.tp_model.specs.Pool.{hold_count, hold_total};
 ghost use Rattle.tp_model.specs.Clauses.{PoolCall};
+ghost use Rattle.nbd_wire.specs.declared.TheConstants.{OPTION_LIST};
 ghost use Rattle.nbd_session.specs.Buffers.{IsSound};
 ghost use Rattle.nbd_session.specs.Clauses.{HoldsBeside};
 ghost use Rattle.nbd_session.specs.Session.{AnswersOption, HoldsOlder, LetsOlderGo, Settles, Tells, Trades, ids_of, older_in, outcome, own_in};
@@ -78,7 +79,8 @@ pub(crate) fn answer_option<V: Cloned>(
     pool: &mut V,
 ) -> (Phase, usize)
     requires ready { HoldsBeside (ids_of terms.since) (V.view.outline pool.old).holds }
-    requires room { 2097172 ≤ length out.old }
+    requires room { 65564 ≤ length out.old }
+    requires long { option ≡ OPTION_LIST → 2097172 ≤ length out.old }
     ensures answer { AnswersOption V.view.outline (PoolCall V.view) terms option payload.now pool.old (take result.1 out.new) result.0 pool.new }
     ensures sound { IsSound result.0 }
     ensures fits { result.1 ≤ length out.new }

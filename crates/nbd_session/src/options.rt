@@ -4,6 +4,7 @@ ghost use Rattle.std.specs.Prelude.{◌≡◌, ◌≤◌, ◌<◌, ◌+◌, ◌+
 ghost use Rattle.tp_model.specs.Pool.{hold_count, hold_total};
 ghost use Rattle.tp_model.specs.Calls.{is_failed, is_read_only};
 ghost use Rattle.tp_model.specs.Clauses.{PoolCall};
+ghost use Rattle.nbd_wire.specs.declared.TheConstants.{OPTION_LIST};
 ghost use Rattle.nbd_wire.specs.declared.writing.ReplyType.TheVariants.{Context};
 ghost use Rattle.nbd_wire.specs.Contexts.{asks_for, context_data, lists, since_name};
 ghost use Rattle.nbd_wire.specs.Replies.{option_reply};
@@ -765,7 +766,8 @@ pub fn choose<V: Cloned>(
     pool: &mut V,
 ) -> (Phase, usize)
     requires ready { hold_total (V.view.outline pool.old).holds < 128 }
-    requires room { 2097172 ≤ length out.old }
+    requires room { 65564 ≤ length out.old }
+    requires long { option ≡ OPTION_LIST → 2097172 ≤ length out.old }
     ensures answer { Chooses V.view.outline (PoolCall V.view) terms option payload.now pool.old (take result.1 out.new) result.0 pool.new }
     ensures fits { result.1 ≤ length out.new }
     ensures len { length out.new ≡ length out.old }

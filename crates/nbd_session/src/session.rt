@@ -1,19 +1,23 @@
 //! A session over its buffers.
 
-ghost use Rattle.std.specs.Prelude.{◌≡◌, ◌<◌, ◌≤◌, [], false, length, take, IfOk, IfErr, IfSome, ⊤};
+ghost use Rattle.std.specs.Prelude.{◌≡◌, ◌<◌, ◌≤◌, [], false, length, take, vec_capacity, IfOk, IfErr, IfSome, None, ⊤};
 
 use crate::advance::{advance, has_ended_in};
-use crate::answer::{MAX_ANSWER, end};
+use crate::answer::{MAX_ANSWER, SHORT_ANSWER, end};
+use crate::buffers::give_back;
 use crate::flushes::{flushed, is_at_flush};
 use crate::phase::{Phase, Profile, has_older, is_at_work, is_to_flush};
 use crate::shared::take_read;
 use nbd_wire::{MAX_FRAME, put_greeting};
-use std::alloc::{AllocError, Global};
+use std::alloc::Global;
 use std::marker::Model;
 use tp_model::{Cloned, Geometry, Refusal, SharedReads, Volumes};
 
-/// One client. It takes its buffers when it is opened, and no memory after that.
-#[derive(Drop)]
+/// The bytes of the greeting.
+const GREETING: usize = 18;
+
+/// One client. It reserves its buffers when it is opened, and asks for no memory after that. What
+/// it does not use of them is never touched.
 pub struct Session {
     phase: Phase,
     filled: usize,
@@ -22,7 +26,7 @@ pub struct Session {
 }
 
 impl Model for Session {
-    ghost use Rattle.std.specs.Prelude.{take};
+    ghost use Rattle.std.specs.Prelude.{take, vec_capacity};
     ghost use Rattle.nbd_session.specs.Session.{State, state};
     ghost use Rattle.nbd_session.specs.Buffers.{AreBuffers};
 
@@ -30,7 +34,20 @@ impl Model for Session {
 
     ghost view = { λ s. state s.phase (take s.filled s.input.items) };
 
-    ghost invariant = { λ s. AreBuffers s.phase s.filled s.input.items s.output.items };
+    ghost invariant = { λ s. AreBuffers s.phase s.filled s.input.items s.output.items (vec_capacity s.input) (vec_capacity s.output) };
+}
+
+impl Drop for Session {
+    fn drop(self) {
+        let Session {
+            phase: _,
+            filled: _,
+            input,
+            output,
+        } = self;
+        give_back(input);
+        give_back(output);
+    }
 }
 
 /// What a step took of the piece, what it sends, and whether the session has ended.
@@ -68,18 +85,19 @@ impl Session {
     ghost use mathlib.Core.Option.{none};
     ghost use denote.Follow.{follows_so};
 
-    /// A session that has sent and received nothing, or `Memory`, where its buffers are refused. It takes 1,048,604 bytes
+    /// A session that has sent and received nothing, or `Memory`, where its buffers are refused. It reserves 1,048,604 bytes
     /// for what comes and 2,097,172 for what goes.
     pub fn open(alloc: Global, profile: Profile) -> Result<Session, Refusal>
         ensures opened { IfOk result (λ s. s ≡ state (Phase.Flags profile) []) }
         ensures refused { IfErr result (λ e. e ≡ Refusal.Memory) }
     {
-        let Ok(input) = zeroes(alloc, MAX_FRAME) else {
+        let Ok(input) = Vec::with_capacity(alloc, MAX_FRAME) else {
             return Err(Refusal::Memory);
         };
-        let Ok(output) = zeroes(alloc, MAX_ANSWER) else {
+        let Ok(mut output) = Vec::with_capacity(alloc, MAX_ANSWER) else {
             return Err(Refusal::Memory);
         };
+        widen(&mut output, GREETING);
         Ok(Session {
             phase: Phase::Flags { profile },
             filled: 0,
@@ -165,6 +183,7 @@ impl Session {
         ensures* steps { sem 𝓛 (follows_so the_row the_row self.entry.ghost_name none (λ _ _. ⊤)
             (λ new. Advances V.view self.old pool.old piece.now result.taken result.sent.now result.ended new pool.new)) }
     {
+        widen(&mut self.output, MAX_ANSWER);
         let next = advance(
             self.phase,
             self.filled,
@@ -172,7 +191,8 @@ impl Session {
             &mut self.output,
             pool,
             piece,
-        );
+        )
+        .unwrap();
         self.phase = next.phase;
         self.filled = next.filled;
         Step {
@@ -182,22 +202,31 @@ impl Session {
         }
     }
 
-    /// The same as `step`, with the answer at the front of a buffer that is given, which has room for the longest one.
-    pub fn step_into<V: Cloned>(&mut self, pool: &mut V, piece: &[u8], out: &mut [u8]) -> Answered
+    /// The same as `step`, with the answer at the front of a buffer that is given. None if it has no
+    /// room for the answer: then nothing was done. It has room for each if it has `MAX_ANSWER` bytes.
+    pub fn step_into<V: Cloned>(
+        &mut self,
+        pool: &mut V,
+        piece: &[u8],
+        out: &mut [u8],
+    ) -> Option<Answered>
         requires ready { IsReady self.old.phase (V.view.outline pool.old) (V.view.more pool.old) }
-        requires room { MAX_ANSWER ≤ length out.old }
-        ensures steps { Advances V.view self.old pool.old piece.now result.taken (take result.sent out.new) result.ended self.new pool.new }
-        ensures fits { result.sent ≤ length out.new }
+        requires room { SHORT_ANSWER ≤ length out.old }
+        ensures steps { IfSome result (λ a. Advances V.view self.old pool.old piece.now a.taken (take a.sent out.new) a.ended self.new pool.new) }
+        ensures fits { IfSome result (λ a. a.sent ≤ length out.new) }
+        ensures none { result ≡ None → (self.new ≡ self.old) × (pool.new ≡ pool.old) × (length out.old < MAX_ANSWER) }
         ensures len { length out.new ≡ length out.old }
     {
-        let next = advance(self.phase, self.filled, &mut self.input, out, pool, piece);
+        let Some(next) = advance(self.phase, self.filled, &mut self.input, out, pool, piece) else {
+            return None;
+        };
         self.phase = next.phase;
         self.filled = next.filled;
-        Answered {
+        Some(Answered {
             taken: next.taken,
             sent: next.sent,
             ended: has_ended_in(next.phase),
-        }
+        })
     }
 
     /// Answers the FLUSH that it would make next by a flush that was made elsewhere, of a pool of
@@ -211,7 +240,7 @@ impl Session {
         answer: Result<(), Refusal>,
         out: &mut [u8],
     ) -> Option<Answered>
-        requires room { MAX_ANSWER ≤ length out.old }
+        requires room { SHORT_ANSWER ≤ length out.old }
         ensures steps { IfSome result (λ a. (p q : V) → (V.view.outline p).geometry ≡ geometry.now → IsReady self.old.phase (V.view.outline p) (V.view.more p) → IsFlushed V.view p q answer
             → Advances V.view self.old p piece.now a.taken (take a.sent out.new) a.ended self.new q) }
         ensures open { IfSome result (λ a. (a.ended ≡ false) × (a.taken ≤ length piece.now) × (is_at_work self.old.phase ≡ false → 0 < a.taken)) }
@@ -238,8 +267,8 @@ impl Session {
 
     /// Answers the READ or BLOCK_STATUS with which a piece begins, by a shared read or walk: a step, with the answer at the front of the buffer, that leaves the
     /// session and the pool as they are. None where that cannot be, and then nothing was done, but that the buffer may hold anything: a step is to be taken. So it
-    /// is where none of both stands whole at the front of the piece, bytes of an unfinished frame are held, a test of the request fails or it is of no bytes, or the
-    /// pool has no shared read or walk of it.
+    /// is where none of both stands whole at the front of the piece, bytes of an unfinished frame are held, a test of the request fails or it is of no bytes, the
+    /// buffer has no room for the answer, or the pool has no shared read or walk of it.
     pub fn read_shared<V: Volumes, S: SharedReads<V>>(
         &self,
         pool: &S,
@@ -247,7 +276,7 @@ impl Session {
         out: &mut [u8],
     ) -> Option<Answered>
         requires ready { IsReady self.now.phase (V.view.outline (S.of pool.now)) (V.view.more (S.of pool.now)) }
-        requires room { MAX_ANSWER ≤ length out.old }
+        requires room { SHORT_ANSWER ≤ length out.old }
         ensures steps { IfSome result (λ a. Advances V.view self.now (S.of pool.now) piece.now a.taken (take a.sent out.new) a.ended self.now (S.of pool.now)) }
         ensures begins { IfSome result (λ a. BeginsWithLook piece.now) }
         ensures goes_on { IfSome result (λ a. (a.ended ≡ false) × (0 < a.taken) × (a.taken ≤ length piece.now)) }
@@ -261,9 +290,12 @@ impl Session {
     }
 }
 
-/// So many zero bytes.
-fn zeroes(alloc: Global, len: usize) -> Result<Vec<u8>, AllocError>
-    ensures { IfOk result (λ v. length v.items ≡ len) }
+/// Zeros up to a length for which a buffer has memory.
+fn widen(bytes: &mut Vec<u8>, len: usize)
+    requires room { len ≤ vec_capacity bytes.old }
+    requires longer { length bytes.old.items ≤ len }
+    ensures len { length bytes.new.items ≡ len }
+    ensures capacity { vec_capacity bytes.old ≤ vec_capacity bytes.new }
 {
-    vec![in alloc; 0u8; len]
+    let _ = bytes.resize(len, 0);
 }

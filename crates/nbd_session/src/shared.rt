@@ -9,7 +9,7 @@ ghost use Rattle.nbd_session.specs.Session.{AnswersRead, Performs, ReadsInChunks
 ghost use Rattle.nbd_session.specs.Status.{unit_of};
 ghost use Rattle.nbd_session.specs.Clauses.{IsReady};
 
-use crate::answer::{MAX_ANSWER, put_read_chunk_head, put_read_head};
+use crate::answer::{SHORT_ANSWER, has_room, put_read_chunk_head, put_read_head};
 use crate::holes::{has_blank, may_have_holes, put_holes};
 use crate::phase::{Course, Manner, Phase};
 use crate::request::{Verdict, is_look, judge_in};
@@ -26,7 +26,7 @@ fn read_simply<V: Volumes, S: SharedReads<V>>(
     out: &mut [u8],
 ) -> Option<usize>
     requires form { IsWhole (known_bytes (V.view.outline (S.of pool.now)).geometry (V.view.more (S.of pool.now)) volume) request.now }
-    requires room { 1048592 ≤ length out.old }
+    requires room { 16 + request.now.len ≤ length out.old }
     ensures answer { IfSome result (λ sent. Performs V.view.outline (PoolCall V.view) (Read volume (request.now.offset / 512) (request.now.len / 512)) (reply_to request.now.cookie)
         (S.of pool.now) (take sent out.new) (S.of pool.now)) }
     ensures fits { IfSome result (λ sent. sent ≤ length out.new) }
@@ -47,7 +47,7 @@ fn read_in_chunk<V: Volumes, S: SharedReads<V>>(
     out: &mut [u8],
 ) -> Option<usize>
     requires form { IsWhole (known_bytes (V.view.outline (S.of pool.now)).geometry (V.view.more (S.of pool.now)) volume) request.now }
-    requires room { 1048604 ≤ length out.old }
+    requires room { 28 + request.now.len ≤ length out.old }
     ensures answer { IfSome result (λ sent. Performs V.view.outline (PoolCall V.view) (Read volume (request.now.offset / 512) (request.now.len / 512)) (chunk_to request.now)
         (S.of pool.now) (take sent out.new) (S.of pool.now)) }
     ensures fits { IfSome result (λ sent. sent ≤ length out.new) }
@@ -122,7 +122,8 @@ fn read_in_chunks<V: Volumes, S: SharedReads<V>>(
 ) -> Option<usize>
     requires form { IsWhole (known_bytes (V.view.outline (S.of pool.now)).geometry (V.view.more (S.of pool.now)) volume) request.now }
     requires inside { request.now.offset + request.now.len < 18446744073709551616 }
-    requires room { 2097172 ≤ length out.old }
+    requires room { 65564 ≤ length out.old }
+    requires long { 65536 ≤ request.now.len → 2097172 ≤ length out.old }
     ensures answer { IfSome result (λ sent. ReadsInChunks V.view.outline (PoolCall V.view) volume request.now (S.of pool.now) (take sent out.new) (S.of pool.now)) }
     ensures fits { IfSome result (λ sent. sent ≤ length out.new) }
     ensures len { length out.new ≡ length out.old }
@@ -144,7 +145,8 @@ fn read<V: Volumes, S: SharedReads<V>>(
 ) -> Option<usize>
     requires form { IsWhole (known_bytes (V.view.outline (S.of pool.now)).geometry (V.view.more (S.of pool.now)) volume) request.now }
     requires inside { request.now.offset + request.now.len < 18446744073709551616 }
-    requires room { 2097172 ≤ length out.old }
+    requires room { 65564 ≤ length out.old }
+    requires long { 65536 ≤ request.now.len → 2097172 ≤ length out.old }
     ensures answer { IfSome result (λ sent. AnswersRead V.view.outline (PoolCall V.view) volume manner request.now (S.of pool.now) (take sent out.new) (S.of pool.now)) }
     ensures fits { IfSome result (λ sent. sent ≤ length out.new) }
     ensures len { length out.new ≡ length out.old }
@@ -156,7 +158,7 @@ fn read<V: Volumes, S: SharedReads<V>>(
     }
 }
 
-/// The answer to one request of a volume of so many bytes, where its tests let it read, or tell of the volume.
+/// The answer to one request of a volume of so many bytes, where its tests let it read, or tell of the volume. None also if `out` has no room for it.
 fn serve<V: Volumes, S: SharedReads<V>>(
     pool: &S,
     volume: DevId,
@@ -166,13 +168,16 @@ fn serve<V: Volumes, S: SharedReads<V>>(
     out: &mut [u8],
 ) -> Option<usize>
     requires size { size ≡ known_bytes (V.view.outline (S.of pool.now)).geometry (V.view.more (S.of pool.now)) volume }
-    requires room { 2097172 ≤ length out.old }
+    requires room { 65564 ≤ length out.old }
     ensures answer { (payload : List ℕ) → IfSome result (λ sent. Serves V.view.outline (PoolCall V.view) (verdict_in manner size request) volume size manner request payload
         (S.of pool.now) (take sent out.new) (Phase.Transmission volume size (Course.Listens manner)) (S.of pool.now)) }
     ensures kind { IfSome result (λ sent. IsTrue (is_look request)) }
     ensures fits { IfSome result (λ sent. sent ≤ length out.new) }
     ensures len { length out.new ≡ length out.old }
 {
+    if !has_room(&request, out.len()) {
+        return None;
+    }
     match judge_in(manner, size, &request) {
         Verdict::Read => read(pool, volume, manner, &request, out),
         Verdict::Status => describe_shared(pool, volume, manner, &request, out),
@@ -188,7 +193,7 @@ pub fn take_read<V: Volumes, S: SharedReads<V>>(
     out: &mut [u8],
 ) -> Option<Answered>
     requires ready { IsReady phase (V.view.outline (S.of pool.now)) (V.view.more (S.of pool.now)) }
-    requires room { MAX_ANSWER ≤ length out.old }
+    requires room { SHORT_ANSWER ≤ length out.old }
     ensures steps { IfSome result (λ a. Steps V.view.outline (PoolCall V.view) (state phase []) (S.of pool.now) piece.now a.taken (take a.sent out.new) a.ended (state phase []) (S.of pool.now)) }
     ensures idle { IfSome result (λ a. is_at_work phase ≡ false) }
     ensures begins { IfSome result (λ a. BeginsWithLook piece.now) }

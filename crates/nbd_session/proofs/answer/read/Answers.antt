@@ -1,4 +1,4 @@
-use Rattle.nbd_session.proofs.Serving.{matched, unmatched}
+use Rattle.nbd_session.proofs.Serving.{room_of_read, matched, unmatched}
 use Rattle.nbd_session.proofs.answer.read.Goals as goal
 
 pub returns-then-manner-clause-answer : goal.returns-then-manner-clause-answer
@@ -6,3 +6,6 @@ returns-then-manner-clause-answer g c = matched _ _ _ c.if-manner.true c.read_in
 
 pub returns-else-manner-clause-answer : goal.returns-else-manner-clause-answer
 returns-else-manner-clause-answer g c = unmatched _ _ _ c.if-manner.false c.read_simply.ensures.answer
+
+pub read_simply-requires-clause-room : goal.read_simply-requires-clause-room
+read_simply-requires-clause-room g c = room_of_read c.args.request.now.len _ c.requires.form.most c.requires.room c.requires.long

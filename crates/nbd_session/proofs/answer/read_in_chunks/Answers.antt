@@ -10,3 +10,9 @@ returns-then-may_have_holes-clause-answer g c = matched _ _ _ (sym c.may_have_ho
 
 pub returns-else-may_have_holes-clause-answer : goal.returns-else-may_have_holes-clause-answer
 returns-else-may_have_holes-clause-answer g c = unmatched _ _ _ (sym c.may_have_holes.ensures.value ∙ c.if-may_have_holes.false) c.read_in_chunk.ensures.answer
+
+pub read_long-requires-clause-room : goal.read_long-requires-clause-room
+read_long-requires-clause-room g c = c.requires.long (c.may_have_holes.ensures.long c.if-may_have_holes.true)
+
+pub read_in_chunk-requires-clause-room : goal.read_in_chunk-requires-clause-room
+read_in_chunk-requires-clause-room g c = let short = c.may_have_holes.ensures.short c.if-may_have_holes.false in omega (arith, short, c.requires.room)

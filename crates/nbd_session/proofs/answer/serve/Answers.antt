@@ -1,6 +1,7 @@
 use Rattle.std.proofs.Common.{rules, ◌∙◌, subst, sym, take}
 use Rattle.tp_model.specs.Clauses.{PoolCall}
 use Rattle.nbd_session.specs.declared.request.Verdict.{Verdict}
+use Rattle.nbd_session.specs.Requests.{IsTested}
 use Rattle.nbd_session.specs.Session.{Serves}
 use Rattle.nbd_session.proofs.answer.serve.Goals as goal
 
@@ -24,3 +25,6 @@ returns-in-WriteZeroes-clause-answer g c =
 
 pub returns-in-Flush-clause-answer : goal.returns-in-Flush-clause-answer
 returns-in-Flush-clause-answer g c = search rules
+
+pub read-requires-clause-long : goal.read-requires-clause-long
+read-requires-clause-long g c = c.requires.long (subst (λ (v : Verdict). IsTested v c.args.size c.args.request) c.in-Read.is c.judge_in.ensures.tested).1

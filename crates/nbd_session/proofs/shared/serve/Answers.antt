@@ -18,3 +18,7 @@ returns-in-Status-clause-answer g c =
 pub returns-in-Status-clause-kind : goal.returns-in-Status-clause-kind
 returns-in-Status-clause-kind g c =
     status_so c.describe_shared.result c.args.request (status_kind c.args.manner c.args.size c.args.request (sym c.judge_in.ensures.verdict ∙ c.in-Status.is))
+
+pub read-requires-clause-long : goal.read-requires-clause-long
+read-requires-clause-long g c =
+    c.has_room.ensures.long c.if-not-has_room.false (subst (λ (v : Verdict). IsTested v c.args.size c.args.request) c.in-Read.is c.judge_in.ensures.tested).1

@@ -14,7 +14,9 @@ invariant_of-self g c =
     let was = c.self.invariant in
     let next = c.in-Some.next in
     record {
-      input_len = was.input_len;
+      input_room = was.input_room;
+      output_room = was.output_room;
+      greeted = was.greeted;
       output_len = was.output_len;
       in_range = omega (arith, c.in-Some.ensures.filled);
       partial = subst (λ (n : ℕ). n < wanted_in next.phase (take n c.self.inside.input.items)) (sym c.in-Some.ensures.filled) (wanted_at_start next.phase);
