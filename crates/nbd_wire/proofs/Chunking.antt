@@ -75,10 +75,10 @@ hole_is_chunk p c o n =
     let len : 12 ≡ length (bytes 8 o ++ bytes 4 n) = omega (arith, length-append (bytes 8 o) (bytes 4 n), width8.len o, width4.len n) in
     append_assoc (chunk_head p Hole c 12) (bytes 8 o) (bytes 4 n) ∙ ap (λ (m : ℕ). chunk_head p Hole c m ++ (bytes 8 o ++ bytes 4 n)) len
 
-abbrev FitsExtent : ℕ × ℕ → Type 0
+abbrev pub FitsExtent : ℕ × ℕ → Type 0
 FitsExtent extent = (extent.0 < 2 ^ 32) × (extent.1 < 2 ^ 32)
 
-length-extents : (es : List (ℕ × ℕ)) → length (extents_text es) ≡ 8 * length es
+pub length-extents : (es : List (ℕ × ℕ)) → length (extents_text es) ≡ 8 * length es
 unfolding extent_text
 length-extents [] = refl
 length-extents (x ∷ xs) =
@@ -107,7 +107,7 @@ status_is_chunk p m c es =
     let len : 4 + 8 * length es ≡ length (bytes 4 (context_code m) ++ t) = sym (status_len m es) in
     sym (append_assoc (chunk_head p Status c (4 + 8 * length es)) (bytes 4 (context_code m)) t ∙ ap (λ (n : ℕ). chunk_head p Status c n ++ (bytes 4 (context_code m) ++ t)) len)
 
-one_extents : (es fs : List (ℕ × ℕ)) → FitExtents es → FitExtents fs → extents_text es ≡ extents_text fs → es ≡ fs
+pub one_extents : (es fs : List (ℕ × ℕ)) → FitExtents es → FitExtents fs → extents_text es ≡ extents_text fs → es ≡ fs
 unfolding extent_text
 one_extents [] [] h k e = refl
 one_extents [] (g ∷ fs) h k e = absurd (omega (arith, ap length e, length-extents (g ∷ fs)))

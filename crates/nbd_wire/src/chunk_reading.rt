@@ -2,10 +2,10 @@
 //! "Structured reply chunk message"). `None` says that no such text is there: other bytes are
 //! there, or too few.
 
-ghost use Rattle.std.specs.Prelude.{◌≡◌, ◌<◌, ◌^◌, ◌++◌, ℕ, Bool, List, length, IfSome, IfNone};
+ghost use Rattle.std.specs.Prelude.{◌≡◌, ◌≤◌, ◌<◌, ◌^◌, ◌++◌, ℕ, Bool, List, length, take, IfSome, IfNone};
 ghost use Rattle.nbd_wire.specs.Numbers.{bytes};
 ghost use Rattle.nbd_wire.specs.Chunks.{chunk};
-ghost use Rattle.nbd_wire.specs.Contexts.{context_code, context_data, extent_text};
+ghost use Rattle.nbd_wire.specs.Contexts.{FitExtents, context_code, context_data, extent_text, extents_text};
 ghost use Rattle.nbd_wire.specs.Received.{ReadIs};
 ghost use Rattle.nbd_wire.specs.ReceivedChunks.{ChunkIs, chunk_in, chunk_type_of, context_data_in, context_of, data_in, error_in, extent_in, hole_in, status_in};
 
@@ -235,6 +235,31 @@ pub fn read_extent(text: &[u8]) -> Option<((u32, u32), &[u8])>
         → IfSome result (λ r. (r.0.0 ≡ len) × (r.0.1 ≡ flags) × (r.1.now ≡ rest)) }
 {
     extent_at(text)
+}
+
+/// The number of extents in a text of extents only, which it writes to the front of `out`
+/// (`proto.md`, "NBD_REPLY_TYPE_BLOCK_STATUS"). `None` says that the text is no list of extents, or
+/// that `out` is too short for it.
+pub fn read_extents(text: &[u8], out: &mut [(u32, u32)]) -> Option<usize>
+    ensures found { IfSome result (λ count. text.now ≡ extents_text (take count out.new)) }
+    ensures none { IfNone result ((extents : List (ℕ × ℕ)) → length extents ≤ length out.old
+        → text.now ≡ extents_text extents → ⊥) }
+    ensures again { (extents : List (ℕ × ℕ)) → FitExtents extents → text.now ≡ extents_text extents
+        → IfSome result (λ count. (count ≡ length extents) × (take count out.new ≡ extents)) }
+    ensures len { length out.new ≡ length out.old }
+{
+    let mut rest = text;
+    let mut count = 0;
+    while !rest.is_empty() {
+        if count == out.len() {
+            return None;
+        }
+        let (extent, behind) = extent_at(rest)?;
+        out[count] = extent;
+        count += 1;
+        rest = behind;
+    }
+    Some(count)
 }
 
 #[tactic(auto, unfolding(crate::specs::ReceivedChunks::context_data_in))]

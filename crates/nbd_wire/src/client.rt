@@ -1,15 +1,16 @@
 //! Writers of the client's frames. Each writes at a place of a buffer, changes nothing else of it,
 //! and answers the place behind what it wrote.
 
-ghost use Rattle.std.specs.Prelude.{◌≡◌, ◌≤◌, ◌<◌, ◌+◌, ◌*◌, ◌^◌, [], length};
+ghost use Rattle.std.specs.Prelude.{◌≡◌, ◌≤◌, ◌<◌, ◌+◌, ◌*◌, ◌^◌, [], length, map};
 ghost use Rattle.std.specs.List.{flat_map};
 ghost use Rattle.nbd_wire.specs.declared.Kind.TheVariants.{Flags, Options, Requests};
 ghost use Rattle.nbd_wire.specs.declared.TheConstants.{MAX_OPTION, MAX_REQUEST};
 ghost use Rattle.nbd_wire.specs.Numbers.{bytes};
 ghost use Rattle.nbd_wire.specs.Grammar.{FitsRequest, IsFrame, client_flags, client_option, command, flags_value, option_text, payload_len, request_text};
-ghost use Rattle.nbd_wire.specs.Replies.{IsInfo, Puts, info_text};
+ghost use Rattle.nbd_wire.specs.Contexts.{IsQuery, query_text};
+ghost use Rattle.nbd_wire.specs.Replies.{IsInfo, Puts, info_text, server_data};
 
-use crate::writing::{put_bytes, put_u16, put_u32, put_u64};
+use crate::writing::{put_bytes, put_server_data, put_u16, put_u32, put_u64};
 use crate::{OPTION_MAGIC, REQUEST_MAGIC, Request};
 
 /// The client flags, 4 bytes: fixed newstyle, and whether the client wants no padding zeroes
@@ -87,6 +88,42 @@ pub fn put_info_option(out: &mut [u8], at: usize, option: u32, name: &[u8], type
     let after_name = put_bytes(out, after_len, name);
     let after_count = put_u16(out, after_name, types.len() as u16);
     put_types(out, after_count, types)
+}
+
+// Texts, each behind its length, one after the other.
+fn put_texts(out: &mut [u8], at: usize, texts: &[&[u8]]) -> usize
+    requires short { length (flat_map server_data (map (λ text. text.now) texts.now)) < 2 ^ 32 }
+    requires room { at + length (flat_map server_data (map (λ text. text.now) texts.now))
+        ≤ length out.old }
+    ensures bytes { Puts out.old at
+        (flat_map server_data (map (λ text. text.now) texts.now)) out.new result }
+    ensures len { length out.new ≡ length out.old }
+{
+    let mut end = at;
+    for text in texts {
+        end = put_server_data(out, end, text);
+    }
+    end
+}
+
+/// The data of LIST_META_CONTEXT or SET_META_CONTEXT: 4 bytes and the name of a volume, 4 bytes,
+/// and 4 bytes and its text for each query (`proto.md`, "NBD_OPT_SET_META_CONTEXT").
+pub fn put_query(out: &mut [u8], at: usize, name: &[u8], queries: &[&[u8]]) -> usize
+    requires short { length (query_text name.now (map (λ query. query.now) queries.now))
+        ≤ MAX_OPTION }
+    requires room { at + length (query_text name.now (map (λ query. query.now) queries.now))
+        ≤ length out.old }
+    ensures bytes { Puts out.old at
+        (query_text name.now (map (λ query. query.now) queries.now)) out.new result }
+    ensures query { let texts = map (λ query. query.now) queries.now in
+        IsQuery (query_text name.now texts) name.now texts }
+    ensures end { result
+        ≡ at + length (query_text name.now (map (λ query. query.now) queries.now)) }
+    ensures len { length out.new ≡ length out.old }
+{
+    let after_name = put_server_data(out, at, name);
+    let after_count = put_u32(out, after_name, queries.len() as u32);
+    put_texts(out, after_count, queries)
 }
 
 /// The fixed part of a request, 28 bytes (`proto.md`, "Request message"). What a WRITE writes

@@ -135,6 +135,9 @@ pub fn read_query(payload: &[u8]) -> Option<Query<'_>>
     ensures found { IfSome result (λ query. (queries : List (List ℕ)) × IsQuery payload.now query.name.now queries
         × (query.asks ≡ asks_for queries) × (query.lists ≡ lists queries) × (query.since.now ≡ since_of queries)) }
     ensures none { IfNone result ((name : List ℕ) (queries : List (List ℕ)) → IsQuery payload.now name queries → ⊥) }
+    ensures again { (name : List ℕ) (queries : List (List ℕ)) → IsQuery payload.now name queries
+        → IfSome result (λ query. (query.name.now ≡ name) × (query.asks ≡ asks_for queries)
+        × (query.lists ≡ lists queries) × (query.since.now ≡ since_of queries)) }
 {
     let (name, rest) = string_first(payload)?;
     let (count, text) = u32_first(rest)?;

@@ -16,11 +16,13 @@ mod replies;
 mod writing;
 
 pub use chunk_reading::{
-    Chunk, read_chunk, read_context_data, read_data, read_error, read_extent, read_hole,
-    read_status,
+    Chunk, read_chunk, read_context_data, read_data, read_error, read_extent, read_extents,
+    read_hole, read_status,
 };
 pub use chunks::{ChunkType, put_data_head, put_done_chunk, put_error_chunk, put_hole_chunk};
-pub use client::{put_client_flags, put_info_option, put_option, put_request, put_request_head};
+pub use client::{
+    put_client_flags, put_info_option, put_option, put_query, put_request, put_request_head,
+};
 pub use contexts::{
     MetaContext, Query, put_context_reply, put_extent, put_since_reply, put_status_head, read_query,
 };

@@ -174,7 +174,7 @@ pub fn put_block_size_info(
 }
 
 // The data of a reply SERVER: a name behind its length.
-fn put_server_data(out: &mut [u8], at: usize, name: &[u8]) -> usize
+pub(crate) fn put_server_data(out: &mut [u8], at: usize, name: &[u8]) -> usize
     requires short { length name.now < 2 ^ 32 }
     requires room { at + (4 + length name.now) ≤ length out.old }
     ensures bytes { Puts out.old at (server_data name.now) out.new result }
