@@ -104,11 +104,10 @@ fn a_context_since_a_volume_is_told_by_a_chunk_of_several(rt: HostRuntime) {
 
 #[test]
 fn queries_are_written_and_read(rt: HostRuntime) {
-    let mut data = [0xffu8; 39];
+    let mut data = [0xffu8; 38];
     let end = put_query(&mut data, 0, b"0", &[b"base:", b"thinpool:since:3"]);
-    let are_written = data
-        == *b"\0\0\0\x010\0\0\0\x02\0\0\0\x05base:\0\0\0\x10thinpool:since:3\xff";
-    let read = (queried(&data[..38]), since(&data[..38]));
+    let are_written = data == *b"\0\0\0\x010\0\0\0\x02\0\0\0\x05base:\0\0\0\x10thinpool:since:3";
+    let read = (queried(&data), since(&data));
     assert!(rt; (end, are_written) == (38, true));
     assert!(rt; read == (Some((1, false, true)), Some((1, b'3'))));
 }
