@@ -1,6 +1,6 @@
 use nbd_wire::{
-    MetaContext, OPTION_SET_META_CONTEXT, put_context_reply, put_extent, put_since_reply,
-    put_status_head, read_query,
+    MetaContext, OPTION_SET_META_CONTEXT, put_context_reply, put_extent, put_query,
+    put_since_reply, put_status_head, read_extents, read_query,
 };
 
 /// How long the name of a query is, and what it asks for.
@@ -100,4 +100,27 @@ fn a_context_since_a_volume_is_told_by_a_chunk_of_several(rt: HostRuntime) {
         status == *b"\x66\x8e\x33\xef\0\0\0\x05\0\0\0\0\0\0\0\x09\0\0\0\x14\0\0\0\x02\xff",
     );
     assert!(rt; (told, end, are_written) == (41, 24, (true, true)));
+}
+
+#[test]
+fn queries_are_written_and_read(rt: HostRuntime) {
+    let mut data = [0xffu8; 38];
+    let end = put_query(&mut data, 0, b"0", &[b"base:", b"thinpool:since:3"]);
+    let are_written = data == *b"\0\0\0\x010\0\0\0\x02\0\0\0\x05base:\0\0\0\x10thinpool:since:3";
+    let read = (queried(&data), since(&data));
+    assert!(rt; (end, are_written) == (38, true));
+    assert!(rt; read == (Some((1, false, true)), Some((1, b'3'))));
+}
+
+#[test]
+fn a_whole_list_of_extents_is_read(rt: HostRuntime) {
+    let text: &[u8] = b"\0\0\x10\0\0\0\0\x03\0\0\x02\0\0\0\0\0";
+    let mut extents = [(0, 0); 2];
+    let told = [
+        read_extents(b"", &mut extents),
+        read_extents(&text[..15], &mut extents),
+        read_extents(text, &mut extents[..1]),
+        read_extents(text, &mut extents),
+    ];
+    assert!(rt; (told, extents) == ([Some(0), None, None, Some(2)], [(4096, 3), (512, 0)]));
 }
