@@ -8,6 +8,7 @@ ghost use Rattle.tp_lock.specs.Framing.{given, passed};
 use crate::fetching::{Fetching, TakenBack};
 use crate::frames::Frames;
 use crate::polled::Polled;
+use nbd_session::give_back;
 use std::alloc::{AllocError, Global};
 use std::mem;
 use std::sync::atomic::{AtomicUsize, Ordering};
@@ -173,7 +174,7 @@ impl<'c, R: Threads> Ahead<'c, R> {
             rt,
             alloc: _,
             crew,
-            spare: _,
+            spare,
             under_way,
             late,
         } = self;
@@ -182,7 +183,8 @@ impl<'c, R: Threads> Ahead<'c, R> {
             fetching.end(rt);
         }
         if let Some(taken) = late {
-            taken.join(rt);
+            give_back(taken.join(rt));
         }
+        give_back(spare);
     }
 }

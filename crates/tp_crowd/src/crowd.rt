@@ -7,7 +7,7 @@ ghost use Rattle.tp_lock.specs.Framing.{set_in};
 ghost use Rattle.tp_lock.specs.Locked.{CameOf, IsFrom};
 ghost use Rattle.tp_crowd.specs.Guests.{IsVisit, has_memory};
 
-use nbd_session::Profile;
+use nbd_session::{Profile, give_back};
 use nbd_wire::MAX_FRAME;
 use std::alloc::{AllocError, Global};
 use std::marker::Brand;
@@ -22,6 +22,9 @@ use tp_msg::Managed;
 
 /// The most clients that are taken.
 const CLIENTS: u8 = 64;
+
+/// The most bytes that are read of a client at once, until a read has brought as many.
+const FIRST_READ: usize = 65_536;
 
 /// Who was refused memory or a thread, by the number of its session.
 pub(crate) type RefusedFlags = [AtomicBool; 64];
@@ -234,11 +237,12 @@ pub(crate) fn carry_over<D: Desk, S: Stream>(
     requires { number < 64 }
     ensures { Leads D.asks (λ asks did. IsVisit number profile asks did result) desk.old desk.new (S.calls stream.old) (S.calls stream.new) }
 {
-    let Ok(mut buffer) = zeroes(alloc, MAX_FRAME) else {
+    let Ok(mut buffer) = make_buffer(alloc) else {
         return false;
     };
     let mut out = Answers::new(alloc);
     let ending = carry(desk, number, profile, stream, &mut buffer, &mut out);
+    give_back(buffer);
     was_carried(ending)
 }
 
@@ -288,9 +292,11 @@ fn count_set(refused: &[bool; 64], came: u8) -> u64
     count
 }
 
-/// So many zero bytes.
-fn zeroes(alloc: Global, len: usize) -> Result<Vec<u8>, AllocError>
-    ensures { IfOk result (λ v. length v.items ≡ len) }
+/// A buffer for what a client sends, with memory for the longest frame. It is short at first.
+fn make_buffer(alloc: Global) -> Result<Vec<u8>, AllocError>
+    ensures { IfOk result (λ v. 0 < length v.items) }
 {
-    vec![in alloc; 0u8; len]
+    let mut buffer = Vec::with_capacity(alloc, MAX_FRAME)?;
+    buffer.resize(FIRST_READ, 0)?;
+    Ok(buffer)
 }

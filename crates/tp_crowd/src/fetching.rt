@@ -5,6 +5,7 @@ ghost use Rattle.tp_crowd.specs.Fetches.{IsFetched};
 
 use crate::frames::Frames;
 use crate::sockets::read_frames;
+use nbd_session::give_back;
 use std::alloc::Global;
 use std::io::{self, ErrorKind, Read};
 use std::net::TcpStream;
@@ -151,7 +152,7 @@ impl Fetching {
     /// Ends it: its thread makes no further read, and has ended when this returns.
     pub(crate) fn end<R: Threads>(self, rt: &R) {
         self.is_over.store(true, Ordering::SeqCst);
-        self.join(rt);
+        give_back(self.join(rt).bytes);
     }
 }
 

@@ -20,6 +20,13 @@ use Rattle.tp_hub.proofs.Hearing.{keeps_none}
 use Rattle.tp_hub.proofs.Taking.{brings_all, idle_is_free}
 
 module _ {D : Type 0} (view : View D) where
+  -- a step whose answer was put at a place
+  pub stepped_there : (o : Option Answered) (s new : State) (p q : D) (piece : List ℕ) (at : ℕ) (old part post : List ℕ) → at ≤ length old
+      → IfSome o (λ a. Advances view s p piece a.taken (take a.sent part) a.ended new q) → IfSome o (λ a. a.sent ≤ length part)
+      → IfSome o (λ a. (sent : List ℕ) × (length sent ≡ a.sent) × (take (at + a.sent) (take at old ++ (part ++ post)) ≡ take at old ++ sent) × Advances view s p piece a.taken sent a.ended new q)
+  stepped_there None s new p q piece at old part post le steps fits = tt
+  stepped_there (Some a) s new p q piece at old part post le steps fits = (take a.sent part, omega (arith, length-take a.sent part, fits), put_there at a.sent old part post le fits, steps)
+
   -- a READ or a BLOCK_STATUS whose answer was put at a place
   pub read_there : (o : Option Answered) (s : State) (p : D) (piece : List ℕ) (at : ℕ) (old part post : List ℕ) → at ≤ length old
       → IfSome o (λ a. Advances view s p piece a.taken (take a.sent part) a.ended s p) → IfSome o (λ a. (a.ended ≡ false) × (0 < a.taken) × (a.taken ≤ length piece)) → IfSome o (λ a. a.sent ≤ length part)

@@ -1,6 +1,6 @@
 //! What the hub answers.
 
-ghost use Rattle.std.specs.Prelude.{◌≡◌, ℕ, List, ◌+◌, ◌<◌, ◌≤◌, [], ◌∷◌, ◌++◌, length, take, false, None, IfSome, OnErr, OnOk, IsOk, vec_len, vec_capacity};
+ghost use Rattle.std.specs.Prelude.{◌≡◌, ℕ, List, ◌+◌, ◌<◌, ◌≤◌, [], ◌∷◌, ◌++◌, length, take, false, None, IfSome, IfOk, IfErr, OnErr, OnOk, IsOk, vec_len, vec_capacity};
 ghost use Rattle.nbd_session.specs.Clauses.{Advances, IsReady};
 ghost use Rattle.nbd_session.specs.Session.{is_at_work};
 ghost use Rattle.tp_hub.specs.Flushed.{EndsFlush};
@@ -10,7 +10,7 @@ ghost use Rattle.std.specs.List.{list_any};
 ghost use Rattle.tp_hub.specs.Carrying.{closes_in, is_close};
 ghost use Rattle.tp_hub.specs.Told.{Grows, HasRoom, IsFull, Lines, Says, all_sent, end_mark, len_of, sent_mark, told, total};
 
-use nbd_session::{Answered, MAX_ANSWER, Session};
+use nbd_session::{Answered, MAX_ANSWER, SHORT_ANSWER, Session, give_back};
 use std::alloc::{AllocError, Global};
 use std::marker::Model;
 use tp_model::{Cloned, Geometry, Refusal, SharedReads, Volumes};
@@ -33,10 +33,12 @@ pub enum Mark {
     Line { len: usize },
 }
 
-/// A list of answers. Their bytes stand end to end in one buffer, into which the pool reads.
-#[derive(Drop)]
+/// A list of answers. Their bytes stand end to end in one buffer, into which the pool reads. The
+/// buffer is filled with zeros as far as it was used up to now, within the memory that it has.
 pub struct Answers {
     bytes: Vec<u8>,
+    /// For how many bytes there is memory.
+    room: usize,
     used: usize,
     marks: Vec<Mark>,
 }
@@ -48,9 +50,21 @@ impl Model for Answers {
 
     ghost Value = { Told };
 
-    ghost view = { λ a. record { list = told a.marks.items (take a.used a.bytes.items); room = length a.bytes.items; marks = vec_capacity a.marks } };
+    ghost view = { λ a. record { list = told a.marks.items (take a.used a.bytes.items); room = a.room; marks = vec_capacity a.marks } };
 
-    ghost invariant = { λ a. (total a.marks.items ≡ a.used) × (a.used ≤ length a.bytes.items) × (length a.bytes.items ≤ MOST_BYTES) };
+    ghost invariant = { λ a. (total a.marks.items ≡ a.used) × (a.used ≤ length a.bytes.items) × (length a.bytes.items ≤ a.room) × (a.room ≤ MOST_BYTES) × (a.room ≤ vec_capacity a.bytes) };
+}
+
+impl Drop for Answers {
+    fn drop(self) {
+        let Answers {
+            bytes,
+            room: _,
+            used: _,
+            marks: _,
+        } = self;
+        give_back(bytes);
+    }
 }
 
 impl Answers {
@@ -60,6 +74,7 @@ impl Answers {
     {
         Answers {
             bytes: Vec::new(alloc),
+            room: 0,
             used: 0,
             marks: Vec::new(alloc),
         }
@@ -75,7 +90,10 @@ impl Answers {
         ensures full { OnErr result (IsFull self.new) }
         ensures there { HasRoom self.old → IsOk result }
     {
-        widen(&mut self.bytes, self.used)?;
+        match reserve(&mut self.bytes, self.room, self.used) {
+            Ok(room) => self.room = room,
+            Err(error) => return Err(error),
+        }
         lengthen(&mut self.marks)
     }
 
@@ -126,7 +144,7 @@ impl Answers {
             × Grows self.old self.new (said number sent ++ closed_if number result.ended) }
     {
         let at = self.used;
-        let step = step_at(session, pool, piece, &mut self.bytes, at);
+        let step = step_in(session, pool, piece, &mut self.bytes, at, self.room);
         self.used += step.sent;
         tell_sent(&mut self.marks, number, step.sent);
         tell_end(&mut self.marks, number, step.ended);
@@ -149,7 +167,7 @@ impl Answers {
         ensures none { result ≡ None → self.new ≡ self.old }
     {
         let at = self.used;
-        let Some(read) = read_at(session, pool, piece, &mut self.bytes, at) else {
+        let Some(read) = read_in(session, pool, piece, &mut self.bytes, at) else {
             return None;
         };
         self.used += read.sent;
@@ -175,7 +193,7 @@ impl Answers {
         ensures none { result ≡ None → (self.new ≡ self.old) × (session.new ≡ session.old) }
     {
         let at = self.used;
-        match end_at::<V>(session, geometry, piece, answer, &mut self.bytes, at) {
+        match end_in::<V>(session, geometry, piece, answer, &mut self.bytes, at) {
             None => None,
             Some(end) => {
                 self.used += end.sent;
@@ -248,31 +266,99 @@ fn add(marks: &mut Vec<Mark>, mark: Mark)
     let _ = marks.push(mark);
 }
 
-/// Puts bytes at a place where there is room for them.
-fn put_at(bytes: &mut Vec<u8>, at: usize, more: &[u8])
+/// Puts bytes over others, at a place.
+fn put_over(bytes: &mut Vec<u8>, at: usize, more: &[u8])
     requires { at + length more.now ≤ length bytes.old.items }
     ensures bytes { take (at + length more.now) bytes.new.items ≡ take at bytes.old.items ++ more.now }
     ensures len { length bytes.new.items ≡ length bytes.old.items }
+    ensures capacity { vec_capacity bytes.old ≤ vec_capacity bytes.new }
 {
     bytes[at..at + more.len()].copy_from_slice(more);
 }
 
-/// Takes a step whose answer is put at a place.
+/// Puts bytes at a place for which there is memory.
+fn put_at(bytes: &mut Vec<u8>, at: usize, more: &[u8])
+    requires inside { at ≤ length bytes.old.items }
+    requires room { at + length more.now ≤ vec_capacity bytes.old }
+    ensures bytes { take (at + length more.now) bytes.new.items ≡ take at bytes.old.items ++ more.now }
+    ensures fits { at + length more.now ≤ length bytes.new.items }
+    ensures most { (most : ℕ) → length bytes.old.items ≤ most → at + length more.now ≤ most → length bytes.new.items ≤ most }
+    ensures capacity { vec_capacity bytes.old ≤ vec_capacity bytes.new }
+{
+    widen(bytes, at + more.len());
+    put_over(bytes, at, more);
+}
+
+/// Takes a step whose answer is put at a place. None if there is no room for it, and then nothing
+/// was done.
 fn step_at<V: Cloned>(
     session: &mut Session,
     pool: &mut V,
     piece: &[u8],
     bytes: &mut [u8],
     at: usize,
-) -> Answered
+) -> Option<Answered>
     requires ready { IsReady session.old.phase (V.view.outline pool.old) (V.view.more pool.old) }
-    requires room { at + MAX_ANSWER ≤ length bytes.old }
-    ensures steps { (sent : List ℕ) × (length sent ≡ result.sent) × (take (at + result.sent) bytes.new ≡ take at bytes.old ++ sent)
-        × Advances V.view session.old pool.old piece.now result.taken sent result.ended session.new pool.new }
-    ensures fits { at + result.sent ≤ length bytes.new }
+    requires room { at + SHORT_ANSWER ≤ length bytes.old }
+    ensures steps { IfSome result (λ a. (sent : List ℕ) × (length sent ≡ a.sent) × (take (at + a.sent) bytes.new ≡ take at bytes.old ++ sent)
+        × Advances V.view session.old pool.old piece.now a.taken sent a.ended session.new pool.new) }
+    ensures fits { IfSome result (λ a. at + a.sent ≤ length bytes.new) }
+    ensures kept { take at bytes.new ≡ take at bytes.old }
+    ensures none { result ≡ None → (session.new ≡ session.old) × (pool.new ≡ pool.old) × (length bytes.old < at + MAX_ANSWER) }
     ensures len { length bytes.new ≡ length bytes.old }
 {
     session.step_into(pool, piece, &mut bytes[at..])
+}
+
+/// Takes a step whose answer is put at a place of a buffer, which is used as far as it has memory.
+fn step_wide<V: Cloned>(
+    session: &mut Session,
+    pool: &mut V,
+    piece: &[u8],
+    bytes: &mut Vec<u8>,
+    at: usize,
+    room: usize,
+) -> Answered
+    requires ready { IsReady session.old.phase (V.view.outline pool.old) (V.view.more pool.old) }
+    requires inside { at ≤ length bytes.old.items }
+    requires most { length bytes.old.items ≤ room }
+    requires room { at + MAX_ANSWER ≤ room }
+    requires capacity { room ≤ vec_capacity bytes.old }
+    ensures steps { (sent : List ℕ) × (length sent ≡ result.sent) × (take (at + result.sent) bytes.new.items ≡ take at bytes.old.items ++ sent)
+        × Advances V.view session.old pool.old piece.now result.taken sent result.ended session.new pool.new }
+    ensures fits { at + result.sent ≤ length bytes.new.items }
+    ensures most { length bytes.new.items ≤ room }
+    ensures capacity { room ≤ vec_capacity bytes.new }
+{
+    widen(bytes, room);
+    step_at(session, pool, piece, bytes, at).unwrap()
+}
+
+/// Takes a step whose answer is put at a place of a buffer that has memory for it.
+fn step_in<V: Cloned>(
+    session: &mut Session,
+    pool: &mut V,
+    piece: &[u8],
+    bytes: &mut Vec<u8>,
+    at: usize,
+    room: usize,
+) -> Answered
+    requires ready { IsReady session.old.phase (V.view.outline pool.old) (V.view.more pool.old) }
+    requires inside { at ≤ length bytes.old.items }
+    requires most { length bytes.old.items ≤ room }
+    requires room { at + MAX_ANSWER ≤ room }
+    requires capacity { room ≤ vec_capacity bytes.old }
+    ensures steps { (sent : List ℕ) × (length sent ≡ result.sent) × (take (at + result.sent) bytes.new.items ≡ take at bytes.old.items ++ sent)
+        × Advances V.view session.old pool.old piece.now result.taken sent result.ended session.new pool.new }
+    ensures fits { at + result.sent ≤ length bytes.new.items }
+    ensures most { length bytes.new.items ≤ room }
+    ensures capacity { room ≤ vec_capacity bytes.new }
+{
+    widen(bytes, at + SHORT_ANSWER);
+    match step_at(session, pool, piece, bytes, at) {
+        Some(step) => step,
+        None => step_wide(session, pool, piece, bytes, at, room),
+    }
 }
 
 /// Answers a READ by a shared read, or a BLOCK_STATUS by a shared walk, whose answer is put at a place.
@@ -284,7 +370,7 @@ fn read_at<V: Volumes, S: SharedReads<V>>(
     at: usize,
 ) -> Option<Answered>
     requires ready { IsReady session.now.phase (V.view.outline (S.of pool.now)) (V.view.more (S.of pool.now)) }
-    requires room { at + MAX_ANSWER ≤ length bytes.old }
+    requires room { at + SHORT_ANSWER ≤ length bytes.old }
     ensures reads { IfSome result (λ a. (sent : List ℕ) × (length sent ≡ a.sent) × (take (at + a.sent) bytes.new ≡ take at bytes.old ++ sent)
         × IsRead V.view session.now (S.of pool.now) piece.now a.taken sent) }
     ensures fits { IfSome result (λ a. at + a.sent ≤ length bytes.new) }
@@ -292,6 +378,30 @@ fn read_at<V: Volumes, S: SharedReads<V>>(
     ensures len { length bytes.new ≡ length bytes.old }
 {
     session.read_shared(pool, piece, &mut bytes[at..])
+}
+
+/// The same at a place of a buffer that has memory for it. A long answer needs a buffer that a step
+/// has widened before.
+fn read_in<V: Volumes, S: SharedReads<V>>(
+    session: &Session,
+    pool: &S,
+    piece: &[u8],
+    bytes: &mut Vec<u8>,
+    at: usize,
+) -> Option<Answered>
+    requires ready { IsReady session.now.phase (V.view.outline (S.of pool.now)) (V.view.more (S.of pool.now)) }
+    requires inside { at ≤ length bytes.old.items }
+    requires capacity { at + SHORT_ANSWER ≤ vec_capacity bytes.old }
+    ensures reads { IfSome result (λ a. (sent : List ℕ) × (length sent ≡ a.sent) × (take (at + a.sent) bytes.new.items ≡ take at bytes.old.items ++ sent)
+        × IsRead V.view session.now (S.of pool.now) piece.now a.taken sent) }
+    ensures fits { IfSome result (λ a. at + a.sent ≤ length bytes.new.items) }
+    ensures kept { take at bytes.new.items ≡ take at bytes.old.items }
+    ensures inside { at ≤ length bytes.new.items }
+    ensures most { (most : ℕ) → length bytes.old.items ≤ most → at + SHORT_ANSWER ≤ most → length bytes.new.items ≤ most }
+    ensures capacity { vec_capacity bytes.old ≤ vec_capacity bytes.new }
+{
+    widen(bytes, at + SHORT_ANSWER);
+    read_at(session, pool, piece, bytes, at)
 }
 
 /// Answers the FLUSH that a session would make next, whose answer is put at a place.
@@ -303,7 +413,7 @@ fn end_at<V: Volumes>(
     bytes: &mut [u8],
     at: usize,
 ) -> Option<Answered>
-    requires room { at + MAX_ANSWER ≤ length bytes.old }
+    requires room { at + SHORT_ANSWER ≤ length bytes.old }
     ensures ended { IfSome result (λ a. (sent : List ℕ) × (length sent ≡ a.sent) × (take (at + a.sent) bytes.new ≡ take at bytes.old ++ sent)
         × EndsFlush V.view geometry.now answer session.old piece.now a.taken sent session.new) }
     ensures inside { IfSome result (λ a. (a.taken ≤ length piece.now) × (is_at_work session.old.phase ≡ false → 0 < a.taken)) }
@@ -313,6 +423,31 @@ fn end_at<V: Volumes>(
     ensures len { length bytes.new ≡ length bytes.old }
 {
     session.end_flush::<V>(geometry, piece, answer, &mut bytes[at..])
+}
+
+/// The same at a place of a buffer that has memory for it.
+fn end_in<V: Volumes>(
+    session: &mut Session,
+    geometry: &Geometry,
+    piece: &[u8],
+    answer: Result<(), Refusal>,
+    bytes: &mut Vec<u8>,
+    at: usize,
+) -> Option<Answered>
+    requires inside { at ≤ length bytes.old.items }
+    requires capacity { at + SHORT_ANSWER ≤ vec_capacity bytes.old }
+    ensures ended { IfSome result (λ a. (sent : List ℕ) × (length sent ≡ a.sent) × (take (at + a.sent) bytes.new.items ≡ take at bytes.old.items ++ sent)
+        × EndsFlush V.view geometry.now answer session.old piece.now a.taken sent session.new) }
+    ensures taken { IfSome result (λ a. (a.taken ≤ length piece.now) × (is_at_work session.old.phase ≡ false → 0 < a.taken)) }
+    ensures fits { IfSome result (λ a. at + a.sent ≤ length bytes.new.items) }
+    ensures kept { take at bytes.new.items ≡ take at bytes.old.items }
+    ensures inside { at ≤ length bytes.new.items }
+    ensures most { (most : ℕ) → length bytes.old.items ≤ most → at + SHORT_ANSWER ≤ most → length bytes.new.items ≤ most }
+    ensures none { result ≡ None → session.new ≡ session.old }
+    ensures capacity { vec_capacity bytes.old ≤ vec_capacity bytes.new }
+{
+    widen(bytes, at + SHORT_ANSWER);
+    end_at::<V>(session, geometry, piece, answer, bytes, at)
 }
 
 /// Says that so many bytes are sent, if there are any.
@@ -339,26 +474,42 @@ fn tell_end(marks: &mut Vec<Mark>, session: u8, ended: bool)
     add(marks, Mark::End { session });
 }
 
-/// Zeros behind what is used, for one longest answer. The buffer grows once, to all that it may have, so who makes room before a lock is taken
-/// has none made under it.
-fn widen(bytes: &mut Vec<u8>, used: usize) -> Result<(), AllocError>
-    requires used { used ≤ length bytes.old.items }
-    requires most { length bytes.old.items ≤ MOST_BYTES }
-    ensures kept { take used bytes.new.items ≡ take used bytes.old.items }
-    ensures room { length bytes.old.items ≤ length bytes.new.items }
-    ensures most { length bytes.new.items ≤ MOST_BYTES }
-    ensures ok { OnOk result (used + MAX_ANSWER ≤ length bytes.new.items) }
-    ensures full { OnErr result (length bytes.new.items < used + MAX_ANSWER) }
-    ensures there { used + MAX_ANSWER ≤ length bytes.old.items → IsOk result }
+/// Zeros behind the bytes of a buffer, up to a length for which there is memory.
+fn widen(bytes: &mut Vec<u8>, len: usize)
+    requires room { len ≤ vec_capacity bytes.old }
+    ensures kept { (n : ℕ) → n ≤ length bytes.old.items → take n bytes.new.items ≡ take n bytes.old.items }
+    ensures long { len ≤ length bytes.new.items }
+    ensures longer { length bytes.old.items ≤ length bytes.new.items }
+    ensures most { (most : ℕ) → length bytes.old.items ≤ most → len ≤ most → length bytes.new.items ≤ most }
+    ensures capacity { vec_capacity bytes.old ≤ vec_capacity bytes.new }
 {
-    let len = bytes.len();
-    if len - used >= MAX_ANSWER {
-        return Ok(());
+    if bytes.len() < len {
+        let _ = bytes.resize(len, 0);
+    }
+}
+
+/// Memory for one longest answer behind what is used: for how many bytes there is memory then. It is
+/// asked for once, for all that the buffer may have, so who makes room before a lock is taken asks
+/// for none under it. None of it is touched.
+fn reserve(bytes: &mut Vec<u8>, room: usize, used: usize) -> Result<usize, AllocError>
+    requires used { used ≤ length bytes.old.items }
+    requires inside { length bytes.old.items ≤ room }
+    requires most { room ≤ MOST_BYTES }
+    requires capacity { room ≤ vec_capacity bytes.old }
+    ensures items { bytes.new.items ≡ bytes.old.items }
+    ensures ok { IfOk result (λ r. (used + MAX_ANSWER ≤ r) × (room ≤ r) × (r ≤ MOST_BYTES) × (r ≤ vec_capacity bytes.new)) }
+    ensures full { IfErr result (λ e. room < used + MAX_ANSWER) }
+    ensures there { used + MAX_ANSWER ≤ room → IsOk result }
+    ensures capacity { vec_capacity bytes.old ≤ vec_capacity bytes.new }
+{
+    if room - used >= MAX_ANSWER {
+        return Ok(room);
     }
     if used > MAX_ANSWER {
         return Err(AllocError);
     }
-    bytes.resize(len.max(MOST_BYTES), 0)
+    bytes.reserve_exact(MOST_BYTES - bytes.len())?;
+    Ok(MOST_BYTES)
 }
 
 /// Room for two marks more.

@@ -133,6 +133,17 @@ fn hand<D: Desk, S: Stream>(
     None
 }
 
+/// Zeros behind the bytes of a buffer that a read has filled, as far as it has memory.
+fn widen_if_full(buffer: &mut Vec<u8>, count: usize)
+    requires { 0 < length buffer.old.items }
+    ensures { 0 < length buffer.new.items }
+{
+    let room = buffer.capacity();
+    if count == buffer.len() && count < room {
+        let _ = buffer.resize(room, 0);
+    }
+}
+
 /// Reads once, and asks and writes what that leads to. None where the client goes on.
 fn read_once<D: Desk, S: Stream>(
     desk: &mut D,
@@ -146,14 +157,18 @@ fn read_once<D: Desk, S: Stream>(
     requires empty { out.old.list ≡ [] }
     requires fits { HasRoom out.old }
     ensures went { (xs : List Exchange) × AreAsked D.asks desk.old xs desk.new × Makes (S.calls stream.old) (S.calls stream.new) (λ did. GoesOnOrEnds number xs did result) }
-    ensures room { length buffer.new.items ≡ length buffer.old.items }
+    ensures room { 0 < length buffer.new.items }
     ensures empty { out.new.list ≡ [] }
     ensures fits { HasRoom out.new }
     ensures wide { out.old.room ≤ out.new.room }
     ensures long { out.old.marks ≤ out.new.marks }
 {
     match stream.receive(buffer) {
-        Received::Got(count) => hand(desk, number, &buffer[..count], stream, out),
+        Received::Got(count) => {
+            let ending = hand(desk, number, &buffer[..count], stream, out);
+            widen_if_full(buffer, count);
+            ending
+        }
         Received::NotNow => None,
         Received::End => Some(Carried::EndOfInput),
         Received::Broken => Some(Carried::InputFailed),
@@ -215,8 +230,8 @@ fn hang_up<D: Desk>(desk: &mut D, number: u8, ending: Carried, out: &mut Answers
 /// Carries a client: opens a session with its profile, asks what is read, in order and once, writes and flushes the answers of each ask before the next one, and at the end has
 /// the session leave, unless it ended before. Where the stream failed, what went out is a beginning of the answers.
 ///
-/// Room for one longest answer is made first, so that each ask takes something and the client's end is told for certain. The buffer keeps all
-/// room that it had or got.
+/// Room for one longest answer is made first, so that each ask takes something and the client's end is told for certain. `out` keeps all
+/// room that it had or got. When a read fills the buffer, it grows to all the memory that it has.
 pub fn carry<D: Desk, S: Stream>(
     desk: &mut D,
     number: u8,

@@ -2,7 +2,7 @@ ghost use Rattle.std.specs.Prelude.{◌≡◌, ◌≤◌, [], IfOk, length};
 ghost use Rattle.nbd_session.specs.Clauses.{HoldsBeside};
 
 use crate::table::Table;
-use nbd_session::{MAX_ANSWER, Phase, Profile, Session, feed};
+use nbd_session::{MAX_ANSWER, Phase, Profile, SHORT_ANSWER, Session, feed};
 use std::alloc::{AllocError, Global};
 use tp_model::{Cloned, DevId, Geometry, Refusal};
 
@@ -402,6 +402,7 @@ fn zeroes(alloc: Global, len: usize) -> Result<Vec<u8>, AllocError>
 }
 
 /// What a session puts into a buffer of so many bytes that hears the client flags and one option.
+/// `Memory` if the buffer has no room for the answer.
 fn put<V: Cloned>(
     alloc: Global,
     pool: &mut V,
@@ -409,20 +410,31 @@ fn put<V: Cloned>(
     room: usize,
 ) -> Result<(Vec<u8>, usize), Refusal>
     requires ready { HoldsBeside [] (V.view.outline pool.old).holds }
-    requires room { MAX_ANSWER ≤ room }
+    requires room { SHORT_ANSWER ≤ room }
 {
     let Ok(mut out) = zeroes(alloc, room) else {
         return Err(Refusal::Memory);
     };
     let mut session = Session::open(alloc, Profile::Strict)?;
-    let flags = session.step_into(pool, text, &mut out);
-    let option = session.step_into(pool, &text[flags.taken..], &mut out);
+    let Some(flags) = session.step_into(pool, text, &mut out) else {
+        return Err(Refusal::Memory);
+    };
+    let Some(option) = session.step_into(pool, &text[flags.taken..], &mut out) else {
+        return Err(Refusal::Memory);
+    };
     session.leave(pool);
     Ok((out, option.sent))
 }
 
 /// The same over two volumes from an id on.
-fn put_in(alloc: Global, first: u32, text: &[u8]) -> Result<(Vec<u8>, usize), Refusal> {
+fn put_in(
+    alloc: Global,
+    first: u32,
+    text: &[u8],
+    room: usize,
+) -> Result<(Vec<u8>, usize), Refusal>
+    requires { SHORT_ANSWER ≤ room }
+{
     let geometry = Geometry::new(128, 16, 2048, 4)?;
     let mut table = Table {
         geometry,
@@ -430,7 +442,7 @@ fn put_in(alloc: Global, first: u32, text: &[u8]) -> Result<(Vec<u8>, usize), Re
         count: 2,
         blocks: Some(16),
     };
-    put(alloc, &mut table, text, MAX_ANSWER)
+    put(alloc, &mut table, text, room)
 }
 
 /// Whether these bytes were put into a buffer, or this refused.
@@ -444,8 +456,18 @@ fn is_put(told: Result<(Vec<u8>, usize), Refusal>, wanted: &[u8]) -> Result<bool
 #[test]
 fn an_answer_is_put_into_a_given_buffer(rt: HostRuntime) {
     let put = is_put(
-        put_in(rt.alloc(), 9, ABORT),
+        put_in(rt.alloc(), 9, ABORT, SHORT_ANSWER),
         b"\0\x03\xe8\x89\x04\x55\x65\xa9\0\0\0\x02\0\0\0\x01\0\0\0\0",
     );
     assert!(rt; put == Ok(true));
+}
+
+#[test]
+fn only_a_long_buffer_has_room_for_a_list(rt: HostRuntime) {
+    let short = is_put(put_in(rt.alloc(), 9, LIST, SHORT_ANSWER), b"");
+    let list = b"\0\x03\xe8\x89\x04\x55\x65\xa9\0\0\0\x03\0\0\0\x02\0\0\0\x05\0\0\0\x019\
+\0\x03\xe8\x89\x04\x55\x65\xa9\0\0\0\x03\0\0\0\x02\0\0\0\x06\0\0\0\x0210\
+\0\x03\xe8\x89\x04\x55\x65\xa9\0\0\0\x03\0\0\0\x01\0\0\0\0";
+    let long = is_put(put_in(rt.alloc(), 9, LIST, MAX_ANSWER), list);
+    assert!(rt; (short, long) == (Err(Refusal::Memory), Ok(true)));
 }

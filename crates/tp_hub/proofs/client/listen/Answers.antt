@@ -7,7 +7,7 @@ loop-turn-init g c = record { room = c.requires.room; empty = c.requires.empty; 
 
 pub loop-turn-preserved : goal.loop-turn-preserved
 loop-turn-preserved g c = record {
-  room = omega (arith, c.read_once.ensures.room, c.loop-turn.invariant.room);
+  room = c.read_once.ensures.room;
   empty = c.read_once.ensures.empty;
   fits = c.read_once.ensures.fits;
   wide = omega (arith, c.loop-turn.invariant.wide, c.read_once.ensures.wide);

@@ -6,10 +6,10 @@ use Rattle.tp_hub.proofs.answers.Answers.marks.Goals as goal
 
 pub returns-clause-says : goal.returns-clause-says
 returns-clause-says c = ap (λ (m : List Mark). told m (all_sent c.args.self.now.list)) c.as_slice.ensures.value
-    ∙ marks_say c.args.self.now c.self.inside.marks.items c.self.inside.used c.self.inside.bytes.items _ c.self.view_is c.self.invariant
+    ∙ marks_say c.args.self.now c.self.inside.marks.items c.self.inside.used c.self.inside.bytes.items _ _ _ c.self.view_is c.self.invariant
 
 pub returns-clause-fits : goal.returns-clause-fits
-returns-clause-fits c = ap total c.as_slice.ensures.value ∙ marks_fit c.args.self.now c.self.inside.marks.items c.self.inside.used c.self.inside.bytes.items _ c.self.view_is c.self.invariant
+returns-clause-fits c = ap total c.as_slice.ensures.value ∙ marks_fit c.args.self.now c.self.inside.marks.items c.self.inside.used c.self.inside.bytes.items _ _ _ c.self.view_is c.self.invariant
 
 pub returns-clause-count : goal.returns-clause-count
-returns-clause-count c = ap length c.as_slice.ensures.value ∙ shown_marks c.args.self.now c.self.inside.marks.items c.self.inside.used c.self.inside.bytes.items _ c.self.view_is
+returns-clause-count c = ap length c.as_slice.ensures.value ∙ shown_marks c.args.self.now c.self.inside.marks.items c.self.inside.used c.self.inside.bytes.items _ _ c.self.view_is

@@ -1,48 +1,44 @@
-use Rattle.std.proofs.Common.{◌∙◌, ◌+◌, ◌++◌, ◌≤◌, ℕ, List, length, ap, subst, sym, false, arith, append-nil}
+use Rattle.std.proofs.Common.{◌∙◌, ◌+◌, ◌++◌, ap, sym, false, arith, append-nil}
 use Rattle.nbd_session.specs.declared.answer.TheConstants.{MAX_ANSWER}
-use Rattle.tp_hub.specs.declared.answers.TheConstants.{MOST_BYTES}
 use Rattle.tp_hub.specs.Told.{end_mark, sent_mark}
-use Rattle.tp_hub.proofs.Telling.{adds, back_fits, back_kept, back_length, back_most, back_put, given_back, has_bytes, has_places, step_told, step_total, still_fits, still_inside, still_shown}
+use Rattle.tp_hub.proofs.Telling.{adds, has_bytes, has_places, step_told, step_total, still_fits, still_inside, still_shown}
 use Rattle.tp_hub.proofs.answers.Answers.read_shared.Goals as goal
 
-pub read_at-requires-clause-room : goal.read_at-requires-clause-room
-read_at-requires-clause-room g c =
-    subst (λ (bytes : List ℕ). c.self.inside.used + MAX_ANSWER ≤ length bytes) (sym c.deref_mut.ensures.value)
-    (has_bytes c.args.self.now c.self.inside.marks.items c.self.inside.used c.self.inside.bytes.items _ MAX_ANSWER c.self.view_is c.self.invariant c.requires.room.bytes)
+pub read_in-requires-clause-capacity : goal.read_in-requires-clause-capacity
+read_in-requires-clause-capacity g c =
+    let b = has_bytes c.args.self.now c.self.inside.marks.items c.self.inside.used c.self.inside.bytes.items _ _ _ MAX_ANSWER c.self.view_is c.self.invariant c.requires.room.bytes in
+    omega (arith, b, c.self.invariant.4)
 
 pub invariant_of-self : goal.invariant_of-self
 invariant_of-self g c =
-    let len = back_length c.self.inside.bytes.len c.self.inside.bytes.items c.deref_mut.result.now c.read_at.new.bytes c.deref_mut.ensures.value c.self.inside.bytes.ok.0 c.read_at.ensures.len in
-    still_inside c.self.inside.marks.items c.self.inside.used c.self.inside.bytes.items (given_back c.self.inside.bytes.len c.read_at.new.bytes c.self.inside.bytes.items) c.self.invariant len
+    let b = has_bytes c.args.self.now c.self.inside.marks.items c.self.inside.used c.self.inside.bytes.items _ _ _ MAX_ANSWER c.self.view_is c.self.invariant c.requires.room.bytes in
+    let e = c.read_in.ensures in
+    still_inside c.self.inside.marks.items c.self.inside.used c.self.inside.bytes.items c.read_in.new.bytes.items _ _ _ c.self.invariant e.inside (e.most c.self.inside.room c.self.invariant.2 (omega (arith, b))) (omega (arith, e.capacity, c.self.invariant.4))
 
 pub returns-in_default-clause-none : goal.returns-in_default-clause-none
-returns-in_default-clause-none g c none =
-    let kept = back_kept c.self.inside.bytes.len c.self.inside.bytes.items c.deref_mut.result.now c.read_at.new.bytes c.deref_mut.ensures.value c.self.inside.bytes.ok.0 c.read_at.ensures.len c.self.inside.used c.read_at.ensures.kept in
-    let len = back_length c.self.inside.bytes.len c.self.inside.bytes.items c.deref_mut.result.now c.read_at.new.bytes c.deref_mut.ensures.value c.self.inside.bytes.ok.0 c.read_at.ensures.len in
-    still_shown c.args.self.now c.self.inside.marks.items c.self.inside.used c.self.inside.bytes.items (given_back c.self.inside.bytes.len c.read_at.new.bytes c.self.inside.bytes.items) _ c.self.view_is kept len
+returns-in_default-clause-none g c none = still_shown c.args.self.now c.self.inside.marks.items c.self.inside.used c.self.inside.bytes.items c.read_in.new.bytes.items _ _ c.self.view_is c.read_in.ensures.kept
 
 pub tell_sent-requires : goal.tell_sent-requires
-tell_sent-requires g c = let p = has_places c.args.self.now c.self.inside.marks.items c.self.inside.used c.self.inside.bytes.items _ 2 c.self.view_is c.requires.room.marks in omega (arith, p, c.self.inside.marks.ok.0)
+tell_sent-requires g c = let p = has_places c.args.self.now c.self.inside.marks.items c.self.inside.used c.self.inside.bytes.items _ _ 2 c.self.view_is c.requires.room.marks in omega (arith, p, c.self.inside.marks.ok.0)
 
 pub invariant_of-self-2 : goal.invariant_of-self-2
 invariant_of-self-2 g c =
     let sent = sent_mark c.args.number c.in-Some.read.sent in
     let none = end_mark c.args.number false in
-    let fits = back_fits c.self.inside.bytes.len c.self.inside.bytes.items c.deref_mut.result.now c.read_at.new.bytes c.deref_mut.ensures.value c.self.inside.bytes.ok.0 c.read_at.ensures.len (c.self.inside.used + c.in-Some.read.sent) c.in-Some.ensures.fits in
-    let most = back_most c.self.inside.bytes.len c.self.inside.bytes.items c.deref_mut.result.now c.read_at.new.bytes c.deref_mut.ensures.value c.self.inside.bytes.ok.0 c.read_at.ensures.len MOST_BYTES c.self.invariant.2 in
-    still_fits c.self.inside.marks.items (sent ++ none) c.tell_sent.new.marks.items c.self.inside.used (c.self.inside.used + c.in-Some.read.sent) c.self.inside.bytes.items (given_back c.self.inside.bytes.len c.read_at.new.bytes c.self.inside.bytes.items) c.self.invariant
-    (c.tell_sent.ensures.items ∙ ap (λ l. c.self.inside.marks.items ++ l) (sym (append-nil sent))) (omega (arith, step_total c.args.number c.in-Some.read.sent false)) fits most
+    let b = has_bytes c.args.self.now c.self.inside.marks.items c.self.inside.used c.self.inside.bytes.items _ _ _ MAX_ANSWER c.self.view_is c.self.invariant c.requires.room.bytes in
+    let e = c.read_in.ensures in
+    still_fits c.self.inside.marks.items (sent ++ none) c.tell_sent.new.marks.items c.self.inside.used (c.self.inside.used + c.in-Some.read.sent) c.self.inside.bytes.items c.read_in.new.bytes.items _ _ _ c.self.invariant
+    (c.tell_sent.ensures.items ∙ ap (λ l. c.self.inside.marks.items ++ l) (sym (append-nil sent))) (omega (arith, step_total c.args.number c.in-Some.read.sent false)) c.in-Some.ensures.fits
+    (e.most c.self.inside.room c.self.invariant.2 (omega (arith, b))) (omega (arith, e.capacity, c.self.invariant.4))
 
 pub returns-clause-read : goal.returns-clause-read
 returns-clause-read g c =
     let sent = sent_mark c.args.number c.in-Some.read.sent in
     let none = end_mark c.args.number false in
-    let did = c.in-Some.ensures.reads in
-    let put = back_put c.self.inside.bytes.len c.self.inside.bytes.items c.deref_mut.result.now c.read_at.new.bytes c.deref_mut.ensures.value c.self.inside.bytes.ok.0 c.read_at.ensures.len c.self.inside.used (c.self.inside.used + c.in-Some.read.sent) did.0 did.2 in
-    let len = back_length c.self.inside.bytes.len c.self.inside.bytes.items c.deref_mut.result.now c.read_at.new.bytes c.deref_mut.ensures.value c.self.inside.bytes.ok.0 c.read_at.ensures.len in (
+    let did = c.in-Some.ensures.reads in (
       did.0,
       did.3,
-      adds c.args.self.now c.self.inside.marks.items (sent ++ none) c.tell_sent.new.marks.items c.self.inside.used (c.self.inside.used + c.in-Some.read.sent) c.self.inside.bytes.items (given_back c.self.inside.bytes.len c.read_at.new.bytes c.self.inside.bytes.items) did.0 _ _ _ c.self.view_is c.self.invariant
-          (c.tell_sent.ensures.items ∙ ap (λ l. c.self.inside.marks.items ++ l) (sym (append-nil sent))) put len c.tell_sent.ensures.capacity
+      adds c.args.self.now c.self.inside.marks.items (sent ++ none) c.tell_sent.new.marks.items c.self.inside.used (c.self.inside.used + c.in-Some.read.sent) c.self.inside.bytes.items c.read_in.new.bytes.items did.0 _ _ _ _ _ c.self.view_is c.self.invariant
+          (c.tell_sent.ensures.items ∙ ap (λ l. c.self.inside.marks.items ++ l) (sym (append-nil sent))) did.2 c.tell_sent.ensures.capacity
           (step_told c.args.number c.in-Some.read.sent did.0 false did.1),
     )

@@ -4,18 +4,18 @@ use Rattle.tp_hub.proofs.Telling.{adds, has_bytes, has_places, one_sent, still_f
 use Rattle.tp_hub.proofs.answers.Answers.say.Goals as goal
 
 pub add-requires : goal.add-requires
-add-requires c = let p = has_places c.args.self.now c.self.inside.marks.items c.self.inside.used c.self.inside.bytes.items _ 1 c.self.view_is (omega (arith, c.requires.marks)) in omega (arith, p, c.self.inside.marks.ok.0)
+add-requires c = let p = has_places c.args.self.now c.self.inside.marks.items c.self.inside.used c.self.inside.bytes.items _ _ 1 c.self.view_is (omega (arith, c.requires.marks)) in omega (arith, p, c.self.inside.marks.ok.0)
 
 pub invariant_of-self : goal.invariant_of-self
 invariant_of-self c =
-    let b = has_bytes c.args.self.now c.self.inside.marks.items c.self.inside.used c.self.inside.bytes.items _ _ c.self.view_is c.self.invariant c.requires.bytes in
-    still_fits c.self.inside.marks.items (Sent c.args.session (length c.args.bytes.now) ∷ []) _ c.self.inside.used (c.self.inside.used + length c.args.bytes.now) c.self.inside.bytes.items c.put_at.new.bytes.items c.self.invariant c.add.ensures.items
-    (omega arith) (omega (arith, b, c.put_at.ensures.len)) (omega (arith, c.put_at.ensures.len, c.self.invariant.2))
+    let b = has_bytes c.args.self.now c.self.inside.marks.items c.self.inside.used c.self.inside.bytes.items _ _ _ _ c.self.view_is c.self.invariant c.requires.bytes in
+    still_fits c.self.inside.marks.items (Sent c.args.session (length c.args.bytes.now) ∷ []) _ c.self.inside.used (c.self.inside.used + length c.args.bytes.now) c.self.inside.bytes.items c.put_at.new.bytes.items _ _ _ c.self.invariant c.add.ensures.items
+    (omega arith) c.put_at.ensures.fits (c.put_at.ensures.most c.self.inside.room c.self.invariant.2 b) (omega (arith, c.put_at.ensures.capacity, c.self.invariant.4))
 
 pub returns : goal.returns
 returns c =
-    adds c.args.self.now c.self.inside.marks.items (Sent c.args.session (length c.args.bytes.now) ∷ []) c.add.new.marks.items c.self.inside.used (c.self.inside.used + length c.args.bytes.now) c.self.inside.bytes.items c.put_at.new.bytes.items c.args.bytes.now _ _ _
-    c.self.view_is c.self.invariant c.add.ensures.items c.put_at.ensures.bytes c.put_at.ensures.len c.add.ensures.capacity (one_sent c.args.session c.args.bytes.now (length c.args.bytes.now) refl)
+    adds c.args.self.now c.self.inside.marks.items (Sent c.args.session (length c.args.bytes.now) ∷ []) c.add.new.marks.items c.self.inside.used (c.self.inside.used + length c.args.bytes.now) c.self.inside.bytes.items c.put_at.new.bytes.items c.args.bytes.now _ _ _ _ _
+    c.self.view_is c.self.invariant c.add.ensures.items c.put_at.ensures.bytes c.add.ensures.capacity (one_sent c.args.session c.args.bytes.now (length c.args.bytes.now) refl)
 
-pub put_at-requires : goal.put_at-requires
-put_at-requires c = has_bytes c.args.self.now c.self.inside.marks.items c.self.inside.used c.self.inside.bytes.items _ (length c.args.bytes.now) c.self.view_is c.self.invariant c.requires.bytes
+pub put_at-requires-clause-room : goal.put_at-requires-clause-room
+put_at-requires-clause-room c = let b = has_bytes c.args.self.now c.self.inside.marks.items c.self.inside.used c.self.inside.bytes.items _ _ _ (length c.args.bytes.now) c.self.view_is c.self.invariant c.requires.bytes in omega (arith, b, c.self.invariant.4)
