@@ -9,7 +9,7 @@ TAKEN = b"thinpool: 14 Exists\n"
 
 # The words behind the image, and the sizes that are printed.
 SIZES = [
-    (["--size", "100G", "--volume-size", "40G", "--volumes", "20"], b"512 163840 54241 409600\n"),
+    (["--size", "100G", "--volume-size", "40G", "--volumes", "20"], b"512 163840 53441 409600\n"),
     (["--size", "1.5M", "--volume-size", "2MiB", "--volumes", "2", "--block-size", "256K"], b"512 8 1032 6\n"),
     (["--size", "1M", "--volume-size", "0.5T", "--volumes", "2", "--block-size", "1048576"], b"2048 524288 1032 1\n"),
 ]
@@ -48,6 +48,7 @@ HELD = [
 
 
 def creating(ground):
+    """`create`: which sizes it takes, which number a refusal names, and which files it overwrites."""
     for words, sizes in SIZES:
         yield f"create {' '.join(words)}", partial(is_made, ground, words, sizes)
     for size, told in MISUSED:
