@@ -8,9 +8,18 @@ use std::io::{self, ErrorKind};
 use tp_disk::{OpenError, Trouble};
 use tp_model::Refusal;
 use tp_sizing::Unfit;
-use tp_words::{Image, Sizes, Task};
+use tp_words::{Image, Sizes, Task, Wanted};
 
 const SECTOR: u64 = 512;
+
+/// The largest data block, in bytes.
+const LARGEST_BLOCK: u64 = 1_048_576;
+
+/// The most data blocks that a pool may have.
+const MOST_DATA_BLOCKS: u64 = 1_048_576;
+
+/// The most data blocks that a volume may have.
+const MOST_VIRTUAL_BLOCKS: u64 = 16_777_216;
 
 /// The longest message, in bytes.
 const LONGEST: usize = 256;
@@ -124,7 +133,7 @@ impl Display for Explanation<'_> {
             Cause::Declined => write!(f, "{image} is unchanged"),
             Cause::Small { sectors, wanted } => explain_size(image, sectors, wanted, f),
             Cause::Taken => explain_taken(image, f),
-            Cause::Unfit(unfit) => explain_unfit(&unfit, f),
+            Cause::Unfit(unfit) => explain_unfit(&self.task, &unfit, f),
         }
     }
 }
@@ -166,7 +175,7 @@ fn explain_output<W: fmt::Write>(
     }
 }
 
-/// Explains that a device holds data which `format` overwrites only with `--overwrite`.
+/// Explains that an image holds data which is overwritten only with `--overwrite`.
 fn explain_taken<W: fmt::Write>(image: &str, f: &mut Formatter<W>) -> fmt::Result {
     write!(
         f,
@@ -246,16 +255,56 @@ fn explain_size<W: fmt::Write>(
 }
 
 /// Explains why no pool has the requested sizes.
-fn explain_unfit<W: fmt::Write>(unfit: &Unfit, f: &mut Formatter<W>) -> fmt::Result {
+fn explain_unfit<W: fmt::Write>(
+    task: &Task<'_>,
+    unfit: &Unfit,
+    f: &mut Formatter<W>,
+) -> fmt::Result {
+    let Task::Create { wanted, .. } = *task else {
+        return f.write_str("a size is out of range");
+    };
     match *unfit {
-        Unfit::OutOfRange => f.write_str(
-            "--size must be 1 byte to 1 TiB, --volume-size 1 byte to 16 TiB, and --volumes at least 1",
-        ),
+        Unfit::OutOfRange => explain_range(&wanted, f),
         Unfit::TooMany { fit } => write!(
             f,
-            "the metadata of these volumes needs more than 65536 blocks, even with data blocks of 1 MiB; {fit} volumes fit"
+            "--volumes is {}: the metadata of these volumes needs more than 65536 blocks, with data blocks of {} bytes; {fit} volumes fit",
+            wanted.volumes,
+            largest_block(&wanted)
         ),
     }
+}
+
+/// Returns the size of the largest data blocks that a pool may have, in bytes.
+fn largest_block(wanted: &Wanted) -> u64 {
+    wanted.block_size.unwrap_or(LARGEST_BLOCK)
+}
+
+/// Explains which number of a new pool is out of range.
+fn explain_range<W: fmt::Write>(wanted: &Wanted, f: &mut Formatter<W>) -> fmt::Result {
+    let block = largest_block(wanted);
+    if !matches!(block, 65_536 | 131_072 | 262_144 | 524_288 | 1_048_576) {
+        return write!(
+            f,
+            "--block-size is {block} bytes: it must be 64K, 128K, 256K, 512K or 1M"
+        );
+    }
+    let most = block.saturating_mul(MOST_DATA_BLOCKS);
+    if !(1..=most).contains(&wanted.size) {
+        return write!(
+            f,
+            "--size is {} bytes: it must be in 1..={most} with data blocks of {block} bytes",
+            wanted.size
+        );
+    }
+    let most = block.saturating_mul(MOST_VIRTUAL_BLOCKS);
+    if !(1..=most).contains(&wanted.volume_size) {
+        return write!(
+            f,
+            "--volume-size is {} bytes: it must be in 1..={most} with data blocks of {block} bytes",
+            wanted.volume_size
+        );
+    }
+    write!(f, "--volumes is {}: it must be at least 1", wanted.volumes)
 }
 
 /// Explains an error number for this task.

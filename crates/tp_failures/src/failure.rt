@@ -57,7 +57,8 @@ pub enum Cause {
     Declined,
     /// A device has `sectors` sectors, and the pool needs `wanted`.
     Small { sectors: u64, wanted: u64 },
-    /// A device contains data that is not a pool, and `--overwrite` was not given.
+    /// A device, or a file for `create`, contains data that is not a pool, and `--overwrite` was not
+    /// given.
     Taken,
     /// No pool has the requested sizes.
     Unfit(Unfit),
@@ -94,7 +95,7 @@ impl Failure {
         }
     }
 
-    /// The error of a device with data that is not a pool.
+    /// The error of a device or file with data that is not a pool.
     pub fn taken() -> Failure
         ensures { result.refusal ≡ Refusal.Exists }
     {
@@ -114,10 +115,10 @@ impl Failure {
         }
     }
 
-    /// Returns whether the explanation has the number of volumes that fit.
+    /// Returns whether the explanation has a number that the error does not name.
     pub fn tells_what_fits(&self) -> bool {
         match self.cause {
-            Cause::Unfit(Unfit::TooMany { .. }) => true,
+            Cause::Unfit(_) => true,
             // A number does not name the group.
             Cause::Group => true,
             _ => false,

@@ -266,13 +266,28 @@ const CREATED: &[Call] = &[
         "create",
         &["--size", "10G", "--volume-size", "100G", "--volumes", "400"],
         1,
-        "thinpool: 1 BadGeometry\nthinpool: the metadata of these volumes needs more than 65536 blocks, even with data blocks of 1 MiB; 397 volumes fit\n",
+        "thinpool: 1 BadGeometry\nthinpool: --volumes is 400: the metadata of these volumes needs more than 65536 blocks, with data blocks of 1048576 bytes; 397 volumes fit\n",
     ),
     (
         "create",
         &["--size", "2T", "--volume-size", "1G", "--volumes", "1"],
         1,
-        "thinpool: 1 BadGeometry\n",
+        "thinpool: 1 BadGeometry\nthinpool: --size is 2199023255552 bytes: it must be in 1..=1099511627776 with data blocks of 1048576 bytes\n",
+    ),
+    (
+        "create",
+        &[
+            "--size",
+            "1M",
+            "--volume-size",
+            "1M",
+            "--volumes",
+            "1",
+            "--block-size",
+            "96K",
+        ],
+        1,
+        "thinpool: 1 BadGeometry\nthinpool: --block-size is 98304 bytes: it must be 64K, 128K, 256K, 512K or 1M\n",
     ),
     (
         "status",
@@ -285,6 +300,21 @@ const CREATED: &[Call] = &[
         &["--size", "65537", "--volume-size", "1M", "--volumes", "600"],
         0,
         "128 16 1140 2\n0 9/1140 0/2 - rw no_discard_passdown error_if_no_space - 512\n",
+    ),
+    (
+        "create",
+        &[
+            "--size",
+            "1.5M",
+            "--volume-size",
+            "2MiB",
+            "--volumes",
+            "2",
+            "--block-size",
+            "256K",
+        ],
+        0,
+        "512 8 1032 6\n0 9/1032 0/6 - rw no_discard_passdown error_if_no_space - 512\n",
     ),
 ];
 

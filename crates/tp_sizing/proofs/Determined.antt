@@ -5,7 +5,7 @@ use Rattle.tp_model.specs.Geometry.{Geometry, IsWithinLimits}
 use Rattle.tp_sizing.specs.declared.wanted.Wanted.{Wanted}
 use Rattle.tp_sizing.specs.declared.wanted.Unfit.{Unfit}
 use Rattle.tp_sizing.specs.declared.wanted.Unfit.TheVariants.{OutOfRange, TooMany}
-use Rattle.tp_sizing.specs.Sizing.{HaveRoom, IsAnswer, IsMost, IsSizedFor, with_metadata}
+use Rattle.tp_sizing.specs.Sizing.{FitAtMost, HaveRoom, IsAnswer, IsSizedFor, with_metadata}
 use Rattle.tp_sizing.proofs.Fitting.{fewer, one_pool}
 
 -- the same blocks are the smallest
@@ -31,9 +31,12 @@ one_size w g h one two =
     let high = least_of w h g two one in
     one_pool w w g h refl refl (one_block w g h one two) one.blocks two.blocks (omega (arith, low, high))
 
-at_most : (w : Wanted) (fit less : ℕ) (g h : Geometry) → IsMost w 2048 fit g → IsMost w 2048 less h → fit ≤ less
-at_most w fit less g h much most =
-    let same = one_pool w w g h refl refl (much.sectors_are ∙ sym most.sectors_are) much.blocks most.blocks (much.metadata ∙ sym most.metadata) in
+at_most : (w : Wanted) (fit less : ℕ) → FitAtMost w fit → FitAtMost w less → fit ≤ less
+at_most w fit less (n, g, large, much) (m, h, also, most) =
+    let low = large.1 m also.0 in
+    let high = also.1 n large.0 in
+    let sectors : n ≡ m = omega (arith, low, high) in
+    let same = one_pool w w g h refl refl (much.sectors_are ∙ (sectors ∙ sym most.sectors_are)) much.blocks most.blocks (much.metadata ∙ sym most.metadata) in
     ⊎_elim
     (λ (lt : less < fit). absurd (most.none (fewer h fit (less + 1) (omega arith) (subst (λ (k : Geometry). HaveRoom k fit) same much.room))))
     (λ (le : fit ≤ less). le)
@@ -49,7 +52,7 @@ one_answer w (Err OutOfRange) (Err (TooMany fit)) a b = absurd (a b.0)
 one_answer w (Err (TooMany fit)) (Ok h) a b = absurd (a.1 h.block_sectors b.block.allowed b.block.suits)
 one_answer w (Err (TooMany fit)) (Err OutOfRange) a b = absurd (b a.0)
 one_answer w (Err (TooMany fit)) (Err (TooMany less)) a b =
-    let low = at_most w fit less a.2.0 b.2.0 a.2.1 b.2.1 in
-    let high = at_most w less fit b.2.0 a.2.0 b.2.1 a.2.1 in
+    let low = at_most w fit less a.2 b.2 in
+    let high = at_most w less fit b.2 a.2 in
     let same : fit ≡ less = omega (arith, low, high) in
     ap Err (ap TooMany same)

@@ -1,6 +1,6 @@
 -- What the contract of the sizes says to those who use it.
-use Rattle.std.proofs.Common.{◌≡◌, ℕ, ◌+◌, ◌*◌, ◌/◌, ◌≤◌, ◌<◌, inr, ⊎_elim, length, ◌^◌, ◌∙◌, arith, refl, subst, sym}
-use Rattle.std.specs.Prelude.{All}
+use Rattle.std.proofs.Common.{◌≡◌, ℕ, ◌+◌, ◌*◌, ◌/◌, ◌≤◌, ◌<◌, ⊎_elim, length, ◌^◌, ◌∙◌, arith, refl, subst, sym}
+use Rattle.std.specs.Prelude.{All, IfSome}
 use Rattle.std.specs.FinMap.{entries, len, len-entries}
 use Rattle.std.proofs.Math.Nat.{mul-le-mul_left}
 use Rattle.std.proofs.lemmas.Bool.{cases_lt}
@@ -12,7 +12,7 @@ use Rattle.tp_image.specs.Bound.{mapped_in, metadata_bound}
 use Rattle.tp_sizing.specs.declared.wanted.Wanted.{Wanted}
 use Rattle.tp_sizing.specs.declared.wanted.Unfit.{Unfit}
 use Rattle.tp_sizing.specs.declared.wanted.Unfit.TheVariants.{OutOfRange, TooMany}
-use Rattle.tp_sizing.specs.Sizing.{AreEnough, HasBlocks, HaveRoom, Holds, IsBlockSize, IsInRange, IsMost, IsSizedFor, IsUnfit, Suits, most_mapped, with_metadata}
+use Rattle.tp_sizing.specs.Sizing.{AreEnough, HasBlocks, HaveRoom, Holds, IsAllowed, IsInRange, IsMost, IsSizedFor, IsUnfit, Suits, most_mapped, with_metadata}
 use Rattle.tp_sizing.proofs.Blocks.{few_blocks}
 use Rattle.tp_sizing.proofs.Room.{LeavesRoom, have_room, leaves_room}
 
@@ -39,15 +39,15 @@ room_for_few g volumes room most =
 pub few_devices : (w : Wanted) (g : Geometry) → IsSizedFor w g → w.volumes < 65536
 few_devices w g sized = room_for_few g w.volumes sized.room sized.limits.metadata_most
 
-pub few_fit : (w : Wanted) (fit : ℕ) (g : Geometry) → IsMost w 2048 fit g → fit < 65536
-few_fit w fit g much = room_for_few g fit much.room much.limits.metadata_most
+pub few_fit : (w : Wanted) (sectors fit : ℕ) (g : Geometry) → IsMost w sectors fit g → fit < 65536
+few_fit w sectors fit g much = room_for_few g fit much.room much.limits.metadata_most
 
 -- three volumes always fit
 three_leave : (pool most n : ℕ) → pool ≤ 1048576 → most ≤ pool → n ≡ 65536 → 2 + 2 * (count_blocks n + count_blocks pool) + 513 + (3 / 31 + 3 * (1 + most / 63)) ≤ n
 three_leave pool most n few low is = omega arith
 
-pub three_fit : (w : Wanted) (fit : ℕ) (g : Geometry) → IsMost w 2048 fit g → 3 ≤ fit
-three_fit w fit g much =
+pub three_fit : (w : Wanted) (sectors fit : ℕ) (g : Geometry) → IsMost w sectors fit g → 3 ≤ fit
+three_fit w sectors fit g much =
     ⊎_elim
     (λ (lt : fit < 3).
     let leaves : LeavesRoom g (most_mapped g) 3 = three_leave g.data_blocks (most_mapped g) g.metadata_blocks much.limits.data_most (omega arith) much.metadata in
@@ -61,8 +61,8 @@ as_many blocks also sectors more bytes least same equal held too =
     few_blocks blocks also (512 * sectors) bytes held.1
     (subst (λ s. bytes ≤ also * (512 * s)) (sym same) (subst (λ b. b ≤ also * (512 * more)) (sym equal) too.0))
 
-pub largest_block : IsBlockSize 2048
-largest_block = inr (inr (inr (inr refl)))
+allowed_again : (w v : Wanted) (sectors : ℕ) → w.block_size ≡ v.block_size → IsAllowed w sectors → IsAllowed v sectors
+allowed_again w v sectors block allowed = (allowed.0, subst (λ b. IfSome b (λ bytes. bytes ≡ 512 * sectors)) block allowed.1)
 
 enough_again : (w v : Wanted) (sectors : ℕ) → w.size ≡ v.size → w.volume_size ≡ v.volume_size → AreEnough w sectors → AreEnough v sectors
 enough_again w v sectors size volume_size enough = (subst (λ b. b ≤ 1048576 * (512 * sectors)) size enough.0, subst (λ b. b ≤ 2 ^ 24 * (512 * sectors)) volume_size enough.1)
@@ -117,27 +117,28 @@ blocks_again w v g size volume_size blocks = record {
   volume = subst (λ b. Holds g.virtual_blocks g.block_sectors b) volume_size blocks.volume;
 }
 
-pub fits_again : (w v : Wanted) (fit : ℕ) → w.size ≡ v.size → w.volume_size ≡ v.volume_size → v.volumes ≡ fit → IsUnfit w (TooMany fit) → Suits v 2048
-fits_again w v fit size volume_size volumes much =
-    let g = much.2.0 in
-    let it = much.2.1 in (
-      g,
-      record {
-        sectors_are = it.sectors_are;
-        limits = it.limits;
-        blocks = blocks_again w v g size volume_size it.blocks;
-        room = subst (λ n. HaveRoom g n) (sym volumes) it.room;
-      },
-    )
+fits_again : (w v : Wanted) (sectors fit : ℕ) (g : Geometry) → w.size ≡ v.size → w.volume_size ≡ v.volume_size → v.volumes ≡ fit → IsMost w sectors fit g → Suits v sectors
+fits_again w v sectors fit g size volume_size volumes it = (
+  g,
+  record {
+    sectors_are = it.sectors_are;
+    limits = it.limits;
+    blocks = blocks_again w v g size volume_size it.blocks;
+    room = subst (λ n. HaveRoom g n) (sym volumes) it.room;
+  },
+)
 
 -- Of as many as fit, none are too many.
-pub only_out_of_range : (w v : Wanted) (fit : ℕ) (e : Unfit) → w.size ≡ v.size → w.volume_size ≡ v.volume_size → v.volumes ≡ fit → IsUnfit w (TooMany fit) → IsUnfit v e → (e ≡ OutOfRange) × (IsInRange w → ⊥)
-only_out_of_range w v fit OutOfRange size volume_size volumes much none =
-    let three = three_fit w fit much.2.0 much.2.1 in
+pub only_out_of_range : (w v : Wanted) (fit : ℕ) (e : Unfit) → w.size ≡ v.size → w.volume_size ≡ v.volume_size → w.block_size ≡ v.block_size → v.volumes ≡ fit
+    → IsUnfit w (TooMany fit) → IsUnfit v e → (e ≡ OutOfRange) × (IsInRange w → ⊥)
+only_out_of_range w v fit OutOfRange size volume_size block volumes much none =
+    let three = three_fit w much.2.0 fit much.2.1 much.2.3 in
+    let enough = much.0.3 in
     absurd (none (
       subst (λ n. 0 < n) size much.0.0,
       subst (λ n. 0 < n) volume_size much.0.1,
       omega (arith, three, volumes),
-      enough_again w v 2048 size volume_size much.0.3,
+      (enough.0, allowed_again w v enough.0 block enough.1, enough_again w v enough.0 size volume_size enough.2),
     ))
-only_out_of_range w v fit (TooMany less) size volume_size volumes much most = absurd (most.1 2048 largest_block (fits_again w v fit size volume_size volumes much))
+only_out_of_range w v fit (TooMany less) size volume_size block volumes much most =
+    absurd (most.1 much.2.0 (allowed_again w v much.2.0 block much.2.2.0) (fits_again w v much.2.0 fit much.2.1 size volume_size volumes much.2.3))

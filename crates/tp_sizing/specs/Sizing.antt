@@ -1,5 +1,5 @@
 -- Trusted reading: which sizes a pool has that is to hold so much, and when there is none (own).
-use Rattle.std.specs.Prelude.{◌≡◌, ℕ, ◌+◌, ◌*◌, ◌^◌, ◌≤◌, ◌<◌, ◌⊎◌, List, MatchResult, Result, length, min, All}
+use Rattle.std.specs.Prelude.{◌≡◌, ℕ, ◌+◌, ◌*◌, ◌^◌, ◌≤◌, ◌<◌, ◌⊎◌, IfSome, List, MatchResult, Result, length, min, All}
 use Rattle.tp_model.specs.Geometry.{Geometry, IsWithinLimits}
 use Rattle.tp_image.specs.Bound.{metadata_bound}
 use Rattle.tp_sizing.specs.declared.wanted.Wanted.{Wanted}
@@ -14,9 +14,21 @@ IsBlockSize n = (n ≡ 128) ⊎ (n ≡ 256) ⊎ (n ≡ 512) ⊎ (n ≡ 1024) ⊎
 abbrev pub AreEnough : Wanted → ℕ → Type 0
 AreEnough w sectors = (w.size ≤ 1048576 * (512 * sectors)) × (w.volume_size ≤ 2 ^ 24 * (512 * sectors))
 
--- No number wanted is zero, and the largest blocks are enough.
+-- A data block may have so many sectors: it has the size that is wanted, where one is.
+abbrev pub IsAllowed : Wanted → ℕ → Type 0
+IsAllowed w n = IsBlockSize n × IfSome w.block_size (λ bytes. bytes ≡ 512 * n)
+
+-- the largest of these
+abbrev pub IsLargest : Wanted → ℕ → Type 0
+IsLargest w n = IsAllowed w n × ((m : ℕ) → IsAllowed w m → m ≤ n)
+
+-- Some block is enough.
+abbrev pub HasEnough : Wanted → Type 0
+HasEnough w = (n : ℕ) × IsAllowed w n × AreEnough w n
+
+-- No number wanted is zero, and some block is enough.
 abbrev pub IsInRange : Wanted → Type 0
-IsInRange w = (0 < w.size) × (0 < w.volume_size) × (0 < w.volumes) × AreEnough w 2048
+IsInRange w = (0 < w.size) × (0 < w.volume_size) × (0 < w.volumes) × HasEnough w
 
 -- So many blocks of so many sectors hold these bytes, and one less would not.
 abbrev pub Holds : ℕ → ℕ → ℕ → Type 0
@@ -51,9 +63,9 @@ Suits w sectors = (g : Geometry) × IsPoolFor w sectors g
 
 -- Blocks of so many sectors suit what is wanted, and no smaller ones do.
 pub record IsSmallest (w : Wanted) (sectors : ℕ) : Type 0 where
-  pub allowed : IsBlockSize sectors
+  pub allowed : IsAllowed w sectors
   pub suits : Suits w sectors
-  pub least : (n : ℕ) → IsBlockSize n → Suits w n → sectors ≤ n
+  pub least : (n : ℕ) → IsAllowed w n → Suits w n → sectors ≤ n
 
 -- The pool for what is wanted: within its limits, with the smallest blocks that suit, with room for its volumes, and with the least metadata of that kind.
 pub record IsSizedFor (w : Wanted) (g : Geometry) : Type 0 where
@@ -73,10 +85,14 @@ pub record IsMost (w : Wanted) (sectors fit : ℕ) (g : Geometry) : Type 0 where
   pub room : HaveRoom g fit
   pub none : HaveRoom g (fit + 1) → ⊥
 
--- why there is no such pool: of too many volumes, those fit that have room with the largest blocks
+-- So many volumes fit with the largest blocks.
+abbrev pub FitAtMost : Wanted → ℕ → Type 0
+FitAtMost w fit = (n : ℕ) × (g : Geometry) × IsLargest w n × IsMost w n fit g
+
+-- why there is no such pool
 abbrev pub IsUnfit : Wanted → Unfit → Type 0
 IsUnfit w OutOfRange = IsInRange w → ⊥
-IsUnfit w (TooMany fit) = IsInRange w × ((n : ℕ) → IsBlockSize n → Suits w n → ⊥) × ((g : Geometry) × IsMost w 2048 fit g)
+IsUnfit w (TooMany fit) = IsInRange w × ((n : ℕ) → IsAllowed w n → Suits w n → ⊥) × FitAtMost w fit
 
 -- what is answered
 abbrev pub IsAnswer : Wanted → Result Geometry Unfit → Type 0

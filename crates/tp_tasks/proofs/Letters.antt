@@ -1,5 +1,5 @@
 -- A size ends with the letter that its last byte is.
-use Rattle.std.proofs.Common.{subst, ◌≡◌, ◌∙◌, ◌+◌, ◌-◌, ◌<◌, ◌≤◌, ◌⊎◌, ℕ, Bool, None, false, [], ◌∷◌, ◌++◌, length, take, sym, ap, arith, inl, inr}
+use Rattle.std.proofs.Common.{◌≡◌, ◌∙◌, ◌+◌, ◌-◌, ◌<◌, ◌≤◌, ◌⊎◌, ℕ, Bool, None, false, [], ◌∷◌, ◌++◌, length, take, sym, ap, arith, inl, inr}
 use Rattle.std.proofs.lemmas.Bool.{cases_lt, ne_eqb}
 use Rattle.std.proofs.lemmas.List.{take_more}
 use Rattle.std.proofs.Math.Seq.{take-length}
@@ -7,22 +7,23 @@ use Rattle.std.proofs.lemmas.Str.Pattern.{strip_suffix_char}
 use Rattle.std.specs.Prelude.{◌==◌, ◌||◌, ◌^◌, if◌then◌else◌}
 use Rattle.std.specs.Str.Pattern.{FindsCharSuffix}
 use Rattle.clap.specs.Words.{Text}
-use Rattle.tp_tasks.specs.CommandLine.{IsNumber, IsSize, digits_of, last_byte, unit_of}
+use Rattle.tp_tasks.specs.CommandLine.{digits_of, last_byte, unit_of}
 
 apart : (letter k : ℕ) → 128 ≤ letter → k < 128 → letter ≡ k → ⊥
 apart letter k high low e = absurd (omega (arith, high, low, e))
 
--- by what the eight tests of a letter tell
-abbrev unit_at : Bool → Bool → Bool → Bool → Bool → Bool → Bool → Bool → ℕ
-unit_at a b c d e f g h = if a || b then 2 ^ 10 else if c || d then 2 ^ 20 else if e || f then 2 ^ 30 else if g || h then 2 ^ 40 else 1
+-- by what the ten tests of a letter tell
+abbrev unit_at : Bool → Bool → Bool → Bool → Bool → Bool → Bool → Bool → Bool → Bool → ℕ
+unit_at a b c d e f g h k l = if a || b then 2 ^ 10 else if c || d then 2 ^ 20 else if e || f then 2 ^ 30 else if g || h then 2 ^ 40 else if k || l then 2 ^ 50 else 1
 
-all_fail : (a b c d e f g h : Bool) → a ≡ false → b ≡ false → c ≡ false → d ≡ false → e ≡ false → f ≡ false → g ≡ false → h ≡ false → unit_at a b c d e f g h ≡ 1
-all_fail a b c d e f g h a' b' c' d' e' f' g' h' = λ i. unit_at (a' i) (b' i) (c' i) (d' i) (e' i) (f' i) (g' i) (h' i)
+all_fail : (a b c d e f g h k l : Bool) → a ≡ false → b ≡ false → c ≡ false → d ≡ false → e ≡ false → f ≡ false → g ≡ false → h ≡ false → k ≡ false → l ≡ false
+    → unit_at a b c d e f g h k l ≡ 1
+all_fail a b c d e f g h k l a' b' c' d' e' f' g' h' k' l' = λ i. unit_at (a' i) (b' i) (c' i) (d' i) (e' i) (f' i) (g' i) (h' i) (k' i) (l' i)
 
 -- no byte of a longer character is such a letter
 pub high_unit : (letter : ℕ) → 128 ≤ letter → unit_of letter ≡ 1
-high_unit letter high = all_fail (letter == 75) (letter == 107) (letter == 77) (letter == 109) (letter == 71) (letter == 103) (letter == 84) (letter == 116)
-    (fails 75 (omega arith)) (fails 107 (omega arith)) (fails 77 (omega arith)) (fails 109 (omega arith)) (fails 71 (omega arith)) (fails 103 (omega arith)) (fails 84 (omega arith)) (fails 116 (omega arith))
+high_unit letter high = all_fail (letter == 75) (letter == 107) (letter == 77) (letter == 109) (letter == 71) (letter == 103) (letter == 84) (letter == 116) (letter == 80) (letter == 112)
+    (fails 75 (omega arith)) (fails 107 (omega arith)) (fails 77 (omega arith)) (fails 109 (omega arith)) (fails 71 (omega arith)) (fails 103 (omega arith)) (fails 84 (omega arith)) (fails 116 (omega arith)) (fails 80 (omega arith)) (fails 112 (omega arith))
   where
     fails : (k : ℕ) → k < 128 → (letter == k) ≡ false
     fails k low = ne_eqb letter k (apart letter k high low)
@@ -50,7 +51,3 @@ pub all_digits : (text : Text) (letter : ℕ) → letter ≡ last_byte text → 
 all_digits text letter is none =
     let unit : unit_of (last_byte text) ≡ 1 = ap unit_of (sym is) ∙ no_letter text letter is none in
     ap (λ (u : ℕ). if u == 1 then text else take (length text - 1) text) (sym unit)
-
--- a text whose digits are no number is no size
-pub no_count : (text digits : Text) → digits ≡ digits_of text → ((n : ℕ) → IsNumber digits n → ⊥) → (n : ℕ) → IsSize text n → ⊥
-no_count text digits is not n (count, number, total, low) = not count (subst (λ (t : Text). IsNumber t count) (sym is) number)

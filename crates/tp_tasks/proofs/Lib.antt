@@ -1,2 +1,3 @@
 mod Arguments
+mod Decimals
 mod Letters

@@ -1,6 +1,7 @@
 -- Trusted reading: the command line: what `clap` makes of the words, the task that they name, and whether it is to be explained.
-use Rattle.std.specs.Prelude.{◌≡◌, ◌≢◌, ◌⊎◌, ◌<◌, ◌≤◌, ◌^◌, ◌*◌, ◌-◌, ◌==◌, ◌||◌, ℕ, Bool, true, false, List, [], ◌∷◌, ◌++◌, Option, None, Some, codes, if◌then◌else◌, is_some, length, slice_index, take, ⊤, IfSome}
+use Rattle.std.specs.Prelude.{◌≡◌, ◌≢◌, ◌⊎◌, ◌<◌, ◌≤◌, ◌^◌, ◌*◌, ◌+◌, ◌-◌, ◌==◌, ◌||◌, ℕ, Bool, true, false, List, [], ◌∷◌, ◌++◌, Option, None, Some, codes, drop, if◌then◌else◌, is_some, length, slice_index, take, ⊤, IfSome}
 use Rattle.std.specs.Bool.{MatchBool}
+use Rattle.std.specs.List.{after_first, before_first, position_or_len}
 use Rattle.std.specs.Borrow.{Bor}
 use Rattle.std.specs.Option.{option_map_or}
 use Rattle.std.specs.Str.{bytes_eq}
@@ -79,12 +80,12 @@ format_app =
     (number_rule (codes "BLOCK_SECTORS"))) (number_rule (codes "VIRTUAL_BLOCKS"))) (number_rule (codes "METADATA_BLOCKS"))) (number_rule (codes "DATA_BLOCKS")))
     (flag_rule (codes "OVERWRITE") (codes "overwrite"))
 
--- `thinpool create IMAGE --size SIZE --volume-size SIZE --volumes N [--overwrite]`
+-- `thinpool create IMAGE --size SIZE --volume-size SIZE --volumes N [--block-size SIZE] [--overwrite]`
 abbrev pub create_app : App
 create_app =
-    with_rule (with_rule (with_rule (with_rule (image_app (codes "create"))
+    with_rule (with_rule (with_rule (with_rule (with_rule (image_app (codes "create"))
     (wanted_rule (codes "SIZE") (codes "size"))) (wanted_rule (codes "VOLUME_SIZE") (codes "volume-size"))) (wanted_number_rule (codes "VOLUMES") (codes "volumes")))
-    (flag_rule (codes "OVERWRITE") (codes "overwrite"))
+    (option_rule (codes "BLOCK_SIZE") (codes "block-size"))) (flag_rule (codes "OVERWRITE") (codes "overwrite"))
 
 -- `thinpool message IMAGE LINE`
 abbrev pub message_app : App
@@ -258,13 +259,14 @@ LacksSizes rows =
 
 -- ---- a size
 
--- how many bytes a letter behind a number makes of one: K or k, M or m, G or g, T or t; any other byte is no such letter, and makes 1
+-- how many bytes a letter behind a number makes of one: K or k, M or m, G or g, T or t, P or p; any other byte is no such letter, and makes 1
 abbrev pub unit_of : ℕ → ℕ
 unit_of letter =
     if (letter == 75) || (letter == 107) then 2 ^ 10
     else if (letter == 77) || (letter == 109) then 2 ^ 20
     else if (letter == 71) || (letter == 103) then 2 ^ 30
     else if (letter == 84) || (letter == 116) then 2 ^ 40
+    else if (letter == 80) || (letter == 112) then 2 ^ 50
     else 1
 
 abbrev pub last_byte : Text → ℕ
@@ -274,9 +276,35 @@ last_byte text = slice_index text (length text - 1)
 abbrev pub digits_of : Text → Text
 digits_of text = if unit_of (last_byte text) == 1 then text else take (length text - 1) text
 
--- the text reads as this number of bytes, of 64 bits
+-- the text ends with `iB`, as in 10GiB, and the text in front of that
+abbrev pub is_binary : Text → Bool
+is_binary text = bytes_eq (drop (length text - 2) text) (codes "iB")
+
+abbrev pub without_binary : Text → Text
+without_binary text = if is_binary text then take (length text - 2) text else text
+
+-- the text has a point
+abbrev pub HasPoint : Text → Type 0
+HasPoint text = position_or_len (λ b. b == 46) text < length text
+
+-- Two numbers in front of a point and behind it, the second of one to nine digits, are `count / power`, where `power` is of ten.
+abbrev pub AreParts : Text → Text → ℕ → ℕ → Type 0
+AreParts whole fraction count power =
+    (slice_index fraction 0 ≢ 43) × (length fraction ≤ 9) × (power ≡ 10 ^ length fraction)
+    × (n : ℕ) × (part : ℕ) × IsNumber whole n × IsNumber fraction part × (count ≡ n * power + part) × (count < 2 ^ 64)
+
+-- the text reads as the number `count / power`, which may have a point
+abbrev pub IsDecimal : Text → ℕ → ℕ → Type 0
+IsDecimal text count power =
+    ((HasPoint text → ⊥) × IsNumber text count × (power ≡ 1))
+    ⊎ (HasPoint text × AreParts (before_first (λ b. b == 46) text) (after_first (λ b. b == 46) text) count power)
+
+-- The text reads as this number of bytes, of 64 bits: a number, which may have a point where it makes whole bytes, and perhaps a letter, behind which `iB` changes nothing.
 abbrev pub IsSize : Text → ℕ → Type 0
-IsSize text n = (count : ℕ) × IsNumber (digits_of text) count × (n ≡ count * unit_of (last_byte text)) × (n < 2 ^ 64)
+IsSize text n =
+    let short = without_binary text in
+    let unit = unit_of (last_byte short) in
+    (count : ℕ) × (power : ℕ) × (is_binary text ≡ true → unit ≢ 1) × IsDecimal (digits_of short) count power × (n * power ≡ count * unit) × (n < 2 ^ 64)
 
 abbrev pub HasSize : Text → List Row → ℕ → Type 0
 HasSize id rows n = (text : Text) × (first_of id rows ≡ Some text) × IsSize text n
@@ -284,12 +312,22 @@ HasSize id rows n = (text : Text) × (first_of id rows ≡ Some text) × IsSize 
 abbrev pub LacksSize : Text → List Row → Type 0
 LacksSize id rows = (text : Text) → first_of id rows ≡ Some text → (n : ℕ) → IsSize text n → ⊥
 
+-- of one that may be left out
+abbrev pub MayHaveSize : Text → List Row → Option ℕ → Type 0
+MayHaveSize id rows None = LacksText id rows
+MayHaveSize id rows (Some n) = HasSize id rows n
+
+-- it is there, and is no size
+abbrev pub HasNoSize : Text → List Row → Type 0
+HasNoSize id rows = (is_some (first_of id rows) ≡ true) × LacksSize id rows
+
 abbrev pub HasWanted : List Row → Wanted → Type 0
 HasWanted rows wanted =
     HasSize (codes "SIZE") rows wanted.size × HasSize (codes "VOLUME_SIZE") rows wanted.volume_size × HasNumber (codes "VOLUMES") rows wanted.volumes
+    × MayHaveSize (codes "BLOCK_SIZE") rows wanted.block_size
 
 abbrev pub LacksWanted : List Row → Type 0
-LacksWanted rows = LacksSize (codes "SIZE") rows ⊎ LacksSize (codes "VOLUME_SIZE") rows ⊎ LacksNumber (codes "VOLUMES") rows
+LacksWanted rows = LacksSize (codes "SIZE") rows ⊎ LacksSize (codes "VOLUME_SIZE") rows ⊎ LacksNumber (codes "VOLUMES") rows ⊎ HasNoSize (codes "BLOCK_SIZE") rows
 
 -- ---- the task of each command, from what was found of its arguments
 

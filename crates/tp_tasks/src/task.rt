@@ -142,6 +142,8 @@ pub struct Wanted {
     pub volume_size: u64,
     /// How many volumes there can be.
     pub volumes: u64,
+    /// The size of a data block, in bytes; without it the program chooses.
+    pub block_size: Option<u64>,
 }
 
 /// What is listed of a pool. Ids are as the words give them.

@@ -510,16 +510,26 @@ fn add_to_made<'a>(
 fn misused(alloc: Global, matches: &ArgMatches<'_>) -> Unread
     ensures { (words : List Text) → mistakes words ≡ [] → NameNone words → IsUnread words result }
 {
-    let text = match matches.subcommand() {
-        Some(("run", arguments)) => fault_of_run(arguments),
-        Some(("create", arguments)) => fault_of_create(arguments),
-        _ => {
-            "error: invalid value for <COUNT>: must be in 1..=64\n\nUsage: thinpool serve [OPTIONS] <IMAGE> <ADDR> <COUNT>\n"
-        }
-    };
-    match String::from_str(alloc, text) {
+    match fault_of(alloc, matches) {
         Ok(text) => Unread::Misused(text),
         Err(_) => Unread::Memory,
+    }
+}
+
+/// Returns the text of that error.
+fn fault_of(alloc: Global, matches: &ArgMatches<'_>) -> Result<String, AllocError> {
+    match matches.subcommand() {
+        Some(("run", arguments)) => String::from_str(alloc, fault_of_run(arguments)),
+        Some(("create", arguments)) => {
+            let (option, value) = fault_of_create(arguments);
+            format!(in alloc;
+                "error: invalid value '{value}' for {option} <SIZE>: must be an integer number of bytes below 2^64, such as 10737418240, 10G, 10GiB or 1.5T\n\nUsage: thinpool create [OPTIONS] --size <SIZE> --volume-size <SIZE> --volumes <N> <IMAGE>\n"
+            )
+        }
+        _ => String::from_str(
+            alloc,
+            "error: invalid value for <COUNT>: must be in 1..=64\n\nUsage: thinpool serve [OPTIONS] <IMAGE> <ADDR> <COUNT>\n",
+        ),
     }
 }
 

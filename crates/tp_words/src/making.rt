@@ -25,16 +25,22 @@ A pool of 10 GiB with blocks of 64 KiB, volumes of 100 GiB and 32 MiB of metadat
 
 const CREATE_HELP: &str = "\
 Computes the four numbers of 'format', prints them on one line as arguments of 'format', and does
-what 'format' does. 'thinpool format --help' describes files, block devices and --overwrite.
+what 'format' does. The first number is the size of a data block, in sectors of 512 bytes. 'thinpool
+format --help' describes files and block devices.
 
-A SIZE is a number of bytes below 2^64. The suffix K, M, G or T multiplies it by 1024, 1024^2,
-1024^3 or 1024^4: 10G is 10737418240. --size is the data that all volumes together can store. The
-image is larger by its metadata.
+A SIZE is a number of bytes below 2^64. The suffix K, M, G, T or P multiplies it by 1024 to 1024^5:
+10G is 10737418240, and 10GiB is the same. A fraction of 1 to 9 digits is allowed if the result is
+an integer: 1.5T. The suffixes KB to PB are not accepted, because they may mean powers of 1000.
+--size is the data that all volumes together can store. The image is larger by its metadata.
 
-The data blocks are the smallest, of 64 KiB to 1 MiB, with which data, volumes and metadata fit. N
-is a guarantee, not a limit: while there are at most N volumes and no metadata snapshot, no request
-runs out of metadata space. If N volumes do not fit even with blocks of 1 MiB, create fails with
-error 1 (BadGeometry), prints the number of volumes that fit, and does not touch the image.
+The data blocks are the smallest, of 64 KiB to 1 MiB, with which data, volumes and metadata fit;
+--block-size sets their size instead. N is a guarantee, not a limit: while there are at most N
+volumes and no metadata snapshot, no request runs out of metadata space. If N volumes do not fit,
+create fails with error 1 (BadGeometry), prints the number of volumes that fit, and does not touch
+the image.
+
+A file or block device whose first 8192 bytes contain data that is neither zeros nor a pool is
+refused with error 14 (Exists), unless --overwrite is given.
 
   thinpool create pool.img --size 10G --volume-size 100G --volumes 4";
 
@@ -86,10 +92,11 @@ pub(crate) fn create_command<'a>(alloc: Global) -> Result<Command<'a>, AllocErro
     let about =
         "Create an empty pool of a given size, for volumes of a given size and number. Destroys the data of IMAGE";
     let image = "File or block device to create the pool in";
-    let size = "Data that all volumes together can store: bytes, or with K, M, G or T";
-    let volume = "Size of each volume: bytes, or with K, M, G or T";
+    let size = "Data that all volumes together can store: bytes, or with K, M, G, T or P";
+    let volume = "Size of each volume: bytes, or with K, M, G, T or P";
     let volumes = "Number of volumes, including snapshots, that always fit";
-    let overwrites = "Destroy the data of a block device, even if it is not a pool";
+    let block = "Size of a data block [64K, 128K, 256K, 512K or 1M]";
+    let overwrites = "Destroy the data of IMAGE, even if it is not a pool";
     let made = of_image(alloc, "create", about, image, CREATE_HELP);
     let made = with(made, wanted(alloc, "SIZE", "size", "SIZE", size));
     let made = with(
@@ -99,6 +106,10 @@ pub(crate) fn create_command<'a>(alloc: Global) -> Result<Command<'a>, AllocErro
     let made = with(
         made,
         wanted_number(alloc, "VOLUMES", "volumes", "N", volumes),
+    );
+    let made = with(
+        made,
+        option(alloc, "BLOCK_SIZE", "block-size", "SIZE", block),
     );
     with(made, flag(alloc, "OVERWRITE", "overwrite", overwrites))
 }

@@ -6,4 +6,4 @@ pub returns-clause-answer : goal.returns-clause-answer
 returns-clause-answer c = one_answer
 
 pub returns-clause-fit : goal.returns-clause-fit
-returns-clause-fit c = λ w fit much. (three_fit w fit much.2.0 much.2.1, few_fit w fit much.2.0 much.2.1)
+returns-clause-fit c = λ w fit much. (three_fit w much.2.0 fit much.2.1 much.2.3, few_fit w much.2.0 fit much.2.1 much.2.3)
