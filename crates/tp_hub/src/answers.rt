@@ -11,12 +11,16 @@ ghost use Rattle.tp_hub.specs.Carrying.{closes_in, is_close};
 ghost use Rattle.tp_hub.specs.Told.{Grows, HasRoom, IsFull, Lines, Says, all_sent, end_mark, len_of, sent_mark, told, total};
 
 use nbd_session::{Answered, MAX_ANSWER, SHORT_ANSWER, Session, give_back};
+use nbd_wire::{COMMAND_READ, Frame, Kind, read_frame, wanted};
 use std::alloc::{AllocError, Global};
 use std::marker::Model;
 use tp_model::{Cloned, Geometry, Refusal, SharedReads, Volumes};
 
 /// The most bytes that a list of answers has: it takes no answer more once it has those of one longest.
 pub const MOST_BYTES: usize = 2 * MAX_ANSWER;
+
+/// The bytes of a READ from which on its answer may be long.
+const LONG_READ: u32 = 65_536;
 
 /// One answer, whose bytes stand elsewhere.
 #[derive(Clone, Copy, Debug, PartialEq, Eq)]
@@ -167,7 +171,7 @@ impl Answers {
         ensures none { result ≡ None → self.new ≡ self.old }
     {
         let at = self.used;
-        let Some(read) = read_in(session, pool, piece, &mut self.bytes, at) else {
+        let Some(read) = read_in(session, pool, piece, &mut self.bytes, at, self.room) else {
             return None;
         };
         self.used += read.sent;
@@ -380,27 +384,73 @@ fn read_at<V: Volumes, S: SharedReads<V>>(
     session.read_shared(pool, piece, &mut bytes[at..])
 }
 
-/// The same at a place of a buffer that has memory for it. A long answer needs a buffer that a step
-/// has widened before.
+/// Whether a READ of 64 KiB or more stands whole at the front of a piece.
+fn begins_with_long_read(piece: &[u8]) -> bool {
+    let length = wanted(Kind::Requests, piece);
+    if length > piece.len() {
+        return false;
+    }
+    match read_frame(Kind::Requests, &piece[..length]) {
+        Frame::Command { request, .. } => {
+            request.kind == COMMAND_READ && request.len >= LONG_READ
+        }
+        _ => false,
+    }
+}
+
+/// How long a buffer is to be for the answer to the READ with which a piece begins.
+fn len_for(piece: &[u8], at: usize, room: usize) -> usize
+    requires { at + MAX_ANSWER ≤ room }
+    ensures least { at + SHORT_ANSWER ≤ result }
+    ensures most { result ≤ room }
+{
+    if begins_with_long_read(piece) {
+        room
+    } else {
+        at + SHORT_ANSWER
+    }
+}
+
+/// Zeros behind the bytes of a buffer, for the answer to the READ with which a piece begins.
+fn widen_for(bytes: &mut Vec<u8>, piece: &[u8], at: usize, room: usize)
+    requires most { length bytes.old.items ≤ room }
+    requires room { at + MAX_ANSWER ≤ room }
+    requires capacity { room ≤ vec_capacity bytes.old }
+    ensures kept { (n : ℕ) → n ≤ length bytes.old.items → take n bytes.new.items ≡ take n bytes.old.items }
+    ensures long { at + SHORT_ANSWER ≤ length bytes.new.items }
+    ensures longer { length bytes.old.items ≤ length bytes.new.items }
+    ensures most { length bytes.new.items ≤ room }
+    ensures capacity { vec_capacity bytes.old ≤ vec_capacity bytes.new }
+{
+    if bytes.len() >= room {
+        return;
+    }
+    widen(bytes, len_for(piece, at, room));
+}
+
+/// The same at a place of a buffer that has memory for it.
 fn read_in<V: Volumes, S: SharedReads<V>>(
     session: &Session,
     pool: &S,
     piece: &[u8],
     bytes: &mut Vec<u8>,
     at: usize,
+    room: usize,
 ) -> Option<Answered>
     requires ready { IsReady session.now.phase (V.view.outline (S.of pool.now)) (V.view.more (S.of pool.now)) }
     requires inside { at ≤ length bytes.old.items }
-    requires capacity { at + SHORT_ANSWER ≤ vec_capacity bytes.old }
+    requires most { length bytes.old.items ≤ room }
+    requires room { at + MAX_ANSWER ≤ room }
+    requires capacity { room ≤ vec_capacity bytes.old }
     ensures reads { IfSome result (λ a. (sent : List ℕ) × (length sent ≡ a.sent) × (take (at + a.sent) bytes.new.items ≡ take at bytes.old.items ++ sent)
         × IsRead V.view session.now (S.of pool.now) piece.now a.taken sent) }
     ensures fits { IfSome result (λ a. at + a.sent ≤ length bytes.new.items) }
     ensures kept { take at bytes.new.items ≡ take at bytes.old.items }
     ensures inside { at ≤ length bytes.new.items }
-    ensures most { (most : ℕ) → length bytes.old.items ≤ most → at + SHORT_ANSWER ≤ most → length bytes.new.items ≤ most }
+    ensures most { length bytes.new.items ≤ room }
     ensures capacity { vec_capacity bytes.old ≤ vec_capacity bytes.new }
 {
-    widen(bytes, at + SHORT_ANSWER);
+    widen_for(bytes, piece, at, room);
     read_at(session, pool, piece, bytes, at)
 }
 

@@ -427,12 +427,7 @@ fn put<V: Cloned>(
 }
 
 /// The same over two volumes from an id on.
-fn put_in(
-    alloc: Global,
-    first: u32,
-    text: &[u8],
-    room: usize,
-) -> Result<(Vec<u8>, usize), Refusal>
+fn put_in(alloc: Global, first: u32, text: &[u8], room: usize) -> Result<(Vec<u8>, usize), Refusal>
     requires { SHORT_ANSWER ≤ room }
 {
     let geometry = Geometry::new(128, 16, 2048, 4)?;

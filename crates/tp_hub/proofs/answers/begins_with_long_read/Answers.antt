@@ -1,0 +1,7 @@
+use Rattle.std.proofs.Common.{arith}
+use Rattle.nbd_wire.specs.declared.Kind.TheVariants.{Requests}
+use Rattle.nbd_session.proofs.Stepping.{front_of}
+use Rattle.tp_hub.proofs.answers.begins_with_long_read.Goals as goal
+
+pub read_frame-requires-clause-whole : goal.read_frame-requires-clause-whole
+read_frame-requires-clause-whole c = let whole = (front_of Requests c.args.piece.now c.wanted-length.result c.wanted-length.ensures.length c.if-length-piece.false).whole in omega (arith, whole)
