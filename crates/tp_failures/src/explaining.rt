@@ -117,6 +117,10 @@ impl Display for Explanation<'_> {
             ),
             Cause::Reach(error) => write!(f, "{address} cannot be reached: {error}"),
             Cause::Answered => f.write_str("the server replied `refused N` to a line"),
+            Cause::Unquoted => write!(
+                f,
+                "nothing was sent: `stop now` is one line, so quote it: `thinpool ask {address} 'stop now'`"
+            ),
             Cause::Unanswered(count) => {
                 write!(f, "server closed the connection after {count} replies")
             }
@@ -420,6 +424,7 @@ fn explain_missing<W: fmt::Write>(
 ) -> fmt::Result {
     match *task {
         Task::Message { line, .. } => write!(f, "volume {} does not exist", missing_id(line))?,
+        Task::DeltaAt { .. } => return f.write_str("no such volume"),
         _ => f.write_str("no such volume")?,
     }
     write!(f, "; `thinpool ls {image}` lists the volumes")

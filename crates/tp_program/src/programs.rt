@@ -96,7 +96,7 @@ where
             conclude_task(
                 &asked.task,
                 done,
-                asked.explains || terminals.errors,
+                asked.explains || terminals.errors || always_explains(&asked.task),
                 errors,
             )
         }
@@ -153,6 +153,19 @@ fn conclude<E: Write>(done: Result<(), Refusal>, errors: &mut E) -> Status
             Status::Refused
         }
     }
+}
+
+/// Returns whether errors of this task are explained even without a terminal and `--explain`: those
+/// of the commands that no other program has.
+fn always_explains(task: &Task<'_>) -> bool {
+    matches!(
+        task,
+        Task::Run { .. }
+            | Task::Ask { .. }
+            | Task::Create { .. }
+            | Task::Report { .. }
+            | Task::DeltaAt { .. }
+    )
 }
 
 /// Prints the number and name of an error, and its explanation on a second line if `explains` or if
