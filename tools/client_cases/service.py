@@ -226,7 +226,7 @@ def asks_serve(host):
     server = ground.serve(image, 1, is_controlled=True)
     try:
         ran = ground.run("ask", str(server.ruler), "create_thin 7", "thin 7", "create_thin 7", "stop now")
-        want((ran.status == 1 and ran.out == b"ok\n0 -\nrefused 14\nrefused 12\n" and ran.err == b"thinpool: 14 Exists\n", ran.told()))
+        want((ran.status == 1 and ran.out == b"ok\n0 -\nrefused 14\nrefused 12\n" and ran.err == b"thinpool: 14 Exists\nthinpool: the server refused a line: the volume exists\n", ran.told()))
         server.client().leave()
         ended = server.ended()
         want((ended.status == 0, ended.told()))

@@ -116,7 +116,11 @@ impl Display for Explanation<'_> {
                 "cannot create a thread for each of 64 clients; the pool was closed",
             ),
             Cause::Reach(error) => write!(f, "{address} cannot be reached: {error}"),
-            Cause::Answered => f.write_str("the server replied `refused N` to a line"),
+            Cause::Answered => write!(
+                f,
+                "the server refused a line: {}",
+                reason_of(self.failure.refusal)
+            ),
             Cause::Unquoted => write!(
                 f,
                 "nothing was sent: `stop now` is one line, so quote it: `thinpool ask {address} 'stop now'`"

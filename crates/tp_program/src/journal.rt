@@ -24,6 +24,12 @@ const MOST_LINES: usize = 1000;
 /// The default of `--low-water`, in percent.
 const LOW_WATER: u64 = 10;
 
+/// The most data blocks that one write of 1 MiB needs.
+const MOST_DATA: u64 = 17;
+
+/// More metadata blocks than one write needs.
+const MOST_METADATA: u64 = 64;
+
 /// The most bytes of a name that a client sent which are logged.
 const MOST_NAME: usize = 64;
 
@@ -59,8 +65,9 @@ pub(crate) struct Journal<'m, R: Wait + Clock> {
     mode: AtomicU8,
     /// Whether a write was refused for lack of space since a status line had more free data.
     is_refused: AtomicBool,
-    /// The free data blocks of the last status line.
+    /// The free blocks of the last status line: of data, and of metadata for writes.
     free_data: AtomicU64,
+    free_metadata: AtomicU64,
     /// The second in which an event of each kind was logged last.
     waited: AtomicU64,
     control_waited: AtomicU64,
@@ -113,7 +120,7 @@ impl Display for News<'_> {
             News::Became(mode, image) => tell_mode(*mode, image, f),
             News::NoSpace(number) => write!(
                 f,
-                "client {number}: a write was refused: not enough free data blocks; delete volumes, or discard data in them"
+                "client {number}: a write was refused for lack of space; delete volumes, or discard data in them"
             ),
             News::Waits(place, peer) => tell_waiting(place, *peer, f),
             News::ControlWaits => f.write_str("a control client waits: 4 others are connected"),
@@ -254,6 +261,7 @@ impl<'m, R: Wait + Clock> Journal<'m, R> {
             mode: AtomicU8::new(Mode::Writable as u8),
             is_refused: AtomicBool::new(false),
             free_data: AtomicU64::new(0),
+            free_metadata: AtomicU64::new(0),
             waited: AtomicU64::new(0),
             control_waited: AtomicU64::new(0),
             not_accepted: AtomicU64::new(0),
@@ -328,11 +336,20 @@ impl<'m, R: Wait + Clock> Journal<'m, R> {
         }
     }
 
-    /// Lets the next refused write be logged if data blocks became free.
-    fn look_at_free(&self, free: u64) {
-        if self.free_data.swap(free, Ordering::SeqCst) < free {
+    /// Lets the next refused write be logged if blocks became free.
+    fn look_at_free(&self, data: u64, metadata: u64) {
+        let had_data = self.free_data.swap(data, Ordering::SeqCst);
+        let had_metadata = self.free_metadata.swap(metadata, Ordering::SeqCst);
+        if had_data < data || had_metadata < metadata {
             self.is_refused.store(false, Ordering::SeqCst);
         }
+    }
+
+    /// Returns whether a write may lack space, by the last status line. Otherwise it was beyond the
+    /// end of its volume, which has the same error.
+    fn may_lack_space(&self) -> bool {
+        self.free_data.load(Ordering::SeqCst) < MOST_DATA
+            || self.free_metadata.load(Ordering::SeqCst) < MOST_METADATA
     }
 
     /// Logs how many clones of a previous server were deleted, if there were any.
@@ -435,7 +452,7 @@ where
         ) = space_in(line)
         {
             self.look_at_mode(mode);
-            self.look_at_free(data.free());
+            self.look_at_free(data.free(), metadata.free());
             self.look_at("data", data, &self.is_data_low);
             self.look_at("metadata", metadata, &self.is_metadata_low);
         }
@@ -458,7 +475,7 @@ where
     }
 
     fn no_space(&self, number: u8) {
-        if !self.is_refused.swap(true, Ordering::SeqCst) {
+        if self.may_lack_space() && !self.is_refused.swap(true, Ordering::SeqCst) {
             self.note(&News::NoSpace(number));
         }
     }
