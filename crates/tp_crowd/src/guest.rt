@@ -147,9 +147,10 @@ pub(crate) struct GuestDesk<'m, R: Wait, V: Staged, A: Chronicle<V>, K: Start<V>
 }
 
 /// What a client sent that is asked, or nothing of another event.
-fn sent_by<'a>(event: Event<'a>) -> &'a [u8] {
+fn sent_by<'a>(event: &Event<'a>) -> &'a [u8] {
     match event {
-        Event::Bytes(_, piece) | Event::Parted(_, piece) => piece,
+        Event::Bytes(_, piece) => piece,
+        Event::Parted(_, piece) => piece,
         _ => &[],
     }
 }
@@ -188,7 +189,7 @@ where
     ghost asks = { λ a took answers b. SomeRuns V.view took answers };
 
     fn ask(&mut self, event: Event<'_>, out: &mut Answers) -> Ran {
-        let sent = sent_by(event);
+        let sent = sent_by(&event);
         let ran = self.desk.ask(event, out);
         if self.volume.is_none() {
             self.volume = volume_of(&self.desk, self.number);

@@ -96,7 +96,7 @@ where
             conclude_task(
                 &asked.task,
                 done,
-                asked.explains || terminals.errors || always_explains(&asked.task),
+                asked.explains || terminals.errors,
                 errors,
             )
         }
@@ -168,11 +168,12 @@ fn always_explains(task: &Task<'_>) -> bool {
     )
 }
 
-/// Prints the number and name of an error, and its explanation on a second line if `explains` or if
-/// it has the number of volumes that fit.
+/// Prints the number and name of an error, and its explanation on a second line if `explains`, for a
+/// command that always explains, or if it has the number of volumes that fit.
 fn tell_failure<E: Write>(task: &Task<'_>, failure: Failure, explains: bool, errors: &mut E) {
     let told = writeln!(errors, "thinpool: {}", failure.refusal);
-    if (explains || failure.tells_what_fits()) && told.is_ok() {
+    let is_explained = explains || always_explains(task) || failure.tells_what_fits();
+    if is_explained && told.is_ok() {
         let explanation = Explanation {
             task: *task,
             failure,
