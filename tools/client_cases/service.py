@@ -151,7 +151,7 @@ def failed_pool(host, more):
             want((asked.out == b"ok\n", asked.told()), (ran.status == 1, ran.told()))
             cause = rf"{TIME}5 Fault: the pool failed: {re.escape(image)}: a write at sector \d+ failed: No space left on device \(os error 28\)\n"
             said = server.told()
-            want((len(re.findall(cause, said)) == 1, f"told {said!r}"), (said.endswith("thinpool: 21 Failed\n"), f"told {said!r}"))
+            want((len(re.findall(cause, said)) == 1, f"told {said!r}"), (said.count("\nthinpool: 21 Failed\n") == 1, f"told {said!r}"))
         finally:
             server.kill()
         os.unlink(os.path.join(folder, "ballast"))
