@@ -116,15 +116,8 @@ impl Display for Explanation<'_> {
                 "cannot create a thread for each of 64 clients; the pool was closed",
             ),
             Cause::Reach(error) => write!(f, "{address} cannot be reached: {error}"),
-            Cause::Answered => write!(
-                f,
-                "the server refused a line: {}",
-                reason_of(self.failure.refusal)
-            ),
-            Cause::Unquoted => write!(
-                f,
-                "nothing was sent: `stop now` is one line, so quote it: `thinpool ask {address} 'stop now'`"
-            ),
+            Cause::Answered => explain_answer(self.failure.refusal, f),
+            Cause::Unquoted => explain_unquoted(address, f),
             Cause::Unanswered(count) => {
                 write!(f, "server closed the connection after {count} replies")
             }
@@ -135,6 +128,19 @@ impl Display for Explanation<'_> {
             Cause::Unfit(unfit) => explain_unfit(&unfit, f),
         }
     }
+}
+
+/// Explains why a server refused a control line.
+fn explain_answer<W: fmt::Write>(refusal: Refusal, f: &mut Formatter<W>) -> fmt::Result {
+    write!(f, "the server refused a line: {}", reason_of(refusal))
+}
+
+/// Explains why the lines `stop` and `now` were not sent.
+fn explain_unquoted<W: fmt::Write>(place: &str, f: &mut Formatter<W>) -> fmt::Result {
+    write!(
+        f,
+        "nothing was sent: `stop now` is one line, so quote it: `thinpool ask {place} 'stop now'`"
+    )
 }
 
 /// Explains why a script was not opened.
