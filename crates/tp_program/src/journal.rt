@@ -63,7 +63,9 @@ pub(crate) struct Journal<'m, R: Wait + Clock> {
     is_metadata_low: AtomicBool,
     /// The number of the mode that the last status line had.
     mode: AtomicU8,
-    /// Whether a write was refused for lack of space since a status line had more free data.
+    /// One more than the client that was refused space last, since the last status line; 0 for none.
+    refused: AtomicU8,
+    /// Whether that was logged since a status line had more free blocks.
     is_refused: AtomicBool,
     /// The free blocks of the last status line: of data, and of metadata for writes.
     free_data: AtomicU64,
@@ -259,6 +261,7 @@ impl<'m, R: Wait + Clock> Journal<'m, R> {
             is_data_low: AtomicBool::new(false),
             is_metadata_low: AtomicBool::new(false),
             mode: AtomicU8::new(Mode::Writable as u8),
+            refused: AtomicU8::new(0),
             is_refused: AtomicBool::new(false),
             free_data: AtomicU64::new(0),
             free_metadata: AtomicU64::new(0),
@@ -345,11 +348,16 @@ impl<'m, R: Wait + Clock> Journal<'m, R> {
         }
     }
 
-    /// Returns whether a write may lack space, by the last status line. Otherwise it was beyond the
-    /// end of its volume, which has the same error.
-    fn may_lack_space(&self) -> bool {
-        self.free_data.load(Ordering::SeqCst) < MOST_DATA
-            || self.free_metadata.load(Ordering::SeqCst) < MOST_METADATA
+    /// Logs once that a client was refused space, until blocks become free. With this much free space
+    /// it wrote beyond the end of its volume, which has the same error.
+    fn look_at_refused(&self, data: u64, metadata: u64) {
+        let Some(number) = self.refused.swap(0, Ordering::SeqCst).checked_sub(1) else {
+            return;
+        };
+        let is_short = data < MOST_DATA || metadata < MOST_METADATA;
+        if is_short && !self.is_refused.swap(true, Ordering::SeqCst) {
+            self.note(&News::NoSpace(number));
+        }
     }
 
     /// Logs how many clones of a previous server were deleted, if there were any.
@@ -453,6 +461,7 @@ where
         {
             self.look_at_mode(mode);
             self.look_at_free(data.free(), metadata.free());
+            self.look_at_refused(data.free(), metadata.free());
             self.look_at("data", data, &self.is_data_low);
             self.look_at("metadata", metadata, &self.is_metadata_low);
         }
@@ -475,8 +484,7 @@ where
     }
 
     fn no_space(&self, number: u8) {
-        if self.may_lack_space() && !self.is_refused.swap(true, Ordering::SeqCst) {
-            self.note(&News::NoSpace(number));
-        }
+        self.refused
+            .store(number.saturating_add(1), Ordering::SeqCst);
     }
 }
