@@ -5,7 +5,7 @@ ghost use Rattle.tp_hub.specs.Streams.{GivesSome, read_call};
 ghost use Rattle.tp_crowd.specs.Guests.{but_end, but_ends};
 
 use crate::chronicle::{Chronicle, Visit};
-use crate::noticing::{Answer, name_in, noticed};
+use crate::noticing::{Answer, Unanswered, name_in, noticed};
 use crate::sockets::Socket;
 use std::sync::Wait;
 use std::sync::atomic::{AtomicBool, Ordering};
@@ -143,6 +143,8 @@ pub(crate) struct GuestDesk<'m, R: Wait, V: Staged, A: Chronicle<V>, K: Start<V>
     /// The number of its session.
     pub(crate) number: u8,
     pub(crate) volume: Option<DevId>,
+    /// What it sent since it was answered last, before it had a volume.
+    pub(crate) unanswered: Unanswered,
     pub(crate) ghost inside: { number < 64 },
 }
 
@@ -189,12 +191,22 @@ where
     ghost asks = { λ a took answers b. SomeRuns V.view took answers };
 
     fn ask(&mut self, event: Event<'_>, out: &mut Answers) -> Ran {
-        let sent = sent_by(&event);
+        if self.volume.is_none() {
+            self.unanswered.add(sent_by(&event));
+        }
         let ran = self.desk.ask(event, out);
         if self.volume.is_none() {
             self.volume = volume_of(&self.desk, self.number);
         }
-        tell_answers(self.desk.hub.alarm(), self.number, sent, out);
+        if !out.marks().is_empty() {
+            tell_answers(
+                self.desk.hub.alarm(),
+                self.number,
+                self.unanswered.bytes(),
+                out,
+            );
+            self.unanswered.clear();
+        }
         ran
     }
 }

@@ -12,6 +12,47 @@ const ERROR_CHUNK: u64 = 0x8001;
 /// The number of `NBD_ENOSPC` (`proto.md`, "Error values").
 const NO_SPACE: u64 = 28;
 
+/// The most bytes that are kept of what a client sent since it was answered last.
+const MOST_SENT: usize = 512;
+
+/// The front of what a client sent since it was answered last: an option may come in pieces.
+#[derive(Drop)]
+pub(crate) struct Unanswered {
+    bytes: [u8; MOST_SENT],
+    len: usize,
+}
+
+impl Unanswered {
+    /// Nothing was sent yet.
+    pub(crate) fn nothing() -> Unanswered {
+        Unanswered {
+            bytes: [0; MOST_SENT],
+            len: 0,
+        }
+    }
+
+    /// Adds what was sent.
+    pub(crate) fn add(&mut self, sent: &[u8]) {
+        for byte in sent {
+            let Some(place) = self.bytes.get_mut(self.len) else {
+                return;
+            };
+            *place = *byte;
+            self.len = self.len.saturating_add(1);
+        }
+    }
+
+    /// It was answered.
+    pub(crate) fn clear(&mut self) {
+        self.len = 0;
+    }
+
+    /// What is kept.
+    pub(crate) fn bytes(&self) -> &[u8] {
+        self.bytes.get(..self.len).unwrap_or(&[])
+    }
+}
+
 /// What a client was answered that is logged.
 #[derive(Clone, Copy, Debug, PartialEq, Eq)]
 pub(crate) enum Answer {
@@ -93,8 +134,9 @@ pub(crate) fn name_in(sent: &[u8]) -> Option<&[u8]> {
     found
 }
 
-/// The name at the front of the data of an option GO.
+/// The name at the front of the data of an option GO, as far as it is there.
 fn name_of(data: &[u8]) -> Option<&[u8]> {
     let len = usize::try_from(number_at(data, 0, 4)?).ok()?;
-    data.get(4..len.checked_add(4)?)
+    let name = data.get(4..)?;
+    Some(name.get(..len).unwrap_or(name))
 }

@@ -11,6 +11,7 @@ use crate::crowd::carry_over;
 use crate::door::Door;
 use crate::gate::{Caller, Gate, PLACES};
 use crate::guest::{Guest, GuestDesk};
+use crate::noticing::Unanswered;
 use crate::pause::pause;
 use crate::ruling::{Askers, rule};
 use crate::sockets::Socket;
@@ -87,6 +88,7 @@ where
             },
             number,
             volume: None,
+            unanswered: Unanswered::nothing(),
         };
         carry_over(self.alloc, &mut desk, number, profile, guest);
         desk.volume
