@@ -151,7 +151,7 @@ def failed_pool(host, more):
             want((asked.out == b"ok\n", asked.told()), (ran.status == 1, ran.told()))
             cause = rf"{TIME}5 Fault: the pool failed: {re.escape(image)}: a write at sector \d+ failed: No space left on device \(os error 28\)\n"
             said = server.told()
-            want((len(re.findall(cause, said)) == 1, f"told {said!r}"), (said.endswith("thinpool: 21 Failed\n"), f"told {said!r}"))
+            want((len(re.findall(cause, said)) == 1, f"told {said!r}"), (said.count("\nthinpool: 21 Failed\n") == 1, f"told {said!r}"))
         finally:
             server.kill()
         os.unlink(os.path.join(folder, "ballast"))
@@ -226,7 +226,7 @@ def asks_serve(host):
     server = ground.serve(image, 1, is_controlled=True)
     try:
         ran = ground.run("ask", str(server.ruler), "create_thin 7", "thin 7", "create_thin 7", "stop now")
-        want((ran.status == 1 and ran.out == b"ok\n0 -\nrefused 14\nrefused 12\n" and ran.err == b"thinpool: 14 Exists\n", ran.told()))
+        want((ran.status == 1 and ran.out == b"ok\n0 -\nrefused 14\nrefused 12\n" and ran.err == b"thinpool: 14 Exists\nthinpool: the server refused a line: the volume exists\n", ran.told()))
         server.client().leave()
         ended = server.ended()
         want((ended.status == 0, ended.told()))

@@ -325,7 +325,7 @@ def control_lines(host):
         lines = server.asked("clients\nflush", "status", "thin 1", "create_thin 8").split("\n")
         want((lines[:2] == ["1 of 64: 1", "ok"] and " rw " in lines[2] and lines[3:] == ["128 127", "ok", ""], f"answered {lines}"))
         again = server.ask("create_thin 8", "thin 8")
-        want((again.status == 1 and again.out == b"refused 14\n0 -\n" and again.err == b"thinpool: 14 Exists\n", again.told()))
+        want((again.status == 1 and again.out == b"refused 14\n0 -\n" and again.err == b"thinpool: 14 Exists\nthinpool: the server refused a line: the volume exists\n", again.told()))
         busy = server.ask("delete 1")
         want((busy.status == 1 and busy.out == b"refused 16\n", busy.told()))
         client.leave()

@@ -1,5 +1,6 @@
 //! What is told of those who are served without end.
 
+use std::io;
 use std::net::SocketAddr;
 use tp_lock::Alarm;
 use tp_model::DevId;
@@ -42,4 +43,19 @@ pub trait Chronicle<V>: Alarm<V> {
 
     /// The pool's status line, as it is about once a second.
     fn status(&self, line: &[u8]);
+
+    /// A client that has connected to this door waits, since all places are taken.
+    fn waits(&self, door: usize, peer: Option<SocketAddr>);
+
+    /// A control client waits, since as many as are answered at a time are connected.
+    fn control_waits(&self);
+
+    /// A client was not accepted, or was sent away, for this error of the system.
+    fn not_accepted(&self, error: &io::Error);
+
+    /// A client of this number named a volume that does not exist, in an option GO.
+    fn no_volume(&self, number: u8, name: &[u8]);
+
+    /// A request of a client of this number was refused for lack of space.
+    fn no_space(&self, number: u8);
 }

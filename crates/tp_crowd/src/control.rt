@@ -303,7 +303,7 @@ fn in_a_row(count: u32, is_so: bool) -> u32 {
 }
 
 /// Whether a client has connected to a listener and was not accepted yet.
-fn has_caller(listener: RawFd) -> bool {
+pub(crate) fn has_caller(listener: RawFd) -> bool {
     let mut asked = [pollfd {
         fd: listener,
         events: POLLIN,

@@ -2,10 +2,14 @@
 
 use crate::door::Door;
 use nbd_session::Profile;
+use std::io;
 use std::net::{Shutdown, SocketAddr, TcpStream};
 use std::sync::atomic::{AtomicBool, Ordering};
 use std::sync::{Condvar, Mutex, Wait};
 use std::time::{Clock, Duration};
+
+/// How many clients are served at a time.
+pub(crate) const PLACES: u8 = 64;
 
 /// The longest single wait for the end, in milliseconds.
 const LOOK: u64 = 1000;
@@ -39,6 +43,8 @@ fn put<R: Wait>(rt: &R, place: &ClientPlace, client: Option<TcpStream>) {
 struct Porch {
     caller: Option<Caller>,
     is_shut: bool,
+    /// How many places are free.
+    free: u8,
 }
 
 /// Hands connected clients to the threads that serve them, one at a time, and knows the streams of the up to 64 that are served.
@@ -67,6 +73,7 @@ impl Gate {
             porch: Mutex::new(Porch {
                 caller: None,
                 is_shut: false,
+                free: PLACES,
             }),
             has_come: Condvar::new(),
             is_taken: Condvar::new(),
@@ -90,6 +97,12 @@ impl Gate {
     /// Whether no more is read of the clients that are served.
     pub(crate) fn is_over(&self) -> &AtomicBool {
         &self.is_over
+    }
+
+    /// Whether one who comes now has to wait for a place.
+    pub(crate) fn is_full<R: Wait>(&self, rt: &R) -> bool {
+        let porch = self.porch.lock(rt);
+        porch.free == 0 || porch.caller.is_some() && porch.free == 1
     }
 
     /// Waits until nobody else waits for a place, and leaves this one to wait. False where nobody is let in any more: then it is sent away.
@@ -121,27 +134,32 @@ impl Gate {
             return None;
         }
         let caller = porch.caller.take();
+        porch.free = porch.free.saturating_sub(1);
         drop(porch);
         self.is_taken.notify_one();
         caller
     }
 
-    /// Notes who is in a place. False where the system has no other handle of the stream: then its reads could not be ended.
-    pub(crate) fn enter<R: Wait>(&self, rt: &R, number: u8, client: &TcpStream) -> bool
+    /// Notes who is in a place. An error where the system has no other handle of the stream: then its reads could not be ended.
+    pub(crate) fn enter<R: Wait>(&self, rt: &R, number: u8, client: &TcpStream) -> io::Result<()>
         requires { number < 64 }
     {
-        let Ok(other) = client.try_clone() else {
-            return false;
-        };
+        let other = client.try_clone()?;
         put(rt, &self.places[usize::from(number)], Some(other));
-        true
+        Ok(())
     }
 
-    /// The place is free again.
+    /// Nobody is in the place any more.
     pub(crate) fn leave<R: Wait>(&self, rt: &R, number: u8)
         requires { number < 64 }
     {
         put(rt, &self.places[usize::from(number)], None);
+    }
+
+    /// A place that `next` gave is free again.
+    pub(crate) fn free<R: Wait>(&self, rt: &R) {
+        let mut porch = self.porch.lock(rt);
+        porch.free = porch.free.saturating_add(1);
     }
 
     /// Lets nobody in by these doors from now on, and sends away who waits for a place.

@@ -4,14 +4,15 @@ ghost use Rattle.std.specs.Prelude.{◌≡◌, ◌<◌, ◌++◌, [], ◌∷◌,
 ghost use Rattle.tp_hub.specs.Streams.{GivesSome, read_call};
 ghost use Rattle.tp_crowd.specs.Guests.{but_end, but_ends};
 
-use crate::chronicle::Visit;
+use crate::chronicle::{Chronicle, Visit};
+use crate::noticing::{Answer, Unanswered, name_in, noticed};
 use crate::sockets::Socket;
 use std::sync::Wait;
 use std::sync::atomic::{AtomicBool, Ordering};
 use std::thread::Threads;
 use std::time::{Clock, Duration};
 use tp_hub::{Answers, Desk, Event, Log, Made, Put, Ran, Received, Seat, Stream};
-use tp_lock::{Alarm, LockedDesk, Start};
+use tp_lock::{LockedDesk, Start};
 use tp_model::{DevId, Staged};
 use tp_msg::Managed;
 
@@ -137,16 +138,36 @@ impl<'c, R: Threads> Stream for Guest<'c, R> {
 
 /// A desk for one client that sees which volume it has.
 #[derive(Drop)]
-pub(crate) struct GuestDesk<'m, R: Wait, V: Staged, A: Alarm<V>, K: Start<V>> {
+pub(crate) struct GuestDesk<'m, R: Wait, V: Staged, A: Chronicle<V>, K: Start<V>> {
     pub(crate) desk: LockedDesk<'m, R, V, A, K>,
     /// The number of its session.
     pub(crate) number: u8,
     pub(crate) volume: Option<DevId>,
+    /// What it sent since it was answered last, before it had a volume.
+    pub(crate) unanswered: Unanswered,
     pub(crate) ghost inside: { number < 64 },
 }
 
+/// What a client sent that is asked, or nothing of another event.
+fn sent_by<'a>(event: &Event<'a>) -> &'a [u8] {
+    match event {
+        Event::Bytes(_, piece) => piece,
+        Event::Parted(_, piece) => piece,
+        _ => &[],
+    }
+}
+
+/// Tells what a client was answered that is logged.
+fn tell_answers<V, A: Chronicle<V>>(chronicle: &A, number: u8, sent: &[u8], out: &Answers) {
+    match noticed(out) {
+        None => {}
+        Some(Answer::NoSpace) => chronicle.no_space(number),
+        Some(Answer::NoVolume) => chronicle.no_volume(number, name_in(sent).unwrap_or(&[])),
+    }
+}
+
 /// The volume that the session of this number has, if it has one.
-fn volume_of<R: Wait, V: Staged, A: Alarm<V>, K: Start<V>>(
+fn volume_of<R: Wait, V: Staged, A: Chronicle<V>, K: Start<V>>(
     desk: &LockedDesk<'_, R, V, A, K>,
     number: u8,
 ) -> Option<DevId>
@@ -162,7 +183,7 @@ impl<'m, R, V, A, K> Desk for GuestDesk<'m, R, V, A, K>
 where
     R: Wait,
     V: Managed + Staged,
-    A: Alarm<V>,
+    A: Chronicle<V>,
     K: Start<V>,
 {
     ghost use Rattle.tp_lock.specs.Locked.{SomeRuns};
@@ -170,9 +191,21 @@ where
     ghost asks = { λ a took answers b. SomeRuns V.view took answers };
 
     fn ask(&mut self, event: Event<'_>, out: &mut Answers) -> Ran {
+        if self.volume.is_none() {
+            self.unanswered.add(sent_by(&event));
+        }
         let ran = self.desk.ask(event, out);
         if self.volume.is_none() {
             self.volume = volume_of(&self.desk, self.number);
+        }
+        if !out.marks().is_empty() {
+            tell_answers(
+                self.desk.hub.alarm(),
+                self.number,
+                self.unanswered.bytes(),
+                out,
+            );
+            self.unanswered.clear();
         }
         ran
     }

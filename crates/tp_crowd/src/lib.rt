@@ -21,6 +21,7 @@ mod frames;
 mod gate;
 mod guest;
 mod listening;
+mod noticing;
 mod pause;
 mod polled;
 mod ruling;

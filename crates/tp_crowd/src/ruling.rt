@@ -331,7 +331,12 @@ where
                     askers,
                 );
             }
-            Err(_) => pause(rt),
+            Err(error) => {
+                if !are_gone.load(Ordering::SeqCst) {
+                    hub.alarm().not_accepted(&error);
+                }
+                pause(rt);
+            }
         }
     }
 }

@@ -6,10 +6,12 @@ ghost use Rattle.tp_crowd.specs.Guests.{CarriesGuest};
 
 use crate::ahead::Crew;
 use crate::chronicle::{Chronicle, Visit, Visitor};
+use crate::control::has_caller;
 use crate::crowd::carry_over;
 use crate::door::Door;
-use crate::gate::{Caller, Gate};
+use crate::gate::{Caller, Gate, PLACES};
 use crate::guest::{Guest, GuestDesk};
+use crate::noticing::Unanswered;
 use crate::pause::pause;
 use crate::ruling::{Askers, rule};
 use crate::sockets::Socket;
@@ -26,9 +28,6 @@ use tp_hub::{Answers, Desk, Event, Hub};
 use tp_lock::{HubLock, LockedDesk, Start};
 use tp_model::{DevId, Staged, Volumes};
 use tp_msg::Managed;
-
-/// How many clients are served at a time.
-const PLACES: u8 = 64;
 
 /// When clients are told that it is over, so many seconds or so are left to them to take what they are answered.
 const LAST_SECONDS: u32 = 5;
@@ -89,6 +88,7 @@ where
             },
             number,
             volume: None,
+            unanswered: Unanswered::nothing(),
         };
         carry_over(self.alloc, &mut desk, number, profile, guest);
         desk.volume
@@ -106,12 +106,21 @@ where
         visit
     }
 
+    /// Leaves one who has come to wait for a place, and tells if all are taken. False where nobody is let in any more.
+    fn bring(&self, caller: Caller) -> bool {
+        if self.gate.is_full(self.rt) {
+            self.hub.alarm().waits(caller.door, caller.peer);
+        }
+        self.gate.bring(self.rt, caller)
+    }
+
     /// Serves one client as the session of this number. It is sent away where its stream could not be ended from outside.
     fn serve_one(&self, number: u8, caller: Caller)
         requires { number < 64 }
     {
         let Caller { stream, door, peer } = caller;
-        if !self.gate.enter(self.rt, number, &stream) {
+        if let Err(error) = self.gate.enter(self.rt, number, &stream) {
+            self.hub.alarm().not_accepted(&error);
             return;
         }
         let visitor = Visitor { number, door, peer };
@@ -138,14 +147,15 @@ where
                         door: index,
                         peer,
                     };
-                    if !self.gate.bring(self.rt, caller) {
+                    if !self.bring(caller) {
                         return;
                     }
                 }
-                Err(_) => {
+                Err(error) => {
                     if self.gate.is_shut(self.rt) {
                         return;
                     }
+                    self.hub.alarm().not_accepted(&error);
                     pause(self.rt);
                 }
             }
@@ -158,6 +168,7 @@ where
                 return;
             };
             self.serve_one(number, caller);
+            self.gate.free(self.rt);
         }
     }
 
@@ -219,8 +230,15 @@ where
     attend_doors(rt, doors, &house)
 }
 
-/// Tells the pool's status about once a second, until all are gone, and lets go of those who take no answers when it is over.
-fn watch<'m, R, V, A, K>(rt: &'m R, alloc: Global, hub: &'m HubLock<'m, V, A, K>, gate: &Gate)
+/// Tells the pool's status about once a second, and whether a control client waits, until all are gone, and lets go of those who take no answers when it is
+/// over.
+fn watch<'m, R, V, A, K>(
+    rt: &'m R,
+    alloc: Global,
+    hub: &'m HubLock<'m, V, A, K>,
+    gate: &Gate,
+    control: Option<&Door>,
+)
 where
     R: Wait + Clock,
     V: Managed + Staged,
@@ -230,14 +248,28 @@ where
     let mut desk = LockedDesk { rt, alloc, hub };
     let mut out = Answers::new(alloc);
     let mut left = LAST_SECONDS;
+    let mut waited = false;
     for _ in rt.forever() {
         desk.ask(Event::Status, &mut out);
         hub.alarm().status(out.bytes());
         out.clear();
+        let waits = is_waited_at(control);
+        if waited && waits {
+            hub.alarm().control_waits();
+        }
+        waited = waits;
         if gate.wait_for_end(rt) {
             return;
         }
         left = gate.hasten(rt, left);
+    }
+}
+
+/// Whether a client has connected to a door of control lines and was not accepted yet.
+fn is_waited_at(control: Option<&Door>) -> bool {
+    match control {
+        None => false,
+        Some(door) => has_caller(door.descriptor()),
     }
 }
 
@@ -248,6 +280,7 @@ fn attend_watched<R, V, A, K>(
     hub: &HubLock<'_, V, A, K>,
     gate: &Gate,
     doors: &[Door],
+    control: Option<&Door>,
 ) -> bool
 where
     R: Threads + Wait + Clock + Sync,
@@ -257,7 +290,7 @@ where
     K: Start<V> + Send + Sync,
 {
     thread::scope(thread::scope_env(), rt, move |scope| -> bool {
-        let side = move || watch(rt, alloc, hub, gate);
+        let side = move || watch(rt, alloc, hub, gate, control);
         let is_watched = scope.spawn(side).is_ok();
         if !is_watched {
             gate.shut(rt, doors);
@@ -326,6 +359,7 @@ fn attend_ruled<R, V, A, K, S>(
     hub: &HubLock<'_, V, A, K>,
     gate: &Gate,
     doors: &[Door],
+    control: &Door,
     court: &S,
 ) -> bool
 where
@@ -347,7 +381,7 @@ where
         if !is_ruled {
             gate.shut(rt, doors);
         }
-        let is_manned = attend_watched(rt, alloc, hub, gate, doors);
+        let is_manned = attend_watched(rt, alloc, hub, gate, doors, Some(control));
         court.end();
         is_ruled && is_manned
     })
@@ -381,7 +415,7 @@ where
         are_gone: AtomicBool::new(false),
         is_one_leaving: AtomicBool::new(false),
     };
-    attend_ruled(rt, alloc, hub, gate, doors, &court)
+    attend_ruled(rt, alloc, hub, gate, doors, control, &court)
 }
 
 /// Serves clients without end, 64 at a time, from when they come to one of the doors, and offers this to each. Who comes when all places are taken waits. Each thread serves one client after
@@ -398,8 +432,9 @@ where
 /// system does not answer any more is at its end two minutes later if it was silent, and else when
 /// the system has retransmitted in vain what it was sent, some 15 minutes later.
 ///
-/// The chronicle is told who comes and goes, which control lines were answered that they are done, but for flushes, and about once a second the pool's status
-/// line. When the pool has failed, its alarm sounds once.
+/// The chronicle is told who comes, waits, is not accepted and goes, who names a volume that does not exist or is refused space, which control lines were
+/// answered that they are done, but for flushes, and about once a second the pool's status line, and that a control client waits. When the pool has failed, its
+/// alarm sounds once.
 ///
 /// The hub that is given back came of the one that was given by runs one behind the other, as that of [`serve_all`](crate::serve_all) did. That clients are let in
 /// for ever, and that it ends, no clause says.
@@ -445,7 +480,7 @@ where
     let gate = Gate::new(profile);
     let askers = Mutex::new(Vec::new(alloc));
     let is_manned = match control {
-        None => attend_watched(rt, alloc, &shared, &gate, doors),
+        None => attend_watched(rt, alloc, &shared, &gate, doors, None),
         Some(control) => attend_both(rt, alloc, &shared, &gate, doors, control, &askers),
     };
     Stayed {

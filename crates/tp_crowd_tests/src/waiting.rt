@@ -3,8 +3,9 @@
 ghost use Rattle.std.specs.Prelude.{◌≡◌, ◌<◌, ◌≤◌, length};
 ghost use Rattle.tp_hub.specs.Streams.{GivesSome, TakesSome};
 
+use std::net::SocketAddr;
 use std::sync::atomic::{AtomicBool, AtomicU64, Ordering};
-use std::thread;
+use std::{io, thread};
 use tp_crowd::{Alarm, Chronicle, Visit, Visitor};
 use tp_hub::{Log, Made, Put, Received, Stream};
 
@@ -78,6 +79,16 @@ impl<V> Chronicle<V> for Seen {
     fn obeyed(&self, _line: &[u8]) {}
 
     fn status(&self, _line: &[u8]) {}
+
+    fn waits(&self, _door: usize, _peer: Option<SocketAddr>) {}
+
+    fn control_waits(&self) {}
+
+    fn not_accepted(&self, _error: &io::Error) {}
+
+    fn no_volume(&self, _number: u8, _name: &[u8]) {}
+
+    fn no_space(&self, _number: u8) {}
 }
 
 /// How many of the bytes are the letter `a`.

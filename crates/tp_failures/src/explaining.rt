@@ -125,7 +125,8 @@ impl Display for Explanation<'_> {
                 "cannot create a thread for each of 64 clients; the pool was closed",
             ),
             Cause::Reach(error) => write!(f, "{address} cannot be reached: {error}"),
-            Cause::Answered => f.write_str("the server replied `refused N` to a line"),
+            Cause::Answered => explain_answer(self.failure.refusal, f),
+            Cause::Unquoted => explain_unquoted(address, f),
             Cause::Unanswered(count) => {
                 write!(f, "server closed the connection after {count} replies")
             }
@@ -136,6 +137,19 @@ impl Display for Explanation<'_> {
             Cause::Unfit(unfit) => explain_unfit(&self.task, &unfit, f),
         }
     }
+}
+
+/// Explains why a server refused a control line.
+fn explain_answer<W: fmt::Write>(refusal: Refusal, f: &mut Formatter<W>) -> fmt::Result {
+    write!(f, "the server refused a line: {}", reason_of(refusal))
+}
+
+/// Explains why the lines `stop` and `now` were not sent.
+fn explain_unquoted<W: fmt::Write>(place: &str, f: &mut Formatter<W>) -> fmt::Result {
+    write!(
+        f,
+        "nothing was sent: `stop now` is one line, so quote it: `thinpool ask {place} 'stop now'`"
+    )
 }
 
 /// Explains why a script was not opened.
@@ -469,6 +483,7 @@ fn explain_missing<W: fmt::Write>(
 ) -> fmt::Result {
     match *task {
         Task::Message { line, .. } => write!(f, "volume {} does not exist", missing_id(line))?,
+        Task::DeltaAt { .. } => return f.write_str("no such volume"),
         _ => f.write_str("no such volume")?,
     }
     write!(f, "; `thinpool ls {image}` lists the volumes")

@@ -209,8 +209,18 @@ fn told(heard: &Heard, wanted: u64) -> Result<(), Failure> {
     Ok(())
 }
 
+/// Whether `stop now` came as two lines, since it was not quoted.
+fn is_unquoted(lines: &Texts<'_>) -> bool {
+    let pairs = [
+        (Some(lines.first), lines.second),
+        (lines.second, lines.third),
+        (lines.third, lines.fourth),
+    ];
+    pairs.contains(&(Some("stop"), Some("now")))
+}
+
 /// Sends lines to a place, and writes what is answered until the other side ends it. It is refused where the place cannot be reached, where a line is, with the first of
-/// these refusals, or where fewer lines were answered than were sent.
+/// these refusals, or where fewer lines were answered than were sent. Where the lines `stop` and `now` follow each other, nothing is sent: `BadSyntax`.
 pub fn ask_place<R, S>(
     net: &R,
     place: &str,
@@ -221,6 +231,12 @@ where
     R: Net<Stream = TcpStream>,
     S: Stream,
 {
+    if is_unquoted(lines) {
+        return Err(Failure {
+            refusal: Refusal::BadSyntax,
+            cause: Cause::Unquoted,
+        });
+    }
     let mut connection = match connect(net, place) {
         Ok(connection) => connection,
         Err(error) => return Err(Failure::fault(Cause::Reach(error))),

@@ -10,6 +10,7 @@ ghost use Rattle.tp_failures.specs.Failures.{number_of};
 ghost use Rattle.tp_commands.specs.Serving.{ServesImage, ServesOn, told_of_clients};
 ghost use Rattle.tp_program.specs.Living.{ServesPool};
 
+use crate::moment::Moment;
 use std::alloc::Global;
 use std::io::Write;
 use std::net::{Net, TcpListener, TcpStream};
@@ -42,20 +43,21 @@ struct Errors<'m, R: Wait, E: Write> {
     writer: Mutex<&'m mut E>,
 }
 
-impl<'m, R: Wait, E: Write, V> Alarm<V> for Errors<'m, R, E> {
+impl<'m, R: Wait + Clock, E: Write, V> Alarm<V> for Errors<'m, R, E> {
     type Cause = ();
 
     fn cause(&self, _pool: &V) {}
 
     fn pool_failed(&self, _cause: ()) {
+        let moment = Moment::now(self.rt);
         let mut writer = self.writer.lock(self.rt);
-        tell_failed_pool(&mut **writer);
+        tell_failed_pool(&moment, &mut **writer);
     }
 }
 
-/// Tells that the pool has failed. Where the writer fails too, the exit status tells it at the end.
-fn tell_failed_pool<E: Write>(errors: &mut E) {
-    let _ = writeln!(errors, "thinpool: {}", Refusal::Fault);
+/// Logs that the pool has failed. The error of the task is printed at the end.
+fn tell_failed_pool<E: Write>(moment: &Moment, errors: &mut E) {
+    let _ = writeln!(errors, "thinpool: {moment} the pool failed");
 }
 
 /// Why serving clients was refused though the pool was closed: an accept failed, so that fewer came, which is a fault; or some of those who came were refused

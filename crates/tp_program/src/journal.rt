@@ -1,12 +1,13 @@
 //! The log of `run` on standard error.
 
 use crate::moment::Moment;
+use crate::space::{Mode, Space, Use, space_in};
 use std::alloc::{AllocError, Global};
 use std::fmt::{self, Display, Formatter};
-use std::io::Write;
+use std::io::{self, Write};
 use std::mem;
 use std::net::SocketAddr;
-use std::sync::atomic::{AtomicBool, Ordering};
+use std::sync::atomic::{AtomicBool, AtomicU8, AtomicU64, Ordering};
 use std::sync::{Condvar, Mutex, Wait};
 use std::time::Clock;
 use tp_cache::ReadCache;
@@ -22,6 +23,15 @@ const MOST_LINES: usize = 1000;
 
 /// The default of `--low-water`, in percent.
 const LOW_WATER: u64 = 10;
+
+/// The most data blocks that one write of 1 MiB needs.
+const MOST_DATA: u64 = 17;
+
+/// More metadata blocks than one write needs.
+const MOST_METADATA: u64 = 64;
+
+/// The most bytes of a name that a client sent which are logged.
+const MOST_NAME: usize = 64;
 
 /// The TCP address of each door of clients, if it has one.
 pub(crate) type Addresses = [Option<SocketAddr>; 4];
@@ -51,13 +61,20 @@ pub(crate) struct Journal<'m, R: Wait + Clock> {
     /// Whether the last warning was that little is free.
     is_data_low: AtomicBool,
     is_metadata_low: AtomicBool,
-}
-
-/// How many blocks of a kind are used, of how many.
-#[derive(Clone, Copy)]
-struct Use {
-    used: u64,
-    all: u64,
+    /// The number of the mode that the last status line had.
+    mode: AtomicU8,
+    /// One more than the client that was refused space last, since the last status line; 0 for none.
+    refused: AtomicU8,
+    /// Whether that was logged since a status line had more free blocks.
+    is_refused: AtomicBool,
+    /// The free blocks of the last status line: of data, and of metadata for writes.
+    free_data: AtomicU64,
+    free_metadata: AtomicU64,
+    /// The second in which an event of each kind was logged last.
+    waited: AtomicU64,
+    control_waited: AtomicU64,
+    not_accepted: AtomicU64,
+    not_found: AtomicU64,
 }
 
 /// A listener: its TCP address, otherwise the text that names it.
@@ -84,6 +101,12 @@ enum News<'a> {
     Obeyed(&'a str),
     Failed(&'a str, Option<Trouble>),
     Low(&'a str, Use),
+    Became(Mode, &'a str),
+    NoSpace(u8),
+    Waits(Place<'a>, Option<SocketAddr>),
+    ControlWaits,
+    NotAccepted(&'a io::Error),
+    NoVolume(u8, &'a [u8]),
     Cleared(u32),
     NotCleared,
 }
@@ -96,6 +119,15 @@ impl Display for News<'_> {
             News::Obeyed(line) => write!(f, "control: {line}"),
             News::Failed(image, trouble) => tell_failure(image, trouble, f),
             News::Low(kind, blocks) => tell_low(kind, blocks, f),
+            News::Became(mode, image) => tell_mode(*mode, image, f),
+            News::NoSpace(number) => write!(
+                f,
+                "client {number}: a write was refused for lack of space; delete volumes, or discard data in them"
+            ),
+            News::Waits(place, peer) => tell_waiting(place, *peer, f),
+            News::ControlWaits => f.write_str("a control client waits: 4 others are connected"),
+            News::NotAccepted(error) => write!(f, "cannot accept a client: {error}"),
+            News::NoVolume(number, name) => tell_name(*number, name, f),
             News::Cleared(count) => tell_cleared(*count, f),
             News::NotCleared => write!(
                 f,
@@ -149,6 +181,46 @@ fn tell_failure<W: fmt::Write>(
     }
 }
 
+/// Writes that the pool has another mode, why, and what to do.
+fn tell_mode<W: fmt::Write>(mode: Mode, image: &str, f: &mut Formatter<W>) -> fmt::Result {
+    match mode {
+        Mode::Writable => f.write_str("the pool accepts writes again"),
+        Mode::OutOfData => f.write_str(
+            "out of data space: writes to new blocks are refused; delete volumes, or discard data in them",
+        ),
+        Mode::ReadOnly => write!(
+            f,
+            "out of metadata space: the pool is read-only; stop the server, run `thinpool check {image} --clear-needs-check-flag`, then release the metadata snapshot or delete volumes"
+        ),
+    }
+}
+
+/// Writes that a client waits until another one disconnects.
+fn tell_waiting<W: fmt::Write>(
+    place: &Place<'_>,
+    peer: Option<SocketAddr>,
+    f: &mut Formatter<W>,
+) -> fmt::Result {
+    write!(f, "a client waits at {place}")?;
+    if let Some(peer) = peer {
+        write!(f, " from {peer}")?;
+    }
+    f.write_str(": 64 others are connected")
+}
+
+/// Writes the name of a volume that does not exist, escaped, and at most its first `MOST_NAME` bytes.
+fn tell_name<W: fmt::Write>(number: u8, name: &[u8], f: &mut Formatter<W>) -> fmt::Result {
+    write!(f, "client {number}: no volume '")?;
+    let front = name.get(..MOST_NAME).unwrap_or(name);
+    for byte in front {
+        match byte {
+            b' '..=b'&' | b'('..=b'[' | b']'..=b'~' => write!(f, "{}", char::from(*byte))?,
+            _ => write!(f, "\\x{byte:02x}")?,
+        }
+    }
+    f.write_str(if front.len() < name.len() { "'.." } else { "'" })
+}
+
 /// Writes that few blocks of a kind are free.
 fn tell_low<W: fmt::Write>(kind: &str, blocks: &Use, f: &mut Formatter<W>) -> fmt::Result {
     write!(
@@ -162,35 +234,6 @@ fn tell_low<W: fmt::Write>(kind: &str, blocks: &Use, f: &mut Formatter<W>) -> fm
 /// Writes how many clones were deleted.
 fn tell_cleared<W: fmt::Write>(count: u32, f: &mut Formatter<W>) -> fmt::Result {
     write!(f, "deleted {count} clones left by a previous server")
-}
-
-impl Use {
-    /// Those that a word of a status line tells, as `12/128`.
-    fn of_word(word: &str) -> Option<Use> {
-        let (used, all) = word.split_once('/')?;
-        Some(Use {
-            used: used.parse::<u64>().ok()?,
-            all: all.parse::<u64>().ok()?,
-        })
-    }
-
-    /// How many are free.
-    fn free(self) -> u64 {
-        self.all.saturating_sub(self.used)
-    }
-
-    /// Returns whether less than `percent` % are free.
-    fn is_below(self, percent: u64) -> bool {
-        self.free().saturating_mul(100) < self.all.saturating_mul(percent)
-    }
-}
-
-/// What a pool's status line tells of its metadata blocks, and of its data blocks. None of a failed pool.
-fn uses_in(line: &str) -> Option<(Use, Use)> {
-    let (_, uses) = line.split_once(' ')?;
-    let (metadata, rest) = uses.split_once(' ')?;
-    let (data, _) = rest.split_once(' ')?;
-    Some((Use::of_word(metadata)?, Use::of_word(data)?))
 }
 
 impl<'m, R: Wait + Clock> Journal<'m, R> {
@@ -217,6 +260,15 @@ impl<'m, R: Wait + Clock> Journal<'m, R> {
             has_more: Condvar::new(),
             is_data_low: AtomicBool::new(false),
             is_metadata_low: AtomicBool::new(false),
+            mode: AtomicU8::new(Mode::Writable as u8),
+            refused: AtomicU8::new(0),
+            is_refused: AtomicBool::new(false),
+            free_data: AtomicU64::new(0),
+            free_metadata: AtomicU64::new(0),
+            waited: AtomicU64::new(0),
+            control_waited: AtomicU64::new(0),
+            not_accepted: AtomicU64::new(0),
+            not_found: AtomicU64::new(0),
         }
     }
 
@@ -268,6 +320,43 @@ impl<'m, R: Wait + Clock> Journal<'m, R> {
         let is_low = blocks.is_below(self.low_water);
         if !was_low.swap(is_low, Ordering::SeqCst) && is_low {
             self.note_unless_quiet(&News::Low(kind, blocks));
+        }
+    }
+
+    /// Logs an event of a kind that is logged at most once in each second, unless `--quiet` was given.
+    fn note_in_second(&self, last: &AtomicU64, news: &News<'_>) {
+        let second = Moment::now(self.rt).seconds();
+        if last.swap(second, Ordering::SeqCst) != second {
+            self.note_unless_quiet(news);
+        }
+    }
+
+    /// Logs the mode of the pool if it is another one than before.
+    fn look_at_mode(&self, mode: Mode) {
+        let mode_number = mode as u8;
+        if self.mode.swap(mode_number, Ordering::SeqCst) != mode_number {
+            self.note(&News::Became(mode, self.image));
+        }
+    }
+
+    /// Lets the next refused write be logged if blocks became free.
+    fn look_at_free(&self, data: u64, metadata: u64) {
+        let had_data = self.free_data.swap(data, Ordering::SeqCst);
+        let had_metadata = self.free_metadata.swap(metadata, Ordering::SeqCst);
+        if had_data < data || had_metadata < metadata {
+            self.is_refused.store(false, Ordering::SeqCst);
+        }
+    }
+
+    /// Logs once that a client was refused space, until blocks become free. With this much free space
+    /// it wrote beyond the end of its volume, which has the same error.
+    fn look_at_refused(&self, data: u64, metadata: u64) {
+        let Some(number) = self.refused.swap(0, Ordering::SeqCst).checked_sub(1) else {
+            return;
+        };
+        let is_short = data < MOST_DATA || metadata < MOST_METADATA;
+        if is_short && !self.is_refused.swap(true, Ordering::SeqCst) {
+            self.note(&News::NoSpace(number));
         }
     }
 
@@ -362,9 +451,40 @@ where
         let Ok(line) = std::str::from_utf8(line) else {
             return;
         };
-        if let Some((metadata, data)) = uses_in(line) {
+        if let Some(
+            Space {
+                metadata,
+                data,
+                mode,
+            },
+        ) = space_in(line)
+        {
+            self.look_at_mode(mode);
+            self.look_at_free(data.free(), metadata.free());
+            self.look_at_refused(data.free(), metadata.free());
             self.look_at("data", data, &self.is_data_low);
             self.look_at("metadata", metadata, &self.is_metadata_low);
         }
+    }
+
+    fn waits(&self, door: usize, peer: Option<SocketAddr>) {
+        self.note_in_second(&self.waited, &News::Waits(self.place(door), peer));
+    }
+
+    fn control_waits(&self) {
+        self.note_in_second(&self.control_waited, &News::ControlWaits);
+    }
+
+    fn not_accepted(&self, error: &io::Error) {
+        self.note_in_second(&self.not_accepted, &News::NotAccepted(error));
+    }
+
+    fn no_volume(&self, number: u8, name: &[u8]) {
+        self.note_in_second(&self.not_found, &News::NoVolume(number, name));
+    }
+
+    fn no_space(&self, number: u8) {
+        self.refused
+            .store(number.saturating_add(1), Ordering::SeqCst);
     }
 }

@@ -9,6 +9,7 @@ mod journal;
 mod moment;
 mod programs;
 mod running;
+mod space;
 mod streams;
 
 pub use programs::{Status, program, without_streams, without_words};

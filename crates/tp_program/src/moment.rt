@@ -25,6 +25,11 @@ impl Moment {
         };
         Moment { seconds }
     }
+
+    /// The whole seconds since 1970.
+    pub(crate) fn seconds(self) -> u64 {
+        self.seconds
+    }
 }
 
 impl Display for Moment {

@@ -155,11 +155,25 @@ fn conclude<E: Write>(done: Result<(), Refusal>, errors: &mut E) -> Status
     }
 }
 
-/// Prints the number and name of an error, and its explanation on a second line if `explains` or if
-/// it has the number of volumes that fit.
+/// Returns whether errors of this task are explained even without a terminal and `--explain`: those
+/// of the commands that no other program has.
+fn always_explains(task: &Task<'_>) -> bool {
+    matches!(
+        task,
+        Task::Run { .. }
+            | Task::Ask { .. }
+            | Task::Create { .. }
+            | Task::Report { .. }
+            | Task::DeltaAt { .. }
+    )
+}
+
+/// Prints the number and name of an error, and its explanation on a second line if `explains`, for a
+/// command that always explains, or if it has the number of volumes that fit.
 fn tell_failure<E: Write>(task: &Task<'_>, failure: Failure, explains: bool, errors: &mut E) {
     let told = writeln!(errors, "thinpool: {}", failure.refusal);
-    if (explains || failure.tells_what_fits()) && told.is_ok() {
+    let is_explained = explains || always_explains(task) || failure.tells_what_fits();
+    if is_explained && told.is_ok() {
         let explanation = Explanation {
             task: *task,
             failure,

@@ -25,7 +25,12 @@ const NEW: &[Call] = &[
     ("ls", &[], 0, "ID SIZE MAPPED EXCLUSIVE\n"),
     ("free", &[], 0, "8388608 524288\n"),
     ("message", &["reserve_metadata_snap"], 0, "ok\n"),
-    ("free", &[], 1, "thinpool: 26 HeldRootExists\n"),
+    (
+        "free",
+        &[],
+        1,
+        "thinpool: 26 HeldRootExists\nthinpool: a metadata snapshot exists; `thinpool message image release_metadata_snap` deletes it\n",
+    ),
     ("message", &["release_metadata_snap"], 0, "ok\n"),
     ("message", &["create_thin 0"], 0, "ok\n"),
     ("ls", &[], 0, "ID SIZE MAPPED EXCLUSIVE\n0 1048576 0 0\n"),
@@ -103,13 +108,43 @@ const CHANGED: &[Call] = &[
 
 /// What is refused, and what is not told while a mapping is held.
 const REFUSED: &[Call] = &[
-    ("map", &["2"], 1, "thinpool: 15 NoSuchDevice\n"),
-    ("delta", &["0", "2"], 1, "thinpool: 15 NoSuchDevice\n"),
-    ("delta", &["2", "0"], 1, "thinpool: 15 NoSuchDevice\n"),
-    ("map", &["16777216"], 1, "thinpool: 13 BadDeviceId\n"),
-    ("delta", &["0", "16777216"], 1, "thinpool: 13 BadDeviceId\n"),
+    (
+        "map",
+        &["2"],
+        1,
+        "thinpool: 15 NoSuchDevice\nthinpool: no such volume; `thinpool ls image` lists the volumes\n",
+    ),
+    (
+        "delta",
+        &["0", "2"],
+        1,
+        "thinpool: 15 NoSuchDevice\nthinpool: no such volume; `thinpool ls image` lists the volumes\n",
+    ),
+    (
+        "delta",
+        &["2", "0"],
+        1,
+        "thinpool: 15 NoSuchDevice\nthinpool: no such volume; `thinpool ls image` lists the volumes\n",
+    ),
+    (
+        "map",
+        &["16777216"],
+        1,
+        "thinpool: 13 BadDeviceId\nthinpool: a volume id must be in 0..=16777215\n",
+    ),
+    (
+        "delta",
+        &["0", "16777216"],
+        1,
+        "thinpool: 13 BadDeviceId\nthinpool: a volume id must be in 0..=16777215\n",
+    ),
     ("message", &["reserve_metadata_snap"], 0, "ok\n"),
-    ("free", &[], 1, "thinpool: 26 HeldRootExists\n"),
+    (
+        "free",
+        &[],
+        1,
+        "thinpool: 26 HeldRootExists\nthinpool: a metadata snapshot exists; `thinpool message image release_metadata_snap` deletes it\n",
+    ),
     (
         "ls",
         &[],

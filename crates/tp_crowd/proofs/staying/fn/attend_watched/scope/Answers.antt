@@ -1,5 +1,4 @@
 use denote.Param.Send.{sendable}
-use Rattle.std.proofs.Common.{rules}
 use Rattle.tp_crowd.proofs.staying.fn.attend_watched.scope.Goals as goal
 
 pub attend_house-is_manned-requires-send-V : goal.attend_house-is_manned-requires-send-V
