@@ -1,5 +1,5 @@
 -- Trusted reading: what the commands on an image do to its disk or find of it, and what they print (own).
-use Rattle.std.specs.Prelude.{◌≡◌, ◌≢◌, ◌⊎◌, ◌<◌, ◌≤◌, ℕ, IsTrue, Bool, true, false, List, ◌++◌, ◌∷◌, not, Option, Result, Ok, Err, IfErr, MatchResult, OnOk, codes}
+use Rattle.std.specs.Prelude.{◌≡◌, ◌≢◌, ◌⊎◌, ◌<◌, ◌≤◌, ℕ, IsTrue, Bool, true, false, List, [], ◌++◌, ◌∷◌, not, Option, Result, Ok, Err, IfErr, MatchResult, OnOk, codes}
 use Rattle.tp_model.specs.declared.refusal.Refusal.{Refusal}
 use Rattle.tp_model.specs.declared.refusal.Refusal.TheVariants.{BadGeometry, Exists, Fault, Memory}
 use Rattle.tp_model.specs.Geometry.{Geometry, IsWithinLimits, sectors_of_image}
@@ -64,6 +64,14 @@ GivesOn line calls calls' result before after =
 
 abbrev pub IsMessageGiven : List ℕ → List ℕ → List Deed → List Deed → List StreamCall → List StreamCall → Result (Unit {0}) Refusal → Type 0
 IsMessageGiven name line old new calls calls' result = OnName ToWrite name old new calls calls' result (GivesOn line calls calls' result)
+
+-- The pool of a disk was opened, and let go as it was; or it was not opened.
+abbrev pub TriesOn : Result (Unit {0}) Refusal → DiskState → DiskState → Type 0
+TriesOn result before after = OnPool (λ old new. (new ≡ old) × (result ≡ Ok (tt {0}))) [] [] result before after
+
+-- The same of the image of a name, which was opened to write; or it was not, which is a fault.
+abbrev pub IsTried : List ℕ → List Deed → List Deed → Result (Unit {0}) Refusal → Type 0
+IsTried name old new result = OnName ToWrite name old new [] [] result (TriesOn result)
 
 -- ---- a new pool
 

@@ -5,7 +5,7 @@ ghost use Rattle.tp_model.specs.Geometry.{IsWithinLimits, sectors_of_image};
 ghost use Rattle.tp_disk.specs.HandedOut.{IsHandedOut};
 ghost use Rattle.tp_images.specs.declared.way.Way.TheVariants.{ToMake};
 ghost use Rattle.tp_failures.specs.Failures.{number_of};
-ghost use Rattle.tp_commands.specs.Images.{FormatsOn, FormatsWhole, GivesOn, IsChecked, IsCleared, IsFormatted, IsLetGo, IsMessageGiven, IsStatusTold, MakesPool, OnName, PrintsCheck, PrintsCleared, TellsOn, sizes_asked};
+ghost use Rattle.tp_commands.specs.Images.{FormatsOn, FormatsWhole, GivesOn, IsChecked, IsCleared, IsFormatted, IsLetGo, IsMessageGiven, IsStatusTold, IsTried, MakesPool, OnName, PrintsCheck, PrintsCleared, TellsOn, TriesOn, sizes_asked};
 
 use crate::caches::ROOM;
 use crate::clearing::tell_cleared;
@@ -109,6 +109,31 @@ pub fn message_to_image<I: Images, S: Stream>(
     match images.open(name) {
         Ok(disk) => {
             let (disk, told) = give_line_on(alloc, disk, line, stream);
+            images.close(name, disk);
+            told
+        }
+        Err(error) => Err(Failure::unopened(error)),
+    }
+}
+
+/// Opens the pool of a disk, and lets it go as it is.
+fn try_disk<D: Disk + TellsTrouble + Drop>(alloc: Global, disk: D) -> (D, Result<(), Failure>)
+    requires { IsHandedOut (D.state disk) }
+    ensures { TriesOn (number_of result.1) (D.state disk) (D.state result.0) }
+{
+    match open_pool(alloc, disk) {
+        Ok(pool) => hand_back(pool, Ok(())),
+        Err((why, disk)) => (disk, Err(why)),
+    }
+}
+
+/// Opens the pool of an image, and lets it go as it is: why it cannot be opened, if it cannot.
+pub fn try_image<I: Images>(images: &mut I, alloc: Global, name: &str) -> Result<(), Failure>
+    ensures { IsTried name.now (I.deeds images.old) (I.deeds images.new) (number_of result) }
+{
+    match images.open(name) {
+        Ok(disk) => {
+            let (disk, told) = try_disk(alloc, disk);
             images.close(name, disk);
             told
         }

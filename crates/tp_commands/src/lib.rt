@@ -23,7 +23,8 @@ mod telling;
 pub use creating::create;
 pub use feeding::{feed_fresh, feed_image};
 pub use images::{
-    check_image, clear_image, format_image, message_to_image, status_of_image, volume_asked,
+    check_image, clear_image, format_image, message_to_image, status_of_image, try_image,
+    volume_asked,
 };
 pub use reports::tell_listing;
 pub use scripts::{Unplayed, play_fresh, play_image};

@@ -1,5 +1,5 @@
 -- Trusted reading: what is done where the words of a command line name a task (own).
-use Rattle.std.specs.Prelude.{◌≡◌, ◌⊎◌, ◌≤◌, ℕ, Bool, List, [], Option, Some, Result, Ok, Err, MatchBool, if◌then◌else◌}
+use Rattle.std.specs.Prelude.{◌≡◌, ◌⊎◌, ◌≤◌, ℕ, Bool, List, [], Option, Some, Result, Ok, Err, MatchBool, MatchResult, if◌then◌else◌}
 use Rattle.std.specs.Io.KnownBytes.{Keeps}
 use Rattle.tp_model.specs.declared.refusal.Refusal.{Refusal}
 use Rattle.tp_model.specs.declared.refusal.Refusal.TheVariants.{BadDeviceId, Fault}
@@ -22,7 +22,7 @@ use Rattle.tp_failures.specs.Failures.{number_of}
 use Rattle.tp_commands.specs.Asking.{FormatsAsked}
 use Rattle.tp_commands.specs.Creating.{Creates}
 use Rattle.tp_commands.specs.Reporting.{AsksReport}
-use Rattle.tp_commands.specs.Images.{IsChecked, IsCleared, IsFormatted, IsMessageGiven, IsStatusTold}
+use Rattle.tp_commands.specs.Images.{IsChecked, IsCleared, IsFormatted, IsMessageGiven, IsStatusTold, IsTried}
 use Rattle.tp_commands.specs.Scripts.{PlaysFirst, PlaysImage}
 use Rattle.tp_commands.specs.Serving.{FeedsFirst, FeedsImage, ServesImage}
 use Rattle.tp_program.specs.Statuses.{status_after}
@@ -79,10 +79,16 @@ DoesPlain asks (Ask place lines) old new calls calls' result = new ≡ old
 abbrev pub DoesOn : Bool → Task → List Deed → List Deed → List StreamCall → List StreamCall → Result (Unit {0}) Unplayed → Type 0
 DoesOn asks task old new calls calls' result = Plainly result (DoesPlain asks task old new calls calls')
 
--- The script was not opened, which is a fault, and nothing was done; or its lines were read from it, and their answers written to the output.
+-- Why a script that was not opened is not played: the image's pool was not opened, which is told first, or that of the script, a fault.
+abbrev pub LacksScript : Image → List Deed → List Deed → Failure → Type 0
+LacksScript kept.Memory old new why = (new ≡ old) × (why.refusal ≡ Fault)
+LacksScript (kept.File name) old new why =
+    (tried : Result (Unit {0}) Refusal) × IsTried name.now old new tried × MatchResult tried (λ _. why.refusal ≡ Fault) (λ reason. why.refusal ≡ reason)
+
+-- The script was not opened, and nothing was done but that the image's pool was opened and let go; or its lines were read from it, and their answers written to the output.
 abbrev pub PlaysFile : Profile → Image → List Deed → List Deed → Option (List ℕ) → Option (List ℕ) → Result (Unit {0}) Unplayed → Type 0
 PlaysFile profile image old new told told' result =
-    ((why : Failure) × (result ≡ Err (Refused why)) × (why.refusal ≡ Fault) × (new ≡ old) × Keeps told told')
+    ((why : Failure) × (result ≡ Err (Refused why)) × LacksScript image old new why × Keeps told told')
     ⊎ ((lines : Option (List ℕ)) × (lines' : Option (List ℕ)) × (did : List StreamCall) × IsPiped lines lines' told told' did × Plays profile image old new [] did result)
 
 -- The task is done to images, of which these deeds stand before and behind it. left: what the input has left. told: what the output holds.

@@ -8,7 +8,7 @@ ghost use Rattle.tp_tasks.specs.declared.task.Task.TheVariants.{Play};
 ghost use Rattle.tp_failures.specs.Failures.{number_of};
 ghost use Rattle.tp_commands.specs.Images.{IsChecked, IsCleared};
 ghost use Rattle.tp_program.specs.Statuses.{EndsBy, status_after, status_code, status_of, status_without};
-ghost use Rattle.tp_program.specs.Tasks.{AsksStatus, Does, DoesOn, DoesPlain, Feeds, Performs, Plays, PlaysFile, offered, plain_of};
+ghost use Rattle.tp_program.specs.Tasks.{AsksStatus, Does, DoesOn, DoesPlain, Feeds, LacksScript, Performs, Plays, PlaysFile, offered, plain_of};
 
 use crate::clients::serve_image;
 use crate::running::run_image;
@@ -27,7 +27,7 @@ use std::time::Clock;
 use tp_commands::asking::format;
 use tp_commands::{
     Unplayed, check_image, clear_image, create, feed_fresh, feed_image, message_to_image,
-    play_fresh, play_image, status_of_image, tell_listing, volume_asked,
+    play_fresh, play_image, status_of_image, tell_listing, try_image, volume_asked,
 };
 use tp_failures::{Cause, Explanation, Failure};
 use tp_hub::Stream;
@@ -333,7 +333,26 @@ fn play_lines<I: Images, R: Read, W: Write>(
     played
 }
 
-/// Plays the script in a file over a pool. The file is opened first.
+/// Why a script that cannot be opened is not played. The image is opened before a script is, so what
+/// is wrong with the image is told first.
+fn without_script<I: Images>(
+    images: &mut I,
+    alloc: Global,
+    image: Image<'_>,
+    error: io::Error,
+) -> Failure
+    ensures { LacksScript image.entry (I.deeds images.old) (I.deeds images.new) result }
+{
+    match image {
+        Image::Memory => Failure::fault(Cause::Script(error)),
+        Image::File(name) => match try_image(images, alloc, name) {
+            Ok(()) => Failure::fault(Cause::Script(error)),
+            Err(why) => why,
+        },
+    }
+}
+
+/// Plays the script in a file over a pool.
 fn play_file<F: Files<File = File>, I: Images, W: Write>(
     files: &F,
     images: &mut I,
@@ -347,7 +366,7 @@ fn play_file<F: Files<File = File>, I: Images, W: Write>(
 {
     match File::open(files, path) {
         Ok(mut script) => play_lines(images, alloc, image, profile, &mut script, output),
-        Err(error) => Err(Unplayed::Refused(Failure::fault(Cause::Script(error)))),
+        Err(error) => Err(Unplayed::Refused(without_script(images, alloc, image, error))),
     }
 }
 
