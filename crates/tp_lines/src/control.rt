@@ -172,7 +172,7 @@ fn ask_line<D: Desk, S: Stream>(
 /// does nothing. False where the stream failed: then it took a beginning of the answer.
 ///
 /// The lines are `status`, `thin ID` for the status line of a volume, `size ID` for its size, `map ID FROM` and `delta OLD NEW FROM` for a page of a listing, from a block on, and any other is a
-/// message to the pool, such as `create_thin 1`. `ok`, `refused N`, the status line, the size and the page are the answers. A page has up to seven `OFFSET+LENGTH`, in bytes, and then
+/// message to the pool, such as `create_thin 1`. Lines with these first words or with `stop`, `flush` or `clients`, and with wrong arguments, are refused by `BadSyntax`. `ok`, `refused N`, the status line, the size and the page are the answers. A page has up to seven `OFFSET+LENGTH`, in bytes, and then
 /// `next BLOCK`, or `end` where there is no more.
 pub fn answer_line<D: Desk, S: Stream>(
     desk: &mut D,
