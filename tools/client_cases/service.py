@@ -227,6 +227,8 @@ def asks_serve(host):
     try:
         ran = ground.run("ask", str(server.ruler), "create_thin 7", "thin 7", "create_thin 7", "stop now")
         want((ran.status == 1 and ran.out == b"ok\n0 -\nrefused 14\nrefused 12\n" and ran.err == b"thinpool: 14 Exists\nthinpool: the server refused a line: the volume exists\n", ran.told()))
+        wrong = ground.run("ask", str(server.ruler), "thin x", "map 0 1 2", "status now", "stop later")
+        want((wrong.status == 1 and wrong.out == b"refused 11\n" * 4, wrong.told()))
         server.client().leave()
         ended = server.ended()
         want((ended.status == 0, ended.told()))

@@ -328,6 +328,8 @@ def control_lines(host):
         want((again.status == 1 and again.out == b"refused 14\n0 -\n" and again.err == b"thinpool: 14 Exists\nthinpool: the server refused a line: the volume exists\n", again.told()))
         busy = server.ask("delete 1")
         want((busy.status == 1 and busy.out == b"refused 16\n", busy.told()))
+        wrong = server.ask("size", "delta 0 1", "clients 1", "flush now")
+        want((wrong.status == 1 and wrong.out == b"refused 11\n" * 4, wrong.told()))
         client.leave()
         # The words leave the port to the system, which is told as it is.
         where = re.escape(str(server.place)) + ("" if host.over == "unix" else r" from 127\.0\.0\.1:\d+")

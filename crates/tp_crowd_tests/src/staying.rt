@@ -104,7 +104,9 @@ where
 const LINES: &[(&[u8], &[u8])] = &[
     (b"clients\n", b"2 of 64: 0\n"),
     (b"flush\n", b"ok\n"),
-    (b"flush now\n", b"refused 12\n"),
+    (b"flush now\n", b"refused 11\n"),
+    (b"size x\n", b"refused 11\n"),
+    (b"flushed\n", b"refused 12\n"),
     (b"thin 2\n", b"refused 15\n"),
 ];
 
@@ -467,11 +469,11 @@ fn who_takes_late_has_its_answers(rt: HostRuntime) -> Result<(), Fail> {
     Ok(())
 }
 
-/// Those who have no volume count too. A line that only begins as one of those that are no messages is a message, and there is no third volume.
+/// Those who have no volume count too. A control line with wrong arguments is refused as such, a longer first word as no message, and there is no third volume.
 #[test]
 fn lines_tell_who_is_served(rt: HostRuntime) -> Result<(), Fail> {
     let told = told_at_doors(&rt, Guests::Ask)?;
-    assert_eq!(rt; told, ((4, true), (true, 0, 2)));
+    assert_eq!(rt; told, ((6, true), (true, 0, 2)));
     Ok(())
 }
 

@@ -7,7 +7,7 @@ use Rattle.tp_hub.specs.Runs.{Incoming, Comes, Brings, Goes, Orders, AsksDeltaOf
 use Rattle.tp_hub.specs.Desks.{Exchange, IsAsked, IsBegun, IsCut}
 use Rattle.tp_hub.specs.Carrying.{IsSaid}
 use Rattle.tp_hub.specs.Streams.{Gave, GaveAgain, GaveEnd, GaveNone, Makes, StreamCall}
-use Rattle.tp_lines.specs.Controls.{AnswersLine, AnswersOrEnds, AsksFor, AttendsLines, IsControl, IsPlain, drops_last, ended_by}
+use Rattle.tp_lines.specs.Controls.{AnswersLine, AnswersOrEnds, AsksFor, AttendsLines, IsControl, IsPlain, drops_last, ended_by, message_of}
 use Rattle.tp_lines.specs.Lines.{IsNoLine}
 use Rattle.tp_lines.specs.Pages.{IsNoPage}
 use Rattle.tp_lines.specs.ReadLines.{AreDone, AreRead, IsReadOnce, Leads, ReadEnd, ReadFail, ReadStop, left_from, lines_from, one_more}
@@ -22,29 +22,29 @@ use Rattle.tp_lines.proofs.Playing.{one_text}
 -- ---- one line
 
 -- a line of a script that asks for no status line is a message
-pub no_line : (text : List ℕ) → IsNoLine text → IsPlain text (Orders text)
-no_line text none = (refl, λ e. none Status tt e, λ id lt e. none (Thin id) lt e)
+pub no_line : (text line : List ℕ) → line ≡ message_of text → IsNoLine text → IsPlain text (Orders line)
+no_line text line said none = (said, λ e. none Status tt e, λ id lt e. none (Thin id) lt e)
 
 -- nor does a text that begins with another letter ask for one
-headed : (text whole : List ℕ) (n : ℕ) → text ≡ whole → get_or whole 0 0 ≡ n → (n ≡ 115 → ⊥) → (n ≡ 116 → ⊥) → IsPlain text (Orders text)
-headed text whole n is first s t =
+headed : (text line whole : List ℕ) (n : ℕ) → line ≡ message_of text → text ≡ whole → get_or whole 0 0 ≡ n → (n ≡ 115 → ⊥) → (n ≡ 116 → ⊥) → IsPlain text (Orders line)
+headed text line whole n said is first s t =
     let begins : get_or text 0 0 ≡ n = ap (λ (l : List ℕ). get_or l 0 0) is ∙ first in
-    (refl, λ e. s (sym begins ∙ ap (λ (l : List ℕ). get_or l 0 0) e), λ id lt e. t (sym begins ∙ ap (λ (l : List ℕ). get_or l 0 0) e))
+    (said, λ e. s (sym begins ∙ ap (λ (l : List ℕ). get_or l 0 0) e), λ id lt e. t (sym begins ∙ ap (λ (l : List ℕ). get_or l 0 0) e))
 
-pub asks_nothing : (text : List ℕ) → text ≡ [] → IsPlain text (Orders text)
-asks_nothing text is = headed text [] 0 is refl (λ e. absurd (omega (arith, e))) (λ e. absurd (omega (arith, e)))
+pub asks_nothing : (text line : List ℕ) → line ≡ message_of text → text ≡ [] → IsPlain text (Orders line)
+asks_nothing text line said is = headed text line [] 0 said is refl (λ e. absurd (omega (arith, e))) (λ e. absurd (omega (arith, e)))
 
-pub asks_open : (text rest : List ℕ) → text ≡ codes "open " ++ rest → IsPlain text (Orders text)
-asks_open text rest is = headed text (codes "open " ++ rest) 111 is refl (λ e. absurd (omega (arith, e))) (λ e. absurd (omega (arith, e)))
+pub asks_open : (text line rest : List ℕ) → line ≡ message_of text → text ≡ codes "open " ++ rest → IsPlain text (Orders line)
+asks_open text line rest said is = headed text line (codes "open " ++ rest) 111 said is refl (λ e. absurd (omega (arith, e))) (λ e. absurd (omega (arith, e)))
 
-pub asks_bytes : (text rest : List ℕ) → text ≡ codes "bytes " ++ rest → IsPlain text (Orders text)
-asks_bytes text rest is = headed text (codes "bytes " ++ rest) 98 is refl (λ e. absurd (omega (arith, e))) (λ e. absurd (omega (arith, e)))
+pub asks_bytes : (text line rest : List ℕ) → line ≡ message_of text → text ≡ codes "bytes " ++ rest → IsPlain text (Orders line)
+asks_bytes text line rest said is = headed text line (codes "bytes " ++ rest) 98 said is refl (λ e. absurd (omega (arith, e))) (λ e. absurd (omega (arith, e)))
 
-pub asks_hangup : (text rest : List ℕ) → text ≡ codes "hangup " ++ rest → IsPlain text (Orders text)
-asks_hangup text rest is = headed text (codes "hangup " ++ rest) 104 is refl (λ e. absurd (omega (arith, e))) (λ e. absurd (omega (arith, e)))
+pub asks_hangup : (text line rest : List ℕ) → line ≡ message_of text → text ≡ codes "hangup " ++ rest → IsPlain text (Orders line)
+asks_hangup text line rest said is = headed text line (codes "hangup " ++ rest) 104 said is refl (λ e. absurd (omega (arith, e))) (λ e. absurd (omega (arith, e)))
 
-pub asks_message : (text rest : List ℕ) → text ≡ codes "message " ++ rest → IsPlain text (Orders text)
-asks_message text rest is = headed text (codes "message " ++ rest) 109 is refl (λ e. absurd (omega (arith, e))) (λ e. absurd (omega (arith, e)))
+pub asks_message : (text line rest : List ℕ) → line ≡ message_of text → text ≡ codes "message " ++ rest → IsPlain text (Orders line)
+asks_message text line rest said is = headed text line (codes "message " ++ rest) 109 said is refl (λ e. absurd (omega (arith, e))) (λ e. absurd (omega (arith, e)))
 
 -- a line that asks for no page
 pub plain_control : (text : List ℕ) (event : Incoming) → IsNoPage text → IsPlain text event → IsControl text event

@@ -4,7 +4,7 @@ use Rattle.std.specs.Prelude.{◌==◌, if◌then◌else◌, bytes_eq, codes}
 use Rattle.std.specs.Char.{is_ascii_digit}
 use Rattle.std.specs.Fmt.{decimal}
 use Rattle.std.specs.Str.{all_ascii_digits}
-use Rattle.std.proofs.lemmas.Bool.{and_parts, ne_eqb, leb-true}
+use Rattle.std.proofs.lemmas.Bool.{and_parts, eqb-true, ne_eqb, leb-true}
 use Rattle.std.proofs.lemmas.Slice.Eq.{bytes_eq-Decides}
 use Rattle.std.proofs.lemmas.Fmt.{digits_decimal, digits_value-decimal}
 use Rattle.tp_model.specs.Digits.{number_after}
@@ -31,6 +31,16 @@ no_space text same w r e =
     let l : length (first_word text) ≡ length text = ap length same in
     let s : length (first_word text) < length text = subst (λ (t : List ℕ). length (first_word t) < length t) (sym e) (first_shorter w r) in
     absurd (omega (arith, l, s))
+
+whole_from : (c : ℕ) (cs : List ℕ) (b : Bool) → (c == 32) ≡ b → (c ≡ 32 → ⊥) → first_word cs ≡ cs → (if b then [] else c ∷ first_word cs) ≡ c ∷ cs
+whole_from c cs true is other same = absurd (other (eqb-true c 32 is))
+whole_from c cs false is other same = ap (λ (l : List ℕ). c ∷ l) same
+
+-- and without a space it is its first word
+pub whole_word : (text : List ℕ) → HasNoSpace text → first_word text ≡ text
+whole_word [] none = refl
+whole_word (c ∷ cs) none =
+    whole_from c cs (c == 32) refl (λ e. none [] cs (ap (λ (n : ℕ). n ∷ cs) e)) (whole_word cs (λ word rest e. none (c ∷ word) rest (ap (λ (l : List ℕ). c ∷ l) e)))
 
 digit_no_space : (c : ℕ) → is_ascii_digit c ≡ true → (c == 32) ≡ false
 digit_no_space c h = let low = leb-true 48 c (and_parts _ _ h).0 in ne_eqb c 32 (λ e. absurd (omega arith))

@@ -1,6 +1,7 @@
 -- Trusted reading: control lines over a desk and a stream: the events that they are, and what is written (own).
-use Rattle.std.specs.Prelude.{◌≡◌, ℕ, ◌<◌, Bool, true, false, List, [], ◌∷◌, ◌++◌, codes, Result, Ok, Err}
+use Rattle.std.specs.Prelude.{◌≡◌, ℕ, ◌<◌, Bool, true, false, not, ◌&&◌, ◌||◌, if◌then◌else◌, List, [], ◌∷◌, ◌++◌, bytes_eq, codes, Result, Ok, Err}
 use Rattle.std.specs.Fmt.{decimal}
+use Rattle.tp_msg.specs.Messages.{first_word}
 use Rattle.tp_hub.specs.Runs.{Incoming, Comes, Brings, Goes, Orders, AsksDeltaOf, AsksFlush, AsksLine, AsksLineOf, AsksMapOf, AsksSizeOf}
 use Rattle.tp_hub.specs.Desks.{Exchange}
 use Rattle.tp_hub.specs.Streams.{StreamCall}
@@ -14,12 +15,27 @@ use Rattle.tp_lines.specs.Pages.{IsNoPage, IsPageLine, page_spelling}
 use Rattle.tp_lines.specs.ReadLines.{AreRead, answered}
 use Rattle.tp_lines.specs.Texts.{text_in}
 
+-- the first words of control lines
+abbrev pub is_control_word : List ℕ → Bool
+is_control_word word =
+    bytes_eq word (codes "thin") || bytes_eq word (codes "size") || bytes_eq word (codes "map") || bytes_eq word (codes "delta")
+    || bytes_eq word (codes "status") || bytes_eq word (codes "clients") || bytes_eq word (codes "flush") || bytes_eq word (codes "stop")
+
+-- the lines of these that go on as they are: a desk may obey them
+abbrev pub is_command : List ℕ → Bool
+is_command text = bytes_eq text (codes "clients") || bytes_eq text (codes "flush") || bytes_eq text (codes "stop") || bytes_eq text (codes "stop now")
+
+-- The message to the pool that a line is, if it asks for no status line and no page. With the first word of a control line its arguments are wrong:
+-- then it is a message that lacks its argument, so it is refused by BadSyntax.
+abbrev pub message_of : List ℕ → List ℕ
+message_of text = if is_control_word (first_word text) && not (is_command text) then codes "create_thin" else text
+
 -- the event that a line is, where it asks for no page: a line that asks for no status line is a message to the pool
 abbrev pub IsPlain : List ℕ → Incoming → Type 0
 IsPlain text (Comes n profile) = ⊥
 IsPlain text (Brings n piece) = ⊥
 IsPlain text (Goes n) = ⊥
-IsPlain text (Orders line) = (line ≡ text) × (text ≡ codes "status" → ⊥) × ((id : ℕ) → id < 16777216 → text ≡ codes "thin " ++ decimal id → ⊥)
+IsPlain text (Orders line) = (line ≡ message_of text) × (text ≡ codes "status" → ⊥) × ((id : ℕ) → id < 16777216 → text ≡ codes "thin " ++ decimal id → ⊥)
 IsPlain text AsksLine = text ≡ codes "status"
 IsPlain text (AsksLineOf id) = (id < 16777216) × (text ≡ codes "thin " ++ decimal id)
 IsPlain text (AsksSizeOf id) = ⊥

@@ -1,15 +1,16 @@
 //! Control lines over a desk: messages to a pool that is served, and questions for its status lines and for pages of its listings.
 
 ghost use Rattle.std.specs.Prelude.{◌≡◌, ◌<◌, ◌∷◌, ℕ, [], IfOk, OnOk, length};
+ghost use Rattle.tp_msg.specs.Messages.{first_word};
 ghost use Rattle.tp_hub.specs.Told.{HasRoom};
 ghost use Rattle.tp_hub.specs.Runs.{incoming};
-ghost use Rattle.tp_lines.specs.Controls.{AnswersLine, AnswersOrEnds, AttendsLines, IsControl, IsPlain, drops_last, ended_by};
+ghost use Rattle.tp_lines.specs.Controls.{AnswersLine, AnswersOrEnds, AttendsLines, IsControl, IsPlain, drops_last, ended_by, is_command, is_control_word, message_of};
 ghost use Rattle.tp_lines.specs.ReadLines.{AreDone, AreRead, IsReadOnce, Leads, left_from, lines_from};
 ghost use Rattle.tp_lines.specs.Lines.{IsLine, spelling};
 ghost use Rattle.tp_lines.specs.Pages.{IsPageLine, page_spelling};
 
 use crate::held::{HeldLine, zeroes};
-use crate::line::{ScriptLine, read_line};
+use crate::line::{ScriptLine, cut, read_line};
 use crate::pages::{PageOf, read_page};
 use crate::text::tell;
 use std::alloc::{AllocError, Global};
@@ -50,20 +51,65 @@ fn ended_by(lost: Lost) -> LinesEnd
 /// The most bytes of one read.
 const PIECE: usize = 256;
 
+/// The bytes before the first space, or all.
+fn first_word(text: &[u8]) -> &[u8]
+    ensures { result.now ≡ first_word text.now }
+{
+    match cut(text) {
+        None => text,
+        Some((word, _)) => word,
+    }
+}
+
+/// Whether a word is the first one of control lines.
+fn is_control_word(word: &[u8]) -> bool
+    ensures { result ≡ is_control_word word.now }
+{
+    word == b"thin".as_slice()
+        || word == b"size".as_slice()
+        || word == b"map".as_slice()
+        || word == b"delta".as_slice()
+        || word == b"status".as_slice()
+        || word == b"clients".as_slice()
+        || word == b"flush".as_slice()
+        || word == b"stop".as_slice()
+}
+
+/// Whether a line is one that a desk may obey itself.
+fn is_command(line: &[u8]) -> bool
+    ensures { result ≡ is_command line.now }
+{
+    line == b"clients".as_slice()
+        || line == b"flush".as_slice()
+        || line == b"stop".as_slice()
+        || line == b"stop now".as_slice()
+}
+
+/// The message that a line is, if it asks for no status line and no page. A control line with wrong arguments is a message without its argument: `BadSyntax`.
+fn message_of(line: &[u8]) -> &[u8]
+    ensures { result.now ≡ message_of line.now }
+{
+    if is_control_word(first_word(line)) && !is_command(line) {
+        return b"create_thin".as_slice();
+    }
+    line
+}
+
 /// The event of a control line that a script could have: only where that asks for a status line it is the same.
 fn event_like<'a>(asked: ScriptLine<'_>, line: &'a [u8]) -> Event<'a>
     requires good { IsLine asked }
     requires spelled { line.now ≡ spelling asked }
     ensures { IsPlain line.now (incoming result) }
 {
+    let message = message_of(line);
     match asked {
         ScriptLine::Status => Event::Status,
         ScriptLine::Thin(id) => Event::ThinStatus(id),
-        ScriptLine::Nothing => Event::Message(line),
-        ScriptLine::Open(_) => Event::Message(line),
-        ScriptLine::Bytes(_, _) => Event::Message(line),
-        ScriptLine::Hangup(_) => Event::Message(line),
-        ScriptLine::Message(_) => Event::Message(line),
+        ScriptLine::Nothing => Event::Message(message),
+        ScriptLine::Open(_) => Event::Message(message),
+        ScriptLine::Bytes(_, _) => Event::Message(message),
+        ScriptLine::Hangup(_) => Event::Message(message),
+        ScriptLine::Message(_) => Event::Message(message),
     }
 }
 
@@ -72,7 +118,7 @@ fn plain_event(line: &[u8]) -> Event<'_>
     ensures { IsPlain line.now (incoming result) }
 {
     match read_line(line) {
-        None => Event::Message(line),
+        None => Event::Message(message_of(line)),
         Some(asked) => event_like(asked, line),
     }
 }
@@ -126,7 +172,7 @@ fn ask_line<D: Desk, S: Stream>(
 /// does nothing. False where the stream failed: then it took a beginning of the answer.
 ///
 /// The lines are `status`, `thin ID` for the status line of a volume, `size ID` for its size, `map ID FROM` and `delta OLD NEW FROM` for a page of a listing, from a block on, and any other is a
-/// message to the pool, such as `create_thin 1`. `ok`, `refused N`, the status line, the size and the page are the answers. A page has up to seven `OFFSET+LENGTH`, in bytes, and then
+/// message to the pool, such as `create_thin 1`. Lines with these first words or with `stop`, `flush` or `clients`, and with wrong arguments, are refused by `BadSyntax`. `ok`, `refused N`, the status line, the size and the page are the answers. A page has up to seven `OFFSET+LENGTH`, in bytes, and then
 /// `next BLOCK`, or `end` where there is no more.
 pub fn answer_line<D: Desk, S: Stream>(
     desk: &mut D,
