@@ -175,7 +175,10 @@ def is_told(pattern, line, folder, known):
 def refused_with_why(ground, known, words, wanted, patterns, how):
     reaches(ground, how)
     wrong = []
-    for name, ran in [("--explain", ground.run("--explain", *words, **how)), ("on a terminal", on_terminal([ground.program, *words], (2,), **how))]:
+    for name, ran in [
+            ("--explain", ground.run("--explain", *words, **how)),
+            ("--explain behind", ground.run(*words, "--explain", **how)),
+            ("on a terminal", on_terminal([ground.program, *words], (2,), **how))]:
         try:
             want_explained(ran, wanted, patterns, ground.folder, known)
             want_refused(ground, known, ran)

@@ -96,8 +96,8 @@ const BAD_LINES: &[(&[&str], &str)] = &[
         "Usage: thinpool <COMMAND>\n",
     ),
     (
-        &["thinpool", "check", "bad.img", "--explain"],
-        "error: unexpected argument '--explain' found",
+        &["thinpool", "check", "--explain"],
+        "Usage: thinpool check --explain <IMAGE>",
     ),
 ];
 
@@ -113,7 +113,7 @@ const BAD_VALUES: &[(&[&str], &str)] = &[
     ),
     (
         &["thinpool", "--explain", "status", "bad.img", "-1"],
-        "error: unexpected argument '-1' found\n\nUsage: thinpool status <IMAGE> [ID]\n",
+        "error: unexpected argument '-1' found\n\nUsage: thinpool status [OPTIONS] <IMAGE> [ID]\n",
     ),
     (
         &["thinpool", "status", "-1"],
@@ -166,21 +166,83 @@ fn values_that_look_like_flags(rt: HostRuntime) {
     misuse(&rt, BAD_VALUES);
 }
 
-#[test]
-fn a_task_is_to_be_explained(rt: HostRuntime) {
-    let asked = command(
-        rt.alloc(),
-        &["thinpool", "--explain", "status", "pool.img", "7"],
-    );
+/// Whether these words ask for the status of volume 7, to be explained if `explains`.
+fn asks_status(alloc: Global, words: &[&str], explains: bool) -> bool {
     let task = Task::Status {
         image: "pool.img",
         id: Some(7),
     };
-    let explained = Asked {
-        task,
-        explains: true,
-    };
-    assert_eq!(rt; asked.ok(), Some(explained));
+    command(alloc, words).ok() == Some(Asked { task, explains })
+}
+
+#[test]
+fn a_task_is_to_be_explained(rt: HostRuntime) {
+    let lines: [&[&str]; 5] = [
+        &["thinpool", "--explain", "status", "pool.img", "7"],
+        &["thinpool", "status", "pool.img", "7", "--explain"],
+        &["thinpool", "status", "--explain", "pool.img", "7"],
+        &["thinpool", "status", "pool.img", "--explain", "7"],
+        &[
+            "thinpool",
+            "--explain",
+            "status",
+            "pool.img",
+            "--explain",
+            "7",
+        ],
+    ];
+    for words in lines {
+        let is_so = asks_status(rt.alloc(), words, true);
+        assert!(rt; is_so);
+    }
+    let is_so = asks_status(rt.alloc(), &["thinpool", "status", "pool.img", "7"], false);
+    assert!(rt; is_so);
+}
+
+/// A command line of each command, with `--explain` behind it.
+const EXPLAINED_LINES: &[&[&str]] = &[
+    &["thinpool", "format", "a", "1", "2", "3", "4", "--explain"],
+    &[
+        "thinpool",
+        "create",
+        "a",
+        "--size",
+        "1",
+        "--volume-size",
+        "1",
+        "--volumes",
+        "1",
+        "--explain",
+    ],
+    &["thinpool", "message", "a", "b", "--explain"],
+    &["thinpool", "status", "a", "--explain"],
+    &["thinpool", "ls", "a", "--explain"],
+    &["thinpool", "map", "a", "1", "--explain"],
+    &["thinpool", "delta", "a", "1", "2", "--explain"],
+    &["thinpool", "free", "a", "--explain"],
+    &["thinpool", "check", "a", "--explain"],
+    &["thinpool", "feed", "a", "--explain"],
+    &["thinpool", "serve", "a", "b:1", "1", "--explain"],
+    &["thinpool", "play", "a", "b", "--explain"],
+    &["thinpool", "run", "a", "--listen", "b:1", "--explain"],
+    &["thinpool", "ask", "a", "b", "--explain"],
+];
+
+/// The first of these that names no task which is to be explained.
+fn first_unexplained(alloc: Global, lines: &[&[&str]]) -> Option<usize> {
+    for (i, words) in lines.iter().enumerate() {
+        match command(alloc, words) {
+            Ok(Asked { explains: true, .. }) => {}
+            _ => return Some(i),
+        }
+    }
+    None
+}
+
+#[test]
+fn each_command_is_explained(rt: HostRuntime) {
+    let first = first_unexplained(rt.alloc(), EXPLAINED_LINES);
+    assert_eq!(rt; first, None);
 }
 
 /// A system whose command line has these words.

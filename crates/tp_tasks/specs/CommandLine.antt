@@ -166,18 +166,26 @@ without_subcommands =
     let app = new_app (codes "thinpool") in
     record app { top = record app.top { has_version = true; subcommand_required = true; arg_required_else_help = true } }
 
+-- `--explain`, which each command has
+abbrev pub explain_rule : Rule
+explain_rule = flag_rule (codes "EXPLAIN") (codes "explain")
+
+-- with this command, and that flag of it
+abbrev pub with_command : App → App → App
+with_command app command = with_subcommand app (with_rule command explain_rule).top
+
 -- with the commands that make an image, tell it a message, or tell its status
 abbrev pub with_first : App → App
-with_first app = with_subcommand (with_subcommand (with_subcommand (with_subcommand app format_app.top) create_app.top) message_app.top) status_app.top
+with_first app = with_command (with_command (with_command (with_command app format_app) create_app) message_app) status_app
 
 -- with those that list what is in an image
 abbrev pub with_listings : App → App
-with_listings app = with_subcommand (with_subcommand (with_subcommand (with_subcommand app list_app.top) map_app.top) delta_app.top) free_app.top
+with_listings app = with_command (with_command (with_command (with_command app list_app) map_app) delta_app) free_app
 
 abbrev pub thinpool_app : App
 thinpool_app =
-    with_subcommand (with_subcommand (with_subcommand (with_subcommand (with_subcommand (with_subcommand (with_listings (with_first without_subcommands))
-    check_app.top) feed_app.top) serve_app.top) play_app.top) run_app.top) ask_app.top
+    with_command (with_command (with_command (with_command (with_command (with_command (with_listings (with_first without_subcommands))
+    check_app) feed_app) serve_app) play_app) run_app) ask_app
 
 -- ---- the flag in front of the command
 
@@ -532,9 +540,14 @@ Name words task = IsTaskOf (command_in words) task
 abbrev pub NameNone : List Text → Type 0
 NameNone words = LacksTaskOf (command_in words)
 
--- they have no mistake and name the task, and it is to be explained exactly where they have the flag
+-- the command has the flag among its arguments
+abbrev pub is_explained_behind : Option (Text × List Row) → Bool
+is_explained_behind None = false
+is_explained_behind (Some p) = is_used (codes "EXPLAIN") p.1
+
+-- they have no mistake and name the task, and it is to be explained exactly where they have the flag, in front of the command or behind it
 abbrev pub AskFor : List Text → Asked → Type 0
-AskFor words asked = (mistakes words ≡ []) × Name words asked.task × (asked.explains ≡ is_explained words)
+AskFor words asked = (mistakes words ≡ []) × Name words asked.task × (asked.explains ≡ (is_explained words || is_explained_behind (command_in words)))
 
 abbrev pub is_told : ErrorKind → Type 0
 is_told kind = (kind ≡ DisplayHelp) ⊎ (kind ≡ DisplayVersion)

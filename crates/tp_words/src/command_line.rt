@@ -3,7 +3,7 @@
 ghost use Rattle.std.specs.Prelude.{◌≡◌, [], IfOk, List, MatchResult, drop, false, map};
 ghost use Rattle.clap.specs.Words.{App, HasKind, Rule, Text, app_of, new_app, rule_of, subcommand_rows_of, with_rule, with_subcommand};
 ghost use Rattle.clap.specs.declared.builder.command.Command.TheViews.{out-Command};
-ghost use Rattle.tp_tasks.specs.CommandLine.{AskFor, IsUnread, NameNone, check_app, command_in, extended_rule, feed_app, flag_rule, image_app, is_explained, message_app, mistakes, number_rule, option_rule, optional_number_rule, optional_rule, play_app, repeated_rule, serve_app, status_app, text_rule, thinpool_app, with_first, with_listings, without_flag, without_subcommands};
+ghost use Rattle.tp_tasks.specs.CommandLine.{AskFor, IsUnread, NameNone, check_app, command_in, explain_rule, extended_rule, feed_app, flag_rule, image_app, is_explained, message_app, mistakes, number_rule, option_rule, optional_number_rule, optional_rule, play_app, repeated_rule, serve_app, status_app, text_rule, thinpool_app, with_command, with_first, with_listings, without_flag, without_subcommands};
 ghost use Rattle.tp_words.specs.Commands.{IsMade, IsRuled};
 
 use crate::listing::{delta_command, free_command, list_command, map_command};
@@ -14,12 +14,12 @@ use clap::{Arg, ArgAction, ArgMatches, Command};
 use std::alloc::{AllocError, Global};
 use std::convert::AsStr;
 use std::path::Path;
-use tp_tasks::{Asked, Unread, fault_of_create, fault_of_run, task_of};
+use tp_tasks::{Asked, Unread, fault_of_create, fault_of_run, is_explained_behind, task_of};
 
 const VERSION: &str = "0.1.0 (rattle-kit-13f logic dac8208d650f15bf)";
 
 const AFTER_HELP: &str = "\
-Before the command:
+Before or after the command:
       --explain  After an error, also print what failed, why, and what to do. On a terminal this is
                  the default. Example: thinpool --explain status pool.img
 
@@ -147,7 +147,7 @@ and block status, as with 'run'.
 
   thinpool play mem: script.txt";
 
-/// Reads the words of a command line, the first of them the program's name. `--explain` may stand behind it, in front of all others.
+/// Reads the words of a command line, the first of them the program's name. `--explain` may be the second, or an option of the command.
 ///
 /// `Memory` where there is no memory for it, and only then of words that name a task.
 pub fn command<'a, S: AsStr>(alloc: Global, words: &'a [S]) -> Result<Asked<'a>, Unread>
@@ -185,6 +185,8 @@ fn asked_in<'a>(
     ensures { (words : List Text) → mistakes words ≡ [] → subcommand_rows_of matches.now ≡ command_in words → explains ≡ is_explained words
         → MatchResult result (λ asked. AskFor words asked) (λ why. IsUnread words why) }
 {
+    let behind = is_explained_behind(matches);
+    let explains = explains | behind;
     match task_of(matches) {
         Some(task) => Ok(Asked { task, explains }),
         None => Err(misused(alloc, matches)),
@@ -263,6 +265,15 @@ pub(crate) fn flag<'a>(alloc: Global, id: &'a str, name: &'a str, help: &'a str)
         .long(name)
         .action(ArgAction::SetTrue)
         .help(help)
+}
+
+/// The flag `--explain`.
+fn explain<'a>(alloc: Global) -> Arg<'a>
+    ensures rule { rule_of result ≡ explain_rule }
+    ensures local { result.global ≡ false }
+{
+    let help = "After an error, also print what failed, why, and what to do";
+    flag(alloc, "EXPLAIN", "explain", help)
 }
 
 /// An option `--name VALUE`, which may be left out. Help calls its value by that name.
@@ -437,12 +448,12 @@ fn known_commands<'a>(alloc: Global) -> Result<Command<'a>, AllocError>
 {
     let known = with_first(alloc, Ok(program(alloc)));
     let known = with_listings(alloc, known);
-    let known = add_to_made(known, check_command(alloc));
-    let known = add_to_made(known, feed_command(alloc));
-    let known = add_to_made(known, serve_command(alloc));
-    let known = add_to_made(known, play_command(alloc));
-    let known = add_to_made(known, run_command(alloc));
-    add_to_made(known, ask_command(alloc))
+    let known = add_to_made(alloc, known, check_command(alloc));
+    let known = add_to_made(alloc, known, feed_command(alloc));
+    let known = add_to_made(alloc, known, serve_command(alloc));
+    let known = add_to_made(alloc, known, play_command(alloc));
+    let known = add_to_made(alloc, known, run_command(alloc));
+    add_to_made(alloc, known, ask_command(alloc))
 }
 
 /// Commands with those that make an image, tell it a message, or tell its status.
@@ -452,10 +463,10 @@ fn with_first<'a>(
 ) -> Result<Command<'a>, AllocError>
     ensures { (before : App) → IfOk known.entry (λ commands. app_of commands ≡ before) → IfOk result (λ all. app_of all ≡ with_first before) }
 {
-    let known = add_to_made(known, format_command(alloc));
-    let known = add_to_made(known, create_command(alloc));
-    let known = add_to_made(known, message_command(alloc));
-    add_to_made(known, status_command(alloc))
+    let known = add_to_made(alloc, known, format_command(alloc));
+    let known = add_to_made(alloc, known, create_command(alloc));
+    let known = add_to_made(alloc, known, message_command(alloc));
+    add_to_made(alloc, known, status_command(alloc))
 }
 
 /// Commands with those that list what is in an image.
@@ -465,10 +476,10 @@ fn with_listings<'a>(
 ) -> Result<Command<'a>, AllocError>
     ensures { (before : App) → IfOk known.entry (λ commands. app_of commands ≡ before) → IfOk result (λ all. app_of all ≡ with_listings before) }
 {
-    let known = add_to_made(known, list_command(alloc));
-    let known = add_to_made(known, map_command(alloc));
-    let known = add_to_made(known, delta_command(alloc));
-    add_to_made(known, free_command(alloc))
+    let known = add_to_made(alloc, known, list_command(alloc));
+    let known = add_to_made(alloc, known, map_command(alloc));
+    let known = add_to_made(alloc, known, delta_command(alloc));
+    add_to_made(alloc, known, free_command(alloc))
 }
 
 /// Commands with one more.
@@ -491,14 +502,16 @@ fn add_made<'a>(
     }
 }
 
-/// The same of commands that there may be no memory for. A `?` where commands live is dear to prove, so both are passed on whole.
+/// The same of commands that there may be no memory for, and the new one gets the flag `--explain`. A `?` where commands live is dear to prove, so both are passed on whole.
 fn add_to_made<'a>(
+    alloc: Global,
     known: Result<Command<'a>, AllocError>,
     made: Result<Command<'a>, AllocError>,
 ) -> Result<Command<'a>, AllocError>
     ensures { (before more : App) → IfOk known.entry (λ commands. app_of commands ≡ before) → IfOk made.entry (IsMade more)
-        → IfOk result (λ all. app_of all ≡ with_subcommand before more.top) }
+        → IfOk result (λ all. app_of all ≡ with_command before more) }
 {
+    let made = with(made, explain(alloc));
     match known {
         Ok(commands) => add_made(commands, made),
         Err(error) => Err(error),

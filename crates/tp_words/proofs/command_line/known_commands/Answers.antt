@@ -1,16 +1,15 @@
-use Rattle.tp_tasks.specs.CommandLine.{ask_app, check_app, feed_app, play_app, run_app, serve_app, with_first, with_listings, without_subcommands}
-use Rattle.clap.specs.Words.{with_subcommand}
+use Rattle.tp_tasks.specs.CommandLine.{ask_app, check_app, feed_app, play_app, run_app, serve_app, with_command, with_first, with_listings, without_subcommands}
 use Rattle.tp_words.proofs.command_line.known_commands.Goals as goal
 
 pub returns : goal.returns
 returns c =
     let first = with_first without_subcommands in
     let listings = with_listings first in
-    let one = with_subcommand listings check_app.top in
-    let two = with_subcommand one feed_app.top in
-    let three = with_subcommand two serve_app.top in
-    let four = with_subcommand three play_app.top in
-    let five = with_subcommand four run_app.top in
+    let one = with_command listings check_app in
+    let two = with_command one feed_app in
+    let three = with_command two serve_app in
+    let four = with_command three play_app in
+    let five = with_command four run_app in
     c.add_to_made.ensures five ask_app
     (c.add_to_made-known-5.ensures four run_app
     (c.add_to_made-known-4.ensures three play_app

@@ -1,12 +1,11 @@
-use Rattle.tp_tasks.specs.CommandLine.{create_app, format_app, message_app, status_app}
-use Rattle.clap.specs.Words.{with_subcommand}
+use Rattle.tp_tasks.specs.CommandLine.{create_app, format_app, message_app, status_app, with_command}
 use Rattle.tp_words.proofs.command_line.with_first.Goals as goal
 
 pub returns : goal.returns
 returns c before was =
-    let one = with_subcommand before format_app.top in
-    let two = with_subcommand one create_app.top in
-    let three = with_subcommand two message_app.top in
+    let one = with_command before format_app in
+    let two = with_command one create_app in
+    let three = with_command two message_app in
     c.add_to_made.ensures three status_app
     (c.add_to_made-known-3.ensures two message_app
     (c.add_to_made-known-2.ensures one create_app

@@ -1,12 +1,11 @@
-use Rattle.tp_tasks.specs.CommandLine.{delta_app, free_app, list_app, map_app}
-use Rattle.clap.specs.Words.{with_subcommand}
+use Rattle.tp_tasks.specs.CommandLine.{delta_app, free_app, list_app, map_app, with_command}
 use Rattle.tp_words.proofs.command_line.with_listings.Goals as goal
 
 pub returns : goal.returns
 returns c before was =
-    let one = with_subcommand before list_app.top in
-    let two = with_subcommand one map_app.top in
-    let three = with_subcommand two delta_app.top in
+    let one = with_command before list_app in
+    let two = with_command one map_app in
+    let three = with_command two delta_app in
     c.add_to_made.ensures three free_app
     (c.add_to_made-known-3.ensures two delta_app
     (c.add_to_made-known-2.ensures one map_app
