@@ -23,6 +23,8 @@ WRONG_CALLS = [
     ("play of a missing script", "play {pool} {missing}", "5 Fault", ["{missing}", "no such file"]),
     ("play of a missing script in memory", "play mem: {missing}", "5 Fault", ["{missing}", "no such file"]),
     ("play of a script that is a folder", "play {pool} {folder}", "5 Fault", ["{folder}", "directory"]),
+    ("play of a missing script over a file of zeros", "play {zeros} {missing}", "3 NotAPool", ["{zeros}"]),
+    ("play of a missing script over an image in use", "play {busy} {missing}", "5 Fault", ["{busy}", "in use|lock"]),
     ("status of no name", "status ''", "5 Fault", ["no such file|empty"]),
     ("format in a missing folder", "format {missing}/pool.img 128 64 1100 64", "5 Fault", ["{missing}/pool.img", "no such file"]),
     ("status of a folder", "status {folder}", "5 Fault", ["{folder}", "directory|regular"]),
