@@ -154,7 +154,7 @@ def reasons(host):
         (["free", text], 3, f"{text} is not a thinpool image; check the name"),
         (["ask", f"unix:{none}", "status"], 5, f"unix:{none} cannot be reached"),
         (["run", none, "--listen", "127.0.0.1:0"], 5, f"{none} cannot be opened"),
-        (["create", none, "--size", "1T", "--volume-size", "16T", "--volumes", "0"], 1, "--size must be"),
+        (["create", none, "--size", "1T", "--volume-size", "16T", "--volumes", "0"], 1, "--volumes is 0: it must be at least 1"),
     ]
     for words, number, reason in cases:
         ran = ground.run(*words)
