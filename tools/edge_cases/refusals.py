@@ -179,7 +179,7 @@ def refused_with_why(ground, known, words, wanted, patterns, how):
     wrong = []
     for name, ran in [
             ("--explain", ground.run("--explain", *words, **how)),
-            ("--explain behind", ground.run(*words, "--explain", **how)),
+            ("--explain after", ground.run(*words, "--explain", **how)),
             ("on a terminal", on_terminal([ground.program, *words], (2,), **how))]:
         try:
             want_explained(ran, wanted, patterns, ground.folder, known)

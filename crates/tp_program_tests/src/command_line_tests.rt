@@ -27,7 +27,7 @@ const BAD_LINES: &[(&[&str], &str)] = &[
     ),
     (
         &["thinpool", "message", "bad.img", "create_thin", "0"],
-        "Usage: thinpool message <IMAGE> <LINE>",
+        "Usage: thinpool message [OPTIONS] <IMAGE> <LINE>",
     ),
     (&["thinpool", "check"], "Usage: thinpool check <IMAGE>"),
     (
@@ -199,7 +199,7 @@ fn a_task_is_to_be_explained(rt: HostRuntime) {
     assert!(rt; is_so);
 }
 
-/// A command line of each command, with `--explain` behind it.
+/// A command line of each command, with `--explain` after it.
 const EXPLAINED_LINES: &[&[&str]] = &[
     &["thinpool", "format", "a", "1", "2", "3", "4", "--explain"],
     &[

@@ -541,13 +541,13 @@ abbrev pub NameNone : List Text → Type 0
 NameNone words = LacksTaskOf (command_in words)
 
 -- the command has the flag among its arguments
-abbrev pub is_explained_behind : Option (Text × List Row) → Bool
-is_explained_behind None = false
-is_explained_behind (Some p) = is_used (codes "EXPLAIN") p.1
+abbrev pub is_explained_after : Option (Text × List Row) → Bool
+is_explained_after None = false
+is_explained_after (Some p) = is_used (codes "EXPLAIN") p.1
 
--- they have no mistake and name the task, and it is to be explained exactly where they have the flag, in front of the command or behind it
+-- they have no mistake and name the task, and it is to be explained exactly where they have the flag, before or after the command
 abbrev pub AskFor : List Text → Asked → Type 0
-AskFor words asked = (mistakes words ≡ []) × Name words asked.task × (asked.explains ≡ (is_explained words || is_explained_behind (command_in words)))
+AskFor words asked = (mistakes words ≡ []) × Name words asked.task × (asked.explains ≡ (is_explained words || is_explained_after (command_in words)))
 
 abbrev pub is_told : ErrorKind → Type 0
 is_told kind = (kind ≡ DisplayHelp) ⊎ (kind ≡ DisplayVersion)

@@ -12,4 +12,4 @@ mod tasks;
 pub use creating::fault_of_create;
 pub use services::fault_of_run;
 pub use task::{Asked, Image, Listing, Service, Sizes, SocketRights, Task, Texts, Unread, Wanted};
-pub use tasks::{is_explained_behind, task_of};
+pub use tasks::{is_explained_after, task_of};

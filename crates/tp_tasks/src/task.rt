@@ -5,7 +5,7 @@
 pub struct Asked<'a> {
     /// The task that the command names.
     pub task: Task<'a>,
-    /// Whether `--explain` stands in front of the command or behind it: then a refusal is followed by a line that says what was refused, and why.
+    /// Whether `--explain` stands before or after the command: then a refusal is followed by a line that says what was refused, and why.
     pub explains: bool,
 }
 

@@ -2,7 +2,7 @@
 
 ghost use Rattle.std.specs.Prelude.{◌≡◌, ◌⊎◌, ◌≤◌, ℕ, MatchOption, codes};
 ghost use Rattle.clap.specs.Words.{found_of, rows_of, subcommand_rows_of};
-ghost use Rattle.tp_tasks.specs.CommandLine.{HasClients, HasNoNumber, HasNumber, HasSizes, HasText, IsCheck, IsFeed, IsFormat, IsImage, IsMessage, IsNumber, IsPlay, IsServe, IsStatus, IsTask, IsTaskOf, LacksClients, LacksNumber, LacksSizes, LacksTask, LacksTaskOf, LacksText, MayHaveNumber, MayHaveText, is_explained_behind, is_used};
+ghost use Rattle.tp_tasks.specs.CommandLine.{HasClients, HasNoNumber, HasNumber, HasSizes, HasText, IsCheck, IsFeed, IsFormat, IsImage, IsMessage, IsNumber, IsPlay, IsServe, IsStatus, IsTask, IsTaskOf, LacksClients, LacksNumber, LacksSizes, LacksTask, LacksTaskOf, LacksText, MayHaveNumber, MayHaveText, is_explained_after, is_used};
 
 use crate::creating::create_task;
 use crate::listings::listing_named;
@@ -19,8 +19,8 @@ pub fn task_of<'a>(matches: &ArgMatches<'a>) -> Option<Task<'a>>
 }
 
 /// Whether a subcommand has the flag `--explain` among its arguments.
-pub fn is_explained_behind(matches: &ArgMatches<'_>) -> bool
-    ensures { result ≡ is_explained_behind (subcommand_rows_of matches.now) }
+pub fn is_explained_after(matches: &ArgMatches<'_>) -> bool
+    ensures { result ≡ is_explained_after (subcommand_rows_of matches.now) }
 {
     match matches.subcommand() {
         Some((_, arguments)) => has_flag(arguments, "EXPLAIN"),

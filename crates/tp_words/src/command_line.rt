@@ -14,7 +14,7 @@ use clap::{Arg, ArgAction, ArgMatches, Command};
 use std::alloc::{AllocError, Global};
 use std::convert::AsStr;
 use std::path::Path;
-use tp_tasks::{Asked, Unread, fault_of_create, fault_of_run, is_explained_behind, task_of};
+use tp_tasks::{Asked, Unread, fault_of_create, fault_of_run, is_explained_after, task_of};
 
 const VERSION: &str = "0.1.0 (rattle-kit-13f logic dac8208d650f15bf)";
 
@@ -185,8 +185,8 @@ fn asked_in<'a>(
     ensures { (words : List Text) → mistakes words ≡ [] → subcommand_rows_of matches.now ≡ command_in words → explains ≡ is_explained words
         → MatchResult result (λ asked. AskFor words asked) (λ why. IsUnread words why) }
 {
-    let behind = is_explained_behind(matches);
-    let explains = explains | behind;
+    let after = is_explained_after(matches);
+    let explains = explains | after;
     match task_of(matches) {
         Some(task) => Ok(Asked { task, explains }),
         None => Err(misused(alloc, matches)),
