@@ -10,9 +10,9 @@ use std::sync::Wait;
 use std::thread::Threads;
 use tp_cache::ReadCache;
 use tp_crowd::{Served as Crowd, serve_all};
-use tp_disk::MemDisk;
+use tp_disk::{MemDisk, SharedDisk};
 use tp_hub::{Answers, Event, Hub};
-use tp_meta::Meta;
+use tp_meta::{Meta, Metadata};
 use tp_model::{DevId, Geometry, Refusal};
 use tp_samples::{closed, create_thin, empty};
 use tp_served::{Room, Served};
@@ -55,6 +55,22 @@ fn has_line(mut hub: Hub<MemServed>, alloc: Global, line: &[u8]) -> bool {
     out.bytes() == line
 }
 
+/// Serves these clients over a hub: how many came, and how many were refused. It is generic in the disk and the metadata, so that the prover compares no pool that is written out.
+fn served<'a, H, D, M>(
+    rt: &H,
+    hub: Hub<Served<D, M>>,
+    clients: Vec<Waiting<'a>>,
+) -> ((u8, u64), Hub<Served<D, M>>)
+where
+    H: Threads + Wait + Sync + Alloc<A = Global>,
+    D: SharedDisk + Drop + Send + Sync,
+    M: Metadata + Drop + Send + Sync,
+{
+    let served = serve_all(rt, rt.alloc(), hub, clients.into_iter(), &Seen::nothing());
+    let Crowd { hub, came, refused } = served;
+    ((came, refused), hub)
+}
+
 /// Serves these clients over a pool of four data blocks with volume 0: how many came, how many
 /// were refused, and whether the pool's status line is this one then.
 pub(crate) fn served_over_pool<H>(
@@ -66,12 +82,6 @@ where
     H: Threads + Wait + Sync + Alloc<A = Global>,
 {
     let hub = hub_of_volume(rt.alloc())?;
-    let Crowd { hub, came, refused } = serve_all(
-        rt,
-        rt.alloc(),
-        hub,
-        clients.into_iter(),
-        &Seen::nothing(),
-    );
+    let ((came, refused), hub) = served(rt, hub, clients);
     Ok((came, refused, has_line(hub, rt.alloc(), line)))
 }
