@@ -47,7 +47,7 @@ fn feed_hub<V: Managed, S: Stream>(
     let Ok(mut buffer) = zeroes(alloc, PIECE) else {
         return (hub, Carried::NoMemory);
     };
-    let mut out = Answers::new(alloc);
+    let mut out = Answers::of_a_turn(alloc);
     let mut desk = OwnDesk { alloc, hub };
     let ending = carry(&mut desk, 0, *profile, stream, &mut buffer, &mut out);
     let OwnDesk { alloc: _, hub } = desk;

@@ -4,7 +4,7 @@ use Rattle.std.specs.Prelude.{Err, IsOk, Ok, Result, is_err}
 use Rattle.std.proofs.lemmas.Bool.{true≢false}
 use Rattle.tp_model.specs.Clauses.{View}
 use Rattle.tp_hub.specs.declared.seat.Seat.{Seat}
-use Rattle.tp_hub.specs.Told.{Answer, HasRoom, Told}
+use Rattle.tp_hub.specs.Told.{Answer, HasRoom, KeepsRoom, Told}
 use Rattle.tp_hub.specs.Runs.{AsksFlush, Orders}
 use Rattle.tp_hub.specs.Desks.{IsAsked}
 use Rattle.tp_hub.specs.Serving.{Slots}
@@ -15,7 +15,7 @@ use Rattle.tp_lock.specs.Locked.{SomeRuns}
 use Rattle.tp_crowd.specs.Ruling.{IsCommand, IsRuled, IsToldOf, Obeys, TellsSo, TellsWho}
 
 -- who is served was told in the place of a line
-pub clients_told : (line : List ℕ) (slots : Slots) (seats : List Seat) (before mid after : Told) → AreSeats slots seats → mid.list ≡ before.list → before.room ≤ mid.room → before.marks ≤ mid.marks → IsToldOf seats mid after
+pub clients_told : (line : List ℕ) (slots : Slots) (seats : List Seat) (before mid after : Told) → AreSeats slots seats → mid.list ≡ before.list → KeepsRoom before mid → before.marks ≤ mid.marks → IsToldOf seats mid after
     → IsAsked (λ took answers. TellsSo line TellsWho took answers) (Orders line) 1 0 before after
 clients_told line slots seats before mid after are same room marks (answer, grows, which) = record {
   answers = answer ∷ [];
@@ -27,7 +27,7 @@ clients_told line slots seats before mid after are same room marks (answer, grow
 }
 
 -- there was no memory for an answer
-pub nothing_told : {A E : Type 0} (line : List ℕ) (Are : List Answer → Type 0) (before mid : Told) (made : Result A E) → is_err made ≡ true → mid.list ≡ before.list → before.room ≤ mid.room → before.marks ≤ mid.marks → (HasRoom before → IsOk made)
+pub nothing_told : {A E : Type 0} (line : List ℕ) (Are : List Answer → Type 0) (before mid : Told) (made : Result A E) → is_err made ≡ true → mid.list ≡ before.list → KeepsRoom before mid → before.marks ≤ mid.marks → (HasRoom before → IsOk made)
     → IsAsked (λ took answers. TellsSo line Are took answers) (Orders line) 0 0 before mid
 nothing_told line Are before mid (Ok done) err same room marks there = absurd (true≢false (sym err))
 nothing_told line Are before mid (Err e) err same room marks there = record {

@@ -240,7 +240,7 @@ pub(crate) fn carry_over<D: Desk, S: Stream>(
     let Ok(mut buffer) = make_buffer(alloc) else {
         return false;
     };
-    let mut out = Answers::new(alloc);
+    let mut out = Answers::of_a_turn(alloc);
     let ending = carry(desk, number, profile, stream, &mut buffer, &mut out);
     give_back(buffer);
     was_carried(ending)

@@ -246,7 +246,7 @@ where
     K: Start<V>,
 {
     let mut desk = LockedDesk { rt, alloc, hub };
-    let mut out = Answers::new(alloc);
+    let mut out = Answers::of_a_turn(alloc);
     let mut left = LAST_SECONDS;
     let mut waited = false;
     for _ in rt.forever() {

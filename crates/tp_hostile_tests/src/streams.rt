@@ -70,7 +70,7 @@ struct Heard {
 impl Heard {
     fn new(alloc: Global) -> Heard {
         Heard {
-            out: Answers::new(alloc),
+            out: Answers::of_a_turn(alloc),
             sent: Vec::new(alloc),
             wanted: Vec::new(alloc),
             is_over: false,

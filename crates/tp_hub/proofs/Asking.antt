@@ -16,7 +16,7 @@ use Rattle.tp_msg.proofs.Asking.{message_holds}
 use Rattle.tp_pages.specs.Texts.{size_text}
 use Rattle.tp_pages.specs.Pages.{AreMade, AsksBoth, AsksDelta, AsksMap, AsksSize, BehindSize, BehindWalk, IsPaged, Question, Sizes, Walks, unit_of}
 use Rattle.nbd_session.specs.Turns.{AreTurns, Asks, Happened, Sessions, TakesTurn, pool_after, sessions_after}
-use Rattle.tp_hub.specs.Told.{Answer, Grows, Lines, Refuses, Told}
+use Rattle.tp_hub.specs.Told.{Answer, Grows, KeepsRoom, Lines, Refuses, Told}
 use Rattle.tp_msg.specs.Asked.{call_of}
 use Rattle.tp_hub.specs.Runs.{AreQuestions, AsksDeltaOf, AsksFlush, AsksLine, AsksLineOf, AsksMapOf, AsksSizeOf, Incoming, IsAnswered, IsCalled, IsPageTold, IsPart, IsRefused, IsShort, Orders, Runs, TellsDone, TellsLine, delta_fault, front_of, map_fault, size_fault, told_page}
 use Rattle.tp_hub.specs.Places.{IsMade, IsPageMade, PoolTakes, TakesEvent}
@@ -124,11 +124,11 @@ module _ {D : Type 0} (view : View D) where
   ordered unit line m answer answers at h is turn tells =
       subst (λ (r : Result Message Refusal). MatchResult r (λ x. IsCalled (call_of x) TellsDone (h ∷ []) answers) (λ why. IsRefused why (h ∷ []) answers)) (sym is) (answer, (h, refl, turn), tells)
 
-  pub message_so : (line : List ℕ) (m : Message) (p p' : D) (before mid after : Told) → reading line ≡ Ok m → mid.list ≡ before.list → before.room ≤ mid.room → before.marks ≤ mid.marks → IsMade view TellsDone (call_of m) p mid after p' → PoolTakes view (Orders line) p true 0 before after p'
+  pub message_so : (line : List ℕ) (m : Message) (p p' : D) (before mid after : Told) → reading line ≡ Ok m → mid.list ≡ before.list → KeepsRoom before mid → before.marks ≤ mid.marks → IsMade view TellsDone (call_of m) p mid after p' → PoolTakes view (Orders line) p true 0 before after p'
   message_so line m p p' before mid after is same room marks (answer, answers, met, tells, grows) =
       called (Orders line) (call_of m) answer answers p p' before after (λ at h turn. ordered (unit_of (view.outline p).geometry) line m answer answers at h is turn tells) met (λ h. message_holds m h answer) (grows_behind before mid after answers same room marks grows)
 
-  pub flush_so : (p p' : D) (before mid after : Told) → mid.list ≡ before.list → before.room ≤ mid.room → before.marks ≤ mid.marks → IsMade view TellsDone calls.Flush p mid after p' → PoolTakes view AsksFlush p true 0 before after p'
+  pub flush_so : (p p' : D) (before mid after : Told) → mid.list ≡ before.list → KeepsRoom before mid → before.marks ≤ mid.marks → IsMade view TellsDone calls.Flush p mid after p' → PoolTakes view AsksFlush p true 0 before after p'
   flush_so p p' before mid after same room marks (answer, answers, met, tells, grows) =
       called AsksFlush calls.Flush answer answers p p' before after (λ at h turn. (answer, (h, refl, turn), tells)) met (λ h. refl) (grows_behind before mid after answers same room marks grows)
 
@@ -142,7 +142,7 @@ module _ {D : Type 0} (view : View D) where
       subst (λ (b : Bool). MatchBool b (IsCalled (calls.ThinStatus volume) TellsLine (h ∷ []) answers) (IsRefused BadDeviceId (h ∷ []) answers)) (sym inside) (answer, (h, refl, turn), tells)
 
   -- a number that can be a volume's
-  pub volume_so : (volume id : ℕ) (p p' : D) (before mid after : Told) → id ≡ volume → volume < 16777216 → mid.list ≡ before.list → before.room ≤ mid.room → before.marks ≤ mid.marks → IsMade view TellsLine (calls.ThinStatus id) p mid after p'
+  pub volume_so : (volume id : ℕ) (p p' : D) (before mid after : Told) → id ≡ volume → volume < 16777216 → mid.list ≡ before.list → KeepsRoom before mid → before.marks ≤ mid.marks → IsMade view TellsLine (calls.ThinStatus id) p mid after p'
       → PoolTakes view (AsksLineOf volume) p true 0 before after p'
   volume_so volume id p p' before mid after is inside same room marks (answer, answers, met, tells, grows) =
       called (AsksLineOf volume) (calls.ThinStatus volume) answer answers p p' before after (λ at h turn. asked_volume (unit_of (view.outline p).geometry) volume answer answers at h (lt-ltb volume 16777216 inside) turn tells)
@@ -178,7 +178,7 @@ module _ {D : Type 0} (view : View D) where
 
   page_so : (event : Incoming) (AsksFor : List Question → Result (List ℕ) Refusal → Type 0) (p p' : D) (before mid after : Told)
       → ((at : Sessions) (hs : List (Happened D)) (answers : List Answer) → IsPageTold AsksFor hs answers → IsAnswered (unit_of (view.outline p).geometry) at event hs answers)
-      → ((qs : List Question) (said : Result (List ℕ) Refusal) → AsksFor qs said → AreStill qs) → mid.list ≡ before.list → before.room ≤ mid.room → before.marks ≤ mid.marks → IsPageMade view AsksFor p mid after p'
+      → ((qs : List Question) (said : Result (List ℕ) Refusal) → AsksFor qs said → AreStill qs) → mid.list ≡ before.list → KeepsRoom before mid → before.marks ≤ mid.marks → IsPageMade view AsksFor p mid after p'
       → PoolTakes view event p true 0 before after p'
   page_so event AsksFor p p' before mid after answered still same room marks (qs, said, made, asks, grows) = record {
     runs = λ at.
@@ -189,14 +189,14 @@ module _ {D : Type 0} (view : View D) where
     keeps = kept p p' qs (still qs said asks) made;
   }
 
-  pub size_so : (volume id : ℕ) (p p' : D) (before mid after : Told) → None ≡ size_fault volume → id ≡ volume → mid.list ≡ before.list → before.room ≤ mid.room → before.marks ≤ mid.marks
+  pub size_so : (volume id : ℕ) (p p' : D) (before mid after : Told) → None ≡ size_fault volume → id ≡ volume → mid.list ≡ before.list → KeepsRoom before mid → before.marks ≤ mid.marks
       → IsPageMade view (λ qs said. AsksSize (unit_of (view.outline p).geometry) id qs said) p mid after p' → PoolTakes view (AsksSizeOf volume) p true 0 before after p'
   size_so volume id p p' before mid after fine is_id same room marks made =
       let unit : ℕ = unit_of (view.outline p).geometry in
       page_so (AsksSizeOf volume) (λ qs said. AsksSize unit volume qs said) p p' before mid after (λ at hs answers page. by_none (size_fault volume) (IsPageTold (λ qs said. AsksSize unit volume qs said) hs answers) (λ reason. IsRefused reason hs answers) fine page) (still_told unit volume) same room marks
       (subst (λ (i : ℕ). IsPageMade view (λ qs said. AsksSize unit i qs said) p mid after p') is_id made)
 
-  pub map_so : (volume id first block : ℕ) (p p' : D) (before mid after : Told) → None ≡ map_fault volume first → id ≡ volume → block ≡ first → mid.list ≡ before.list → before.room ≤ mid.room → before.marks ≤ mid.marks
+  pub map_so : (volume id first block : ℕ) (p p' : D) (before mid after : Told) → None ≡ map_fault volume first → id ≡ volume → block ≡ first → mid.list ≡ before.list → KeepsRoom before mid → before.marks ≤ mid.marks
       → IsPageMade view (λ qs said. AsksMap (unit_of (view.outline p).geometry) id block qs said) p mid after p' → PoolTakes view (AsksMapOf volume first) p true 0 before after p'
   map_so volume id first block p p' before mid after fine is_id is_block same room marks made =
       let unit : ℕ = unit_of (view.outline p).geometry in
@@ -204,7 +204,7 @@ module _ {D : Type 0} (view : View D) where
       (subst (λ (i : ℕ). IsPageMade view (λ qs said. AsksMap unit i first qs said) p mid after p') is_id
       (subst (λ (b : ℕ). IsPageMade view (λ qs said. AsksMap unit id b qs said) p mid after p') is_block made))
 
-  pub delta_so : (old one new other first block : ℕ) (p p' : D) (before mid after : Told) → None ≡ delta_fault old new first → one ≡ old → other ≡ new → block ≡ first → mid.list ≡ before.list → before.room ≤ mid.room
+  pub delta_so : (old one new other first block : ℕ) (p p' : D) (before mid after : Told) → None ≡ delta_fault old new first → one ≡ old → other ≡ new → block ≡ first → mid.list ≡ before.list → KeepsRoom before mid
       → before.marks ≤ mid.marks → IsPageMade view (λ qs said. AsksDelta (unit_of (view.outline p).geometry) one other block qs said) p mid after p' → PoolTakes view (AsksDeltaOf old new first) p true 0 before after p'
   delta_so old one new other first block p p' before mid after fine is_one is_other is_block same room marks made =
       let unit : ℕ = unit_of (view.outline p).geometry in

@@ -6,7 +6,7 @@ use Rattle.std.proofs.lemmas.List.{drop-drop, drop_all, take-append-drop}
 use Rattle.tp_hub.specs.declared.answers.TheConstants.{MOST_BYTES}
 use Rattle.tp_hub.specs.declared.answers.Mark.{Mark}
 use Rattle.tp_hub.specs.declared.answers.Mark.TheVariants.{Sent, End, Refused, Done, Line}
-use Rattle.tp_hub.specs.Told.{Answer, HasRoom, IsFull, Told, all_sent, told}
+use Rattle.tp_hub.specs.Told.{Answer, HasRoom, IsFull, KeepsRoom, Told, all_sent, told}
 use Rattle.nbd_session.specs.declared.phase.Profile.{Profile}
 use Rattle.tp_hub.specs.Runs.{Brings, Comes, Goes, Incoming, taken_of}
 use Rattle.tp_hub.specs.Desks.{AreAsked, Exchange, IsAsked, IsCut}
@@ -29,11 +29,11 @@ said_some [] did all is_empty is some sent = absurd (true≢false (sym is ∙ so
 said_some (byte ∷ bytes) did all is_empty is some sent = sent
 
 -- emptied, it has the room that it had, which is that for one longest answer
-pub room_left : (before after now : Told) → HasRoom before → before.room ≤ after.room → before.marks ≤ after.marks → now.list ≡ [] → now.room ≡ after.room → now.marks ≡ after.marks → HasRoom now
+pub room_left : (before after now : Told) → HasRoom before → KeepsRoom before after → before.marks ≤ after.marks → now.list ≡ [] → now.room ≡ after.room → now.marks ≡ after.marks → HasRoom now
 room_left before after now has wide long none room marks =
     let bytes : length (all_sent now.list) ≡ 0 = ap (λ (l : List Answer). length (all_sent l)) none in
     let places : length now.list ≡ 0 = ap (λ (l : List Answer). length l) none in
-    record { bytes = omega (arith, bytes, room, wide, has.bytes); marks = omega (arith, places, marks, long, has.marks) }
+    record { bytes = omega (arith, bytes, room, wide.room, has.bytes); marks = omega (arith, places, marks, long, has.marks) }
 
 by_true : (b : Bool) (P Q : Type 0) → b ≡ true → P → MatchBool b P Q
 by_true true P Q e p = p

@@ -2,7 +2,7 @@
 use Rattle.std.proofs.Common.{◌≡◌, ℕ, zero, suc, ◌<◌, ◌≤◌, Bool, true, false, List, [], ◌∷◌, ◌++◌, length, inl, inr, refl, sym, ap, subst, ◌∙◌, arith, append-nil}
 use Rattle.tp_model.specs.Clauses.{PoolCall, View}
 use Rattle.nbd_session.specs.Turns.{Sessions}
-use Rattle.tp_hub.specs.Told.{Answer, HasRoom, IsFull, Told, all_sent}
+use Rattle.tp_hub.specs.Told.{Answer, HasRoom, IsFull, KeepsRoom, Told, all_sent}
 use Rattle.tp_hub.specs.Runs.{AsksDeltaOf, AsksFlush, AsksLine, AsksLineOf, AsksMapOf, AsksSizeOf, Brings, Comes, Goes, Incoming, Orders, IsPartOfNext, IsShortOfNext, Runs, Served, answered_in, events_in, taken_of}
 use Rattle.std.specs.Prelude.{drop}
 use Rattle.tp_hub.specs.Desks.{AreAsked, Exchange, IsAsked, IsBegun, IsCut, RunsSo}
@@ -43,17 +43,17 @@ cut_is at event (suc zero) bytes le part = (refl, part)
 cut_is at event (suc (suc k)) bytes le part = absurd (omega (arith, le))
 
 -- where nothing was added there is still room
-has_still : (before after : Told) → after.list ≡ before.list → before.room ≤ after.room → before.marks ≤ after.marks → HasRoom before → IsFull after → ⊥
+has_still : (before after : Told) → after.list ≡ before.list → KeepsRoom before after → before.marks ≤ after.marks → HasRoom before → IsFull after → ⊥
 has_still before after same room marks has (inl few) =
     let bytes : length (all_sent after.list) ≡ length (all_sent before.list) = ap (λ l. length (all_sent l)) same in
-    absurd (omega (arith, bytes, room, has.bytes, few))
+    absurd (omega (arith, bytes, room.room, has.bytes, few))
 has_still before after same room marks has (inr few) =
     let places : length after.list ≡ length before.list = ap length same in
     absurd (omega (arith, places, marks, has.marks, few))
 
 -- where there is room something is taken
 begun_is : (at : Sessions) (event : Incoming) (events bytes : ℕ) (before after : Told) → events ≤ 1 → IsShortOfNext at (drop events (event ∷ [])) bytes after → (events ≡ 0 → bytes ≡ 0 → after.list ≡ before.list) → IsCut event events bytes
-    → before.room ≤ after.room → before.marks ≤ after.marks → HasRoom before → IsBegun event events bytes
+    → KeepsRoom before after → before.marks ≤ after.marks → HasRoom before → IsBegun event events bytes
 begun_is at (Comes n a) events bytes before after le short same cut room marks has = tt
 begun_is at (Brings n piece) zero zero before after le (inl full) same cut room marks has = absurd (has_still before after (same refl refl) room marks has full)
 begun_is at (Brings n piece) zero zero before after le (inr work) same cut room marks has = let some = work.0 in absurd (omega (arith, some))

@@ -15,10 +15,10 @@ use Rattle.tp_hub.proofs.Asking.{flush_so}
 
 -- a buffer that has these answers
 abbrev pub told_to : List Answer → Told
-told_to answers = record { list = answers; room = 0; marks = 0 }
+told_to answers = record { list = answers; room = 0; marks = 0; most = 0 }
 
 pub one_told : (answer : Answer) → Grows (told_to []) (told_to (answer ∷ [])) (answer ∷ [])
-one_told answer = record { list = refl; room = omega arith; marks = omega arith }
+one_told answer = record { list = refl; room = record { room = omega arith; most = refl }; marks = omega arith }
 
 module _ {D : Type 0} (view : View D) where
   pub flush_taken : (p p' : D) (result : Result (Unit {0}) Refusal) → IsFlushed view p p' result → PoolTakes view AsksFlush p true 0 (told_to []) (told_to (flush_told result ∷ [])) p'

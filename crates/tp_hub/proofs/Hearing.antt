@@ -10,11 +10,11 @@ use Rattle.nbd_session.specs.Session.{State, state, IsDeaf, Steps, TakesFrame, W
 use Rattle.nbd_session.specs.Clauses.{Advances}
 use Rattle.nbd_session.specs.Turns.{AreTurns, Happened, Others, Sessions, TakesTurn, Turn, pool_after, sessions_after}
 use Rattle.nbd_session.specs.Turns as turns
-use Rattle.tp_hub.specs.Told.{Answer, HasRoom, Told, Grows, all_sent}
+use Rattle.tp_hub.specs.Told.{Answer, HasRoom, KeepsRoom, Told, Grows, all_sent}
 use Rattle.tp_hub.specs.Runs.{TakesText, answers_in, closed_if, said}
 use Rattle.tp_hub.specs.Places.{HearsAnywhere, KeepsServing, put}
 use Rattle.tp_hub.proofs.Placing.{HoldsMove, ended_is, goes_on, put_is, put_other, put_put, put_same, serves_same, serves_set, serves_twice, set_there}
-use Rattle.tp_hub.proofs.Turning.{answers_join, exact_step, grows_behind, grows_none, grows_on, grows_then, length_front, pool_join, sessions_join, text_join, turns_join}
+use Rattle.tp_hub.proofs.Turning.{answers_join, exact_step, grows_behind, grows_none, grows_on, grows_then, length_front, pool_join, room_same, room_then, sessions_join, text_join, turns_join}
 
 -- the front of a list, and what follows it
 pub take_on : (a b : ℕ) (xs : List ℕ) → a ≤ length xs → take (a + b) xs ≡ take a xs ++ take b (drop a xs)
@@ -35,12 +35,12 @@ at_work_goes Ended w = absurd cc
 module _ {D : Type 0} (view : View D) where
   -- before the first step
   pub hears_none : (n : ℕ) (old : State) (p : D) (text : List ℕ) (t : Told) → HearsAnywhere view n old p (take 0 text) t t old p
-  hears_none n old p text t at is = record { turns = []; are = tt; takes = refl; sessions_are = sym (put_is at n old is); pool_is = refl; adds = grows_none t t refl (omega arith) (omega arith) }
+  hears_none n old p text t at is = record { turns = []; are = tt; takes = refl; sessions_are = sym (put_is at n old is); pool_is = refl; adds = grows_none t t refl (room_same t) (omega arith) }
 
   -- and one step more
   pub hears_more : (n : ℕ) (old s new : State) (p q p' : D) (piece rest sent : List ℕ) (a taken : ℕ) (ended : Bool) (before mid wide after : Told)
       → a ≤ length piece → 0 < length rest → is_at_work s.phase ≡ false → rest ≡ drop a piece → has_ended s.phase ≡ false → HearsAnywhere view n old p (take a piece) before mid s q
-      → wide.list ≡ mid.list → mid.room ≤ wide.room → mid.marks ≤ wide.marks → Advances view s q rest taken sent ended new p'
+      → wide.list ≡ mid.list → KeepsRoom mid wide → mid.marks ≤ wide.marks → Advances view s q rest taken sent ended new p'
       → Grows wide after (said n sent ++ closed_if n ended) → HearsAnywhere view n old p (take (a + taken) piece) before after new p'
   hears_more n old s new p q p' piece rest sent a taken ended before mid wide after le some idle rest_is is_open hears same room marks adv grows at is =
       let x = hears at is in
@@ -73,7 +73,7 @@ module _ {D : Type 0} (view : View D) where
 
   -- only the room changed since
   pub hears_wide : (n : ℕ) (old new : State) (p p' : D) (text : List ℕ) (before after wide : Told) → HearsAnywhere view n old p text before after new p'
-      → wide.list ≡ after.list → after.room ≤ wide.room → after.marks ≤ wide.marks → HearsAnywhere view n old p text before wide new p'
+      → wide.list ≡ after.list → KeepsRoom after wide → after.marks ≤ wide.marks → HearsAnywhere view n old p text before wide new p'
   hears_wide n old new p p' text before after wide hears same room marks at is =
       let x = hears at is in
       record {
@@ -82,7 +82,7 @@ module _ {D : Type 0} (view : View D) where
         takes = x.takes;
         sessions_are = x.sessions_are;
         pool_is = x.pool_is;
-        adds = record { list = same ∙ x.adds.list; room = omega (arith, x.adds.room, room); marks = omega (arith, x.adds.marks, marks) };
+        adds = record { list = same ∙ x.adds.list; room = room_then x.adds.room room; marks = omega (arith, x.adds.marks, marks) };
       }
 
   -- what stands between the places and the pool
@@ -151,7 +151,7 @@ module _ {D : Type 0} (view : View D) where
       }
 
   -- room was made before it
-  pub hears_room : (n : ℕ) (old new : State) (p p' : D) (text : List ℕ) (before wide after : Told) → wide.list ≡ before.list → before.room ≤ wide.room → before.marks ≤ wide.marks → HearsAnywhere view n old p text wide after new p'
+  pub hears_room : (n : ℕ) (old new : State) (p p' : D) (text : List ℕ) (before wide after : Told) → wide.list ≡ before.list → KeepsRoom before wide → before.marks ≤ wide.marks → HearsAnywhere view n old p text wide after new p'
       → HearsAnywhere view n old p text before after new p'
   hears_room n old new p p' text before wide after same room marks hears at is =
       let x = hears at is in
@@ -198,4 +198,4 @@ module _ {D : Type 0} (view : View D) where
       let same : after.list ≡ mid.list = grows.list ∙ (ap (λ (l : List Answer). mid.list ++ l) none ∙ append-nil mid.list) in
       let bytes : length (all_sent after.list) ≡ length (all_sent mid.list) = ap (λ (l : List Answer). length (all_sent l)) same in
       let count : length after.list ≡ length mid.list = ap length same in
-      record { bytes = omega (arith, bytes, room.bytes, grows.room); marks = omega (arith, count, room.marks, grows.marks) }
+      record { bytes = omega (arith, bytes, room.bytes, grows.room.room); marks = omega (arith, count, room.marks, grows.marks) }

@@ -6,7 +6,6 @@ use Rattle.std.proofs.lemmas.Bool.{eqb-true}
 use Rattle.std.proofs.lemmas.List.{append-nil, take_all, take_at, take-append-drop, take-append-le, drop-append-le, length-take}
 use Rattle.std.proofs.lemmas.Result.{on_err_weaker, on_ok_weaker}
 use Rattle.nbd_session.specs.declared.answer.TheConstants.{MAX_ANSWER}
-use Rattle.tp_hub.specs.declared.answers.TheConstants.{MOST_BYTES}
 use Rattle.tp_hub.specs.declared.answers.Mark.{Mark}
 use Rattle.tp_hub.specs.declared.answers.Mark.TheVariants.{Sent, End, Refused, Done, Line}
 use Rattle.tp_hub.specs.Told.{Answer, Accepts, Lines, Says, Closes, Refuses, Told, Grows, HasRoom, IsFull, told, total, all_sent, sent_mark, end_mark}
@@ -55,19 +54,19 @@ told_sent (Line len ∷ marks) bytes e =
     rw (told_sent marks (drop len bytes) rest) (take-append-drop len bytes)
 
 -- what a buffer of answers shows
-abbrev pub view_of : List Mark → ℕ → List ℕ → ℕ → ℕ → Told
-view_of marks used bytes room cap = record { list = told marks (take used bytes); room = room; marks = cap }
+abbrev pub view_of : List Mark → ℕ → List ℕ → ℕ → ℕ → ℕ → Told
+view_of marks used bytes room cap most = record { list = told marks (take used bytes); room = room; marks = cap; most = most }
 
--- its vector has memory for so many bytes
-abbrev pub Fits : List Mark → ℕ → List ℕ → ℕ → ℕ → Type 0
-Fits marks used bytes room memory = (total marks ≡ used) × (used ≤ length bytes) × (length bytes ≤ room) × (room ≤ MOST_BYTES) × (room ≤ memory)
+-- its vector has memory for so many bytes, and may have so many
+abbrev pub Fits : List Mark → ℕ → List ℕ → ℕ → ℕ → ℕ → Type 0
+Fits marks used bytes room memory most = (total marks ≡ used) × (used ≤ length bytes) × (length bytes ≤ room) × (room ≤ most) × (room ≤ memory)
 
-pub total_is : (marks : List Mark) (used : ℕ) (bytes : List ℕ) (room memory : ℕ) → Fits marks used bytes room memory → total marks ≡ length (take used bytes)
+pub total_is : {most : ℕ} (marks : List Mark) (used : ℕ) (bytes : List ℕ) (room memory : ℕ) → Fits marks used bytes room memory most → total marks ≡ length (take used bytes)
 total_is marks used bytes room memory fits = omega (arith, length-take used bytes, fits.0, fits.1)
 
 -- marks were added, and their bytes
-pub adds : (now : Told) (marks more after : List Mark) (used used' : ℕ) (bytes bytes' sent : List ℕ) (room memory cap cap' : ℕ) (answers : List Answer) → view_of marks used bytes room cap ≡ now → Fits marks used bytes room memory
-    → after ≡ marks ++ more → take used' bytes' ≡ take used bytes ++ sent → cap ≤ cap' → told more sent ≡ answers → Grows now (view_of after used' bytes' room cap') answers
+pub adds : {most : ℕ} (now : Told) (marks more after : List Mark) (used used' : ℕ) (bytes bytes' sent : List ℕ) (room memory cap cap' : ℕ) (answers : List Answer) → view_of marks used bytes room cap most ≡ now → Fits marks used bytes room memory most
+    → after ≡ marks ++ more → take used' bytes' ≡ take used bytes ++ sent → cap ≤ cap' → told more sent ≡ answers → Grows now (view_of after used' bytes' room cap' most) answers
 adds now marks more after used used' bytes bytes' sent room memory cap cap' answers view fits after_is bytes_are wide says =
     let rooms : now.room ≡ room = sym (ap (λ (t : Told). t.room) view) in
     let caps : now.marks ≡ cap = sym (ap (λ (t : Told). t.marks) view) in
@@ -76,7 +75,7 @@ adds now marks more after used used' bytes bytes' sent room memory cap cap' answ
           ∙ (ap (told (marks ++ more)) bytes_are
           ∙ (told-append marks more (take used bytes) sent (total_is marks used bytes room memory fits)
           ∙ (ap (λ (l : List Answer). told marks (take used bytes) ++ l) says ∙ ap (λ (t : Told). t.list ++ answers) view)));
-      room = omega (arith, rooms);
+      room = record { room = omega (arith, rooms); most = ap (λ (t : Told). t.most) view };
       marks = omega (arith, caps, wide);
     }
 
@@ -85,40 +84,40 @@ pub no_bytes : (used : ℕ) (bytes : List ℕ) → take used bytes ≡ take used
 no_bytes used bytes = sym (append-nil (take used bytes))
 
 -- a place for so many marks
-pub has_places : (now : Told) (marks : List Mark) (used : ℕ) (bytes : List ℕ) (room cap n : ℕ) → view_of marks used bytes room cap ≡ now → length now.list + n ≤ now.marks → length marks + n ≤ cap
+pub has_places : {most : ℕ} (now : Told) (marks : List Mark) (used : ℕ) (bytes : List ℕ) (room cap n : ℕ) → view_of marks used bytes room cap most ≡ now → length now.list + n ≤ now.marks → length marks + n ≤ cap
 has_places now marks used bytes room cap n view few =
     let len : length now.list ≡ length marks = ap (λ (t : Told). length t.list) (sym view) ∙ told_length marks (take used bytes) in
     let caps : now.marks ≡ cap = sym (ap (λ (t : Told). t.marks) view) in
     omega (arith, len, caps, few)
 
-pub shown_bytes : (now : Told) (marks : List Mark) (used : ℕ) (bytes : List ℕ) (room memory cap : ℕ) → view_of marks used bytes room cap ≡ now → Fits marks used bytes room memory → take used bytes ≡ all_sent now.list
+pub shown_bytes : {most : ℕ} (now : Told) (marks : List Mark) (used : ℕ) (bytes : List ℕ) (room memory cap : ℕ) → view_of marks used bytes room cap most ≡ now → Fits marks used bytes room memory most → take used bytes ≡ all_sent now.list
 shown_bytes now marks used bytes room memory cap view fits = sym (told_sent marks (take used bytes) (total_is marks used bytes room memory fits)) ∙ ap (λ (t : Told). all_sent t.list) view
 
 -- the bytes of what is shown are those that are used
-pub used_is : (now : Told) (marks : List Mark) (used : ℕ) (bytes : List ℕ) (room memory cap : ℕ) → view_of marks used bytes room cap ≡ now → Fits marks used bytes room memory → length (all_sent now.list) ≡ used
+pub used_is : {most : ℕ} (now : Told) (marks : List Mark) (used : ℕ) (bytes : List ℕ) (room memory cap : ℕ) → view_of marks used bytes room cap most ≡ now → Fits marks used bytes room memory most → length (all_sent now.list) ≡ used
 used_is now marks used bytes room memory cap view fits = let shown = ap length (shown_bytes now marks used bytes room memory cap view fits) in omega (arith, shown, length-take used bytes, fits.1)
 
 -- a place for so many bytes
-pub has_bytes : (now : Told) (marks : List Mark) (used : ℕ) (bytes : List ℕ) (room memory cap n : ℕ) → view_of marks used bytes room cap ≡ now → Fits marks used bytes room memory → length (all_sent now.list) + n ≤ now.room → used + n ≤ room
+pub has_bytes : {most : ℕ} (now : Told) (marks : List Mark) (used : ℕ) (bytes : List ℕ) (room memory cap n : ℕ) → view_of marks used bytes room cap most ≡ now → Fits marks used bytes room memory most → length (all_sent now.list) + n ≤ now.room → used + n ≤ room
 has_bytes now marks used bytes room memory cap n view fits_in fits =
     let u : length (all_sent now.list) ≡ used = used_is now marks used bytes room memory cap view fits_in in
     let r : now.room ≡ room = ap (λ (t : Told). t.room) (sym view) in
     omega (arith, u, r, fits)
 
-pub still_fits : (marks more after : List Mark) (used used' : ℕ) (bytes bytes' : List ℕ) (room memory memory' : ℕ) → Fits marks used bytes room memory → after ≡ marks ++ more → used + total more ≡ used' → used' ≤ length bytes' → length bytes' ≤ room → room ≤ memory'
-    → Fits after used' bytes' room memory'
+pub still_fits : {most : ℕ} (marks more after : List Mark) (used used' : ℕ) (bytes bytes' : List ℕ) (room memory memory' : ℕ) → Fits marks used bytes room memory most → after ≡ marks ++ more → used + total more ≡ used' → used' ≤ length bytes' → length bytes' ≤ room → room ≤ memory'
+    → Fits after used' bytes' room memory' most
 still_fits marks more after used used' bytes bytes' room memory memory' fits after_is sum le inside enough =
     let t = total-append marks more in let e = ap total after_is in (omega (arith, t, e, sum, fits.0), le, inside, fits.3, enough)
 
 -- what a buffer shows, by its used bytes
-abbrev shown_as : List Mark → List ℕ → ℕ → ℕ → Told
-shown_as marks front room cap = record { list = told marks front; room = room; marks = cap }
+abbrev shown_as : List Mark → List ℕ → ℕ → ℕ → ℕ → Told
+shown_as marks front room cap most = record { list = told marks front; room = room; marks = cap; most = most }
 
 -- where its used bytes are what they were, it shows the same
-pub still_shown : (now : Told) (marks : List Mark) (used : ℕ) (bytes bytes' : List ℕ) (room cap : ℕ) → view_of marks used bytes room cap ≡ now → take used bytes' ≡ take used bytes → view_of marks used bytes' room cap ≡ now
-still_shown now marks used bytes bytes' room cap view kept = ap (λ (l : List ℕ). shown_as marks l room cap) kept ∙ view
+pub still_shown : {most : ℕ} (now : Told) (marks : List Mark) (used : ℕ) (bytes bytes' : List ℕ) (room cap : ℕ) → view_of marks used bytes room cap most ≡ now → take used bytes' ≡ take used bytes → view_of marks used bytes' room cap most ≡ now
+still_shown {most} now marks used bytes bytes' room cap view kept = ap (λ (l : List ℕ). shown_as marks l room cap most) kept ∙ view
 
-pub still_inside : (marks : List Mark) (used : ℕ) (bytes bytes' : List ℕ) (room memory memory' : ℕ) → Fits marks used bytes room memory → used ≤ length bytes' → length bytes' ≤ room → room ≤ memory' → Fits marks used bytes' room memory'
+pub still_inside : {most : ℕ} (marks : List Mark) (used : ℕ) (bytes bytes' : List ℕ) (room memory memory' : ℕ) → Fits marks used bytes room memory most → used ≤ length bytes' → length bytes' ≤ room → room ≤ memory' → Fits marks used bytes' room memory' most
 still_inside marks used bytes bytes' room memory memory' fits le inside enough = (fits.0, le, inside, fits.3, enough)
 
 -- A vector of n items was lent whole as a slice: what it has behind that loan.
@@ -148,14 +147,14 @@ module _ (n : ℕ) (old lent new : List ℕ) (lent_is : lent ≡ old) (n_is : n 
   pub back_most : (m : ℕ) → length old ≤ m → length (given_back n new old) ≤ m
   back_most m most = subst (λ (k : ℕ). k ≤ m) (sym back_length) most
 
-pub shown_marks : (now : Told) (marks : List Mark) (used : ℕ) (bytes : List ℕ) (room cap : ℕ) → view_of marks used bytes room cap ≡ now → length marks ≡ length now.list
+pub shown_marks : {most : ℕ} (now : Told) (marks : List Mark) (used : ℕ) (bytes : List ℕ) (room cap : ℕ) → view_of marks used bytes room cap most ≡ now → length marks ≡ length now.list
 shown_marks now marks used bytes room cap view = sym (told_length marks (take used bytes)) ∙ ap (λ (t : Told). length t.list) view
 
 -- what marks say of the bytes that are shown
-pub marks_say : (now : Told) (marks : List Mark) (used : ℕ) (bytes : List ℕ) (room memory cap : ℕ) → view_of marks used bytes room cap ≡ now → Fits marks used bytes room memory → told marks (all_sent now.list) ≡ now.list
+pub marks_say : {most : ℕ} (now : Told) (marks : List Mark) (used : ℕ) (bytes : List ℕ) (room memory cap : ℕ) → view_of marks used bytes room cap most ≡ now → Fits marks used bytes room memory most → told marks (all_sent now.list) ≡ now.list
 marks_say now marks used bytes room memory cap view fits = ap (told marks) (sym (shown_bytes now marks used bytes room memory cap view fits)) ∙ ap (λ (t : Told). t.list) view
 
-pub marks_fit : (now : Told) (marks : List Mark) (used : ℕ) (bytes : List ℕ) (room memory cap : ℕ) → view_of marks used bytes room cap ≡ now → Fits marks used bytes room memory → total marks ≡ length (all_sent now.list)
+pub marks_fit : {most : ℕ} (now : Told) (marks : List Mark) (used : ℕ) (bytes : List ℕ) (room memory cap : ℕ) → view_of marks used bytes room cap most ≡ now → Fits marks used bytes room memory most → total marks ≡ length (all_sent now.list)
 marks_fit now marks used bytes room memory cap view fits = total_is marks used bytes room memory fits ∙ ap length (shown_bytes now marks used bytes room memory cap view fits)
 
 pub one_sent : (session : ℕ) (bytes : List ℕ) (len : ℕ) → len ≡ length bytes → told (Sent session len ∷ []) bytes ≡ Says session bytes ∷ []
@@ -202,25 +201,25 @@ pub sent_length : (session len : ℕ) → length (sent_mark session len) ≤ 1
 sent_length session zero = omega arith
 sent_length session (suc len) = omega arith
 
-pub room_there : (now : Told) (marks : List Mark) (used : ℕ) (bytes : List ℕ) (room memory cap : ℕ) → view_of marks used bytes room cap ≡ now → Fits marks used bytes room memory → HasRoom now → (used + MAX_ANSWER ≤ room) × (length marks + 2 ≤ cap)
+pub room_there : {most : ℕ} (now : Told) (marks : List Mark) (used : ℕ) (bytes : List ℕ) (room memory cap : ℕ) → view_of marks used bytes room cap most ≡ now → Fits marks used bytes room memory most → HasRoom now → (used + MAX_ANSWER ≤ room) × (length marks + 2 ≤ cap)
 room_there now marks used bytes room memory cap view fits has = (has_bytes now marks used bytes room memory cap MAX_ANSWER view fits has.bytes, has_places now marks used bytes room cap 2 view has.marks)
 
 -- the bytes of these marks
 bytes_of : (marks : List Mark) (used : ℕ) (bytes : List ℕ) → total marks ≡ used → used ≤ length bytes → length (all_sent (told marks (take used bytes))) ≡ used
 bytes_of marks used bytes sum inside = let t : total marks ≡ length (take used bytes) = omega (arith, length-take used bytes, sum, inside) in let e = ap length (told_sent marks (take used bytes) t) in omega (arith, e, t, sum)
 
-pub made_room : {A E : Type 0} (marks after : List Mark) (used : ℕ) (bytes : List ℕ) (room cap : ℕ) (r : Result A E) → total marks ≡ used → used ≤ length bytes → after ≡ marks → OnOk r (length after + 2 ≤ cap) → used + MAX_ANSWER ≤ room
-    → OnOk r (HasRoom (view_of after used bytes room cap))
+pub made_room : {most : ℕ} {A E : Type 0} (marks after : List Mark) (used : ℕ) (bytes : List ℕ) (room cap : ℕ) (r : Result A E) → total marks ≡ used → used ≤ length bytes → after ≡ marks → OnOk r (length after + 2 ≤ cap) → used + MAX_ANSWER ≤ room
+    → OnOk r (HasRoom (view_of after used bytes room cap most))
 made_room marks after used bytes room cap r sum inside same places has =
     let u : length (all_sent (told after (take used bytes))) ≡ used = bytes_of after used bytes (ap total same ∙ sum) inside in
     on_ok_weaker r (λ few. record { bytes = omega (arith, u, has); marks = let l = told_length after (take used bytes) in omega (arith, l, few) }) places
 
 -- there is no room for the bytes
-pub full_bytes : {A E : Type 0} (marks : List Mark) (used : ℕ) (bytes : List ℕ) (room cap : ℕ) (r : Result A E) → total marks ≡ used → used ≤ length bytes → OnErr r (room < used + MAX_ANSWER) → OnErr r (IsFull (view_of marks used bytes room cap))
+pub full_bytes : {most : ℕ} {A E : Type 0} (marks : List Mark) (used : ℕ) (bytes : List ℕ) (room cap : ℕ) (r : Result A E) → total marks ≡ used → used ≤ length bytes → OnErr r (room < used + MAX_ANSWER) → OnErr r (IsFull (view_of marks used bytes room cap most))
 full_bytes marks used bytes room cap r sum inside few = on_err_weaker r (λ lt. inl (let u = bytes_of marks used bytes sum inside in omega (arith, u, lt))) few
 
 -- there is no place for a mark
-pub full_marks : {A E : Type 0} (after : List Mark) (used : ℕ) (bytes : List ℕ) (room cap : ℕ) (r : Result A E) → OnErr r (cap < length after + 2) → OnErr r (IsFull (view_of after used bytes room cap))
+pub full_marks : {most : ℕ} {A E : Type 0} (after : List Mark) (used : ℕ) (bytes : List ℕ) (room cap : ℕ) (r : Result A E) → OnErr r (cap < length after + 2) → OnErr r (IsFull (view_of after used bytes room cap most))
 full_marks after used bytes room cap r few = on_err_weaker r (λ lt. inr (let l = told_length after (take used bytes) in omega (arith, l, lt))) few
 
 pub on_err : {A E P : Type 0} (r : Result A E) → is_err r ≡ true → OnErr r P → P

@@ -12,26 +12,34 @@ use Rattle.nbd_session.specs.declared.phase.Phase.{Phase}
 use Rattle.nbd_session.specs.declared.phase.Phase.TheVariants.{Flags, Options, Transmission, Ended}
 use Rattle.nbd_session.specs.Session.{State, Steps, Waits, TakesFrame, IsDeaf, is_at_work, kind_of}
 use Rattle.nbd_session.specs.Turns.{AreTurns, Happened, Sessions, pool_after, sessions_after}
-use Rattle.tp_hub.specs.Told.{Answer, Told, Grows}
+use Rattle.tp_hub.specs.Told.{Answer, Told, Grows, KeepsRoom}
 use Rattle.tp_hub.specs.Runs.{TakesText, answers_in, answers_of}
+
+-- ---- room
+
+pub room_same : (t : Told) → KeepsRoom t t
+room_same t = record { room = omega arith; most = refl }
+
+pub room_then : {a b c : Told} → KeepsRoom a b → KeepsRoom b c → KeepsRoom a c
+room_then one two = record { room = let x = one.room in omega (arith, x, two.room); most = two.most ∙ one.most }
 
 -- ---- what was added, one after another
 
-pub grows_none : (t u : Told) → u.list ≡ t.list → t.room ≤ u.room → t.marks ≤ u.marks → Grows t u []
+pub grows_none : (t u : Told) → u.list ≡ t.list → KeepsRoom t u → t.marks ≤ u.marks → Grows t u []
 grows_none t u same room marks = record { list = same ∙ sym (append-nil t.list); room = room; marks = marks }
 
 pub grows_then : (a b c : Told) (first rest : List Answer) → Grows a b first → Grows b c rest → Grows a c (first ++ rest)
 grows_then a b c first rest g h = record {
   list = h.list ∙ (ap (λ (l : List Answer). l ++ rest) g.list ∙ append_assoc a.list first rest);
-  room = omega (arith, g.room, h.room);
+  room = room_then g.room h.room;
   marks = omega (arith, g.marks, h.marks);
 }
 
 -- the same where nothing but the room changed in between
-pub grows_on : (a b u c : Told) (first rest : List Answer) → Grows a b first → u.list ≡ b.list → b.room ≤ u.room → b.marks ≤ u.marks → Grows u c rest → Grows a c (first ++ rest)
+pub grows_on : (a b u c : Told) (first rest : List Answer) → Grows a b first → u.list ≡ b.list → KeepsRoom b u → b.marks ≤ u.marks → Grows u c rest → Grows a c (first ++ rest)
 grows_on a b u c first rest g same room marks h = record {
   list = h.list ∙ (ap (λ (l : List Answer). l ++ rest) (same ∙ g.list) ∙ append_assoc a.list first rest);
-  room = omega (arith, g.room, room, h.room);
+  room = room_then g.room (room_then room h.room);
   marks = omega (arith, g.marks, marks, h.marks);
 }
 
@@ -110,9 +118,9 @@ module _ {S : Type 0} (outline : S → Outline) (Calls : S → Call → calls.An
       })
 
 -- room was made, and then these were added
-pub grows_behind : (a u c : Told) (rest : List Answer) → u.list ≡ a.list → a.room ≤ u.room → a.marks ≤ u.marks → Grows u c rest → Grows a c rest
+pub grows_behind : (a u c : Told) (rest : List Answer) → u.list ≡ a.list → KeepsRoom a u → a.marks ≤ u.marks → Grows u c rest → Grows a c rest
 grows_behind a u c rest same room marks h = record {
   list = h.list ∙ ap (λ (l : List Answer). l ++ rest) same;
-  room = omega (arith, room, h.room);
+  room = room_then room h.room;
   marks = omega (arith, marks, h.marks);
 }

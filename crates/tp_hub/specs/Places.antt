@@ -12,7 +12,7 @@ use Rattle.nbd_session.specs.Clauses.{Advances, IsReady}
 use Rattle.nbd_session.specs.Turns.{AreTurns, Happened, Sessions, pool_after, sessions_after}
 use Rattle.tp_hub.specs.declared.slot.Heard.{Heard}
 use Rattle.tp_hub.specs.declared.slot.Heard.TheVariants.{Whole, Over, Stopped, Parted}
-use Rattle.tp_hub.specs.Told.{Answer, Told, Grows, IsFull}
+use Rattle.tp_hub.specs.Told.{Answer, Told, Grows, IsFull, KeepsRoom}
 use Rattle.tp_hub.specs.Desks.{IsAsked, RunsSo}
 use Rattle.tp_hub.specs.Runs.{Brings, Incoming, IsPart, IsShort, Runs, TakesText, answers_in, front_of, session_in, told_page}
 use Rattle.tp_hub.specs.Serving.{Serves, Slots, sessions_of, shown, slot_at}
@@ -60,7 +60,7 @@ IsRest false left bytes len = (bytes ≢ len) × (left ≡ bytes)
 -- nothing but the room changed, which did not shrink
 pub record IsWider (before after : Told) : Type 0 where
   pub list : after.list ≡ before.list
-  pub room : before.room ≤ after.room
+  pub room : KeepsRoom before after
   pub marks : before.marks ≤ after.marks
 
 module _ {D : Type 0} (view : View D) where

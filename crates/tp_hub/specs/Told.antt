@@ -57,11 +57,12 @@ all_sent (Refuses reason ∷ answers) = all_sent answers
 all_sent (Accepts ∷ answers) = all_sent answers
 all_sent (Lines bytes ∷ answers) = bytes ++ all_sent answers
 
--- what is shown of a buffer of answers: their list, and for how many bytes and marks there is room
+-- what is shown of a buffer of answers: their list, for how many bytes and marks there is room, and the most bytes that it takes
 pub record Told : Type 0 where
   pub list : List Answer
   pub room : ℕ
   pub marks : ℕ
+  pub most : ℕ
 
 -- one longest answer and an end fit
 pub record HasRoom (t : Told) : Type 0 where
@@ -72,8 +73,13 @@ pub record HasRoom (t : Told) : Type 0 where
 abbrev pub IsFull : Told → Type 0
 IsFull t = (t.room < length (all_sent t.list) + MAX_ANSWER) ⊎ (t.marks < length t.list + 2)
 
+-- no room for bytes was given up, and as many are taken at most
+pub record KeepsRoom (old new : Told) : Type 0 where
+  pub room : old.room ≤ new.room
+  pub most : new.most ≡ old.most
+
 -- these answers were added, and no room was given up
 pub record Grows (old new : Told) (answers : List Answer) : Type 0 where
   pub list : new.list ≡ old.list ++ answers
-  pub room : old.room ≤ new.room
+  pub room : KeepsRoom old new
   pub marks : old.marks ≤ new.marks

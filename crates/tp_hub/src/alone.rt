@@ -2,12 +2,12 @@
 
 ghost use Rattle.std.specs.Prelude.{◌≡◌, ◌<◌, ◌≤◌, [], List, length};
 ghost use Rattle.nbd_session.specs.Clauses.{GoesWithTrace};
-ghost use Rattle.tp_hub.specs.Told.{Answer};
+ghost use Rattle.tp_hub.specs.Told.{Answer, KeepsRoom};
 ghost use Rattle.tp_hub.specs.Runs.{Incoming, incoming, session_of};
 ghost use Rattle.tp_hub.specs.Desks.{IsAsked};
 ghost use Rattle.tp_hub.specs.Serve.{HubRuns, IsServedAs, IsServedBy, PlainRuns, with_pool};
 
-use crate::answers::Answers;
+use crate::answers::{Answers, MOST_BYTES};
 use crate::client::{Carried, carry};
 use crate::desk::Desk;
 use crate::event::Event;
@@ -47,9 +47,10 @@ fn serve_as<V: Managed, S: Stream>(
     requires number { number < 64 }
     requires room { 0 < length buffer.old.items }
     requires empty { out.old.list ≡ [] }
+    requires bound { out.old.most ≤ MOST_BYTES }
     ensures served { IsServedAs (HubRuns V.view) number profile hub result.0 (S.calls stream.old) (S.calls stream.new) out.new result.1 }
     ensures empty { out.new.list ≡ [] }
-    ensures wide { out.old.room ≤ out.new.room }
+    ensures wide { KeepsRoom out.old out.new }
     ensures long { out.old.marks ≤ out.new.marks }
 {
     let mut desk = OwnDesk { alloc, hub };
@@ -70,11 +71,12 @@ pub fn serve<V: Managed, S: Stream>(
 ) -> (Hub<V>, Carried)
     requires room { 0 < length buffer.old.items }
     requires empty { out.old.list ≡ [] }
+    requires bound { out.old.most ≤ MOST_BYTES }
     ensures served { IsServedBy (HubRuns V.view) profile hub result.0 (S.calls stream.old) (S.calls stream.new) out.new result.1 }
     ensures traced { GoesWithTrace V.view hub.pool result.0.pool (λ t t'. IsServedBy (PlainRuns V.view) profile (with_pool hub t) (with_pool result.0 t')
         (S.calls stream.old) (S.calls stream.new) out.new result.1) }
     ensures empty { out.new.list ≡ [] }
-    ensures wide { out.old.room ≤ out.new.room }
+    ensures wide { KeepsRoom out.old out.new }
     ensures long { out.old.marks ≤ out.new.marks }
 {
     match hub.free_number() {

@@ -8,7 +8,7 @@ ghost use Rattle.tp_hub.specs.Places.{IsRead};
 ghost use Rattle.tp_hub.specs.Runs.{closed_if, said};
 ghost use Rattle.std.specs.List.{list_any};
 ghost use Rattle.tp_hub.specs.Carrying.{closes_in, is_close};
-ghost use Rattle.tp_hub.specs.Told.{Grows, HasRoom, IsFull, Lines, Says, all_sent, end_mark, len_of, sent_mark, told, total};
+ghost use Rattle.tp_hub.specs.Told.{Grows, HasRoom, IsFull, KeepsRoom, Lines, Says, all_sent, end_mark, len_of, sent_mark, told, total};
 
 use nbd_session::{Answered, MAX_ANSWER, SHORT_ANSWER, Session, give_back};
 use nbd_wire::{COMMAND_READ, Frame, Kind, read_frame, wanted};
@@ -16,7 +16,7 @@ use std::alloc::{AllocError, Global};
 use std::marker::Model;
 use tp_model::{Cloned, Geometry, Refusal, SharedReads, Volumes};
 
-/// The most bytes that a list of answers has: it takes no answer more once it has those of one longest.
+/// The most bytes that the answers of a turn have: they take no more once they have those of one longest.
 pub const MOST_BYTES: usize = 2 * MAX_ANSWER;
 
 /// The bytes of a READ from which on its answer may be long.
@@ -41,8 +41,9 @@ pub enum Mark {
 /// buffer is filled with zeros as far as it was used up to now, within the memory that it has.
 pub struct Answers {
     bytes: Vec<u8>,
-    /// For how many bytes there is memory.
+    /// For how many bytes there is memory, and for how many there may be.
     room: usize,
+    most: usize,
     used: usize,
     marks: Vec<Mark>,
 }
@@ -50,13 +51,12 @@ pub struct Answers {
 impl Model for Answers {
     ghost use Rattle.std.specs.Prelude.{◌≡◌, ◌≤◌, length, take, vec_capacity};
     ghost use Rattle.tp_hub.specs.Told.{Told, told, total};
-    ghost use Rattle.tp_hub.specs.declared.answers.TheConstants.{MOST_BYTES};
 
     ghost Value = { Told };
 
-    ghost view = { λ a. record { list = told a.marks.items (take a.used a.bytes.items); room = a.room; marks = vec_capacity a.marks } };
+    ghost view = { λ a. record { list = told a.marks.items (take a.used a.bytes.items); room = a.room; marks = vec_capacity a.marks; most = a.most } };
 
-    ghost invariant = { λ a. (total a.marks.items ≡ a.used) × (a.used ≤ length a.bytes.items) × (length a.bytes.items ≤ a.room) × (a.room ≤ MOST_BYTES) × (a.room ≤ vec_capacity a.bytes) };
+    ghost invariant = { λ a. (total a.marks.items ≡ a.used) × (a.used ≤ length a.bytes.items) × (length a.bytes.items ≤ a.room) × (a.room ≤ a.most) × (a.room ≤ vec_capacity a.bytes) };
 }
 
 impl Drop for Answers {
@@ -64,6 +64,7 @@ impl Drop for Answers {
         let Answers {
             bytes,
             room: _,
+            most: _,
             used: _,
             marks: _,
         } = self;
@@ -72,29 +73,32 @@ impl Drop for Answers {
 }
 
 impl Answers {
-    /// No answers yet. It takes no memory.
+    /// No answers yet. It takes no memory. There is room for answers until memory is refused.
     pub fn new(alloc: Global) -> Answers
         ensures { result.list ≡ [] }
     {
-        Answers {
-            bytes: Vec::new(alloc),
-            room: 0,
-            used: 0,
-            marks: Vec::new(alloc),
-        }
+        empty(alloc, usize::MAX)
     }
 
-    /// Makes room for one longest answer and an end. Where memory is refused, or the bytes would be more than `MOST_BYTES`, nothing
-    /// changes but the room.
+    /// The same for the answers of a turn, which are `MOST_BYTES` bytes at most.
+    pub fn of_a_turn(alloc: Global) -> Answers
+        ensures list { result.list ≡ [] }
+        ensures most { result.most ≡ MOST_BYTES }
+    {
+        empty(alloc, MOST_BYTES)
+    }
+
+    /// Makes room for one longest answer and an end. Where memory is refused, or the bytes would be more than these answers may
+    /// have, nothing changes but the room.
     pub fn make_room(&mut self) -> Result<(), AllocError>
         ensures list { self.new.list ≡ self.old.list }
-        ensures room { self.old.room ≤ self.new.room }
+        ensures room { KeepsRoom self.old self.new }
         ensures marks { self.old.marks ≤ self.new.marks }
         ensures ok { OnOk result (HasRoom self.new) }
         ensures full { OnErr result (IsFull self.new) }
         ensures there { HasRoom self.old → IsOk result }
     {
-        match reserve(&mut self.bytes, self.room, self.used) {
+        match reserve(&mut self.bytes, self.room, self.used, self.most) {
             Ok(room) => self.room = room,
             Err(error) => return Err(error),
         }
@@ -219,7 +223,7 @@ impl Answers {
     /// All bytes that are sent, and those of status lines, end to end.
     pub fn bytes(&self) -> &[u8]
         ensures all { result.now ≡ all_sent self.now.list }
-        ensures few { length result.now ≤ MOST_BYTES }
+        ensures few { length result.now ≤ self.now.most }
     {
         &self.bytes[..self.used]
     }
@@ -236,9 +240,24 @@ impl Answers {
         ensures list { self.new.list ≡ [] }
         ensures room { self.new.room ≡ self.old.room }
         ensures marks { self.new.marks ≡ self.old.marks }
+        ensures most { self.new.most ≡ self.old.most }
     {
         self.used = 0;
         self.marks.clear();
+    }
+}
+
+/// No answers, of this many bytes at most.
+fn empty(alloc: Global, most: usize) -> Answers
+    ensures list { result.list ≡ [] }
+    ensures most { result.most ≡ most }
+{
+    Answers {
+        bytes: Vec::new(alloc),
+        room: 0,
+        most,
+        used: 0,
+        marks: Vec::new(alloc),
     }
 }
 
@@ -538,16 +557,21 @@ fn widen(bytes: &mut Vec<u8>, len: usize)
     }
 }
 
-/// Memory for one longest answer behind what is used: for how many bytes there is memory then. It is
-/// asked for once, for all that the buffer may have, so who makes room before a lock is taken asks
-/// for none under it. None of it is touched.
-fn reserve(bytes: &mut Vec<u8>, room: usize, used: usize) -> Result<usize, AllocError>
+/// Memory for one longest answer behind what is used: for how many bytes there is memory then. As
+/// much again is asked for with it, if there may be so much: who makes room for a turn before a lock
+/// is taken asks for none under it. None of it is touched.
+fn reserve(
+    bytes: &mut Vec<u8>,
+    room: usize,
+    used: usize,
+    most: usize,
+) -> Result<usize, AllocError>
     requires used { used ≤ length bytes.old.items }
     requires inside { length bytes.old.items ≤ room }
-    requires most { room ≤ MOST_BYTES }
+    requires most { room ≤ most }
     requires capacity { room ≤ vec_capacity bytes.old }
     ensures items { bytes.new.items ≡ bytes.old.items }
-    ensures ok { IfOk result (λ r. (used + MAX_ANSWER ≤ r) × (room ≤ r) × (r ≤ MOST_BYTES) × (r ≤ vec_capacity bytes.new)) }
+    ensures ok { IfOk result (λ r. (used + MAX_ANSWER ≤ r) × (room ≤ r) × (r ≤ most) × (r ≤ vec_capacity bytes.new)) }
     ensures full { IfErr result (λ e. room < used + MAX_ANSWER) }
     ensures there { used + MAX_ANSWER ≤ room → IsOk result }
     ensures capacity { vec_capacity bytes.old ≤ vec_capacity bytes.new }
@@ -555,11 +579,12 @@ fn reserve(bytes: &mut Vec<u8>, room: usize, used: usize) -> Result<usize, Alloc
     if room - used >= MAX_ANSWER {
         return Ok(room);
     }
-    if used > MAX_ANSWER {
+    if most - used < MAX_ANSWER {
         return Err(AllocError);
     }
-    bytes.reserve_exact(MOST_BYTES - bytes.len())?;
-    Ok(MOST_BYTES)
+    let len = (used + MAX_ANSWER).saturating_mul(2).min(most);
+    bytes.reserve_exact(len - bytes.len())?;
+    Ok(len)
 }
 
 /// Room for two marks more.

@@ -1,13 +1,13 @@
 //! One client over a desk.
 
 ghost use Rattle.std.specs.Prelude.{◌≡◌, ◌<◌, ◌≤◌, ◌++◌, [], List, length, Some};
-ghost use Rattle.tp_hub.specs.Told.{HasRoom, IsFull};
+ghost use Rattle.tp_hub.specs.Told.{HasRoom, IsFull, KeepsRoom};
 ghost use Rattle.tp_hub.specs.Desks.{AreAsked, Exchange};
 ghost use Rattle.tp_hub.specs.Runs.{incoming, session_of};
 ghost use Rattle.tp_hub.specs.Streams.{Makes, StreamCall};
 ghost use Rattle.tp_hub.specs.Carrying.{AreRounds, Exchanges, GoesOnOrEnds, Hands, IsCarried, IsLeft, IsSaid, Round, Stops, asks_in, calls_in, is_over, over_if};
 
-use crate::answers::Answers;
+use crate::answers::{Answers, MOST_BYTES};
 use crate::desk::Desk;
 use crate::event::Event;
 use crate::hub::Ran;
@@ -63,11 +63,12 @@ fn exchange<D: Desk, S: Stream>(
     requires own { session_of event ≡ number }
     requires empty { out.old.list ≡ [] }
     requires fits { HasRoom out.old }
+    requires bound { out.old.most ≤ MOST_BYTES }
     ensures did { Exchanges D.asks number (incoming event.entry) desk.old desk.new result.ran.events result.ran.bytes
         (S.calls stream.old) (S.calls stream.new) result.is_over result.is_said }
     ensures empty { out.new.list ≡ [] }
     ensures fits { HasRoom out.new }
-    ensures wide { out.old.room ≤ out.new.room }
+    ensures wide { KeepsRoom out.old out.new }
     ensures long { out.old.marks ≤ out.new.marks }
 {
     let ran = desk.ask(event, out);
@@ -104,10 +105,11 @@ fn hand<D: Desk, S: Stream>(
     requires number { number < 64 }
     requires empty { out.old.list ≡ [] }
     requires fits { HasRoom out.old }
+    requires bound { out.old.most ≤ MOST_BYTES }
     ensures handed { (xs : List Exchange) × AreAsked D.asks desk.old xs desk.new × Makes (S.calls stream.old) (S.calls stream.new) (λ did. Hands number piece.now xs did result) }
     ensures empty { out.new.list ≡ [] }
     ensures fits { HasRoom out.new }
-    ensures wide { out.old.room ≤ out.new.room }
+    ensures wide { KeepsRoom out.old out.new }
     ensures long { out.old.marks ≤ out.new.marks }
 {
     let mut at = 0;
@@ -156,11 +158,12 @@ fn read_once<D: Desk, S: Stream>(
     requires room { 0 < length buffer.old.items }
     requires empty { out.old.list ≡ [] }
     requires fits { HasRoom out.old }
+    requires bound { out.old.most ≤ MOST_BYTES }
     ensures went { (xs : List Exchange) × AreAsked D.asks desk.old xs desk.new × Makes (S.calls stream.old) (S.calls stream.new) (λ did. GoesOnOrEnds number xs did result) }
     ensures room { 0 < length buffer.new.items }
     ensures empty { out.new.list ≡ [] }
     ensures fits { HasRoom out.new }
-    ensures wide { out.old.room ≤ out.new.room }
+    ensures wide { KeepsRoom out.old out.new }
     ensures long { out.old.marks ≤ out.new.marks }
 {
     match stream.receive(buffer) {
@@ -187,11 +190,12 @@ fn listen<D: Desk, S: Stream>(
     requires room { 0 < length buffer.old.items }
     requires empty { out.old.list ≡ [] }
     requires fits { HasRoom out.old }
+    requires bound { out.old.most ≤ MOST_BYTES }
     ensures listened { (rounds : List Round) × (last : List Exchange) × (end : List StreamCall) × AreAsked D.asks desk.old (asks_in rounds ++ last) desk.new
         × (S.calls stream.new ≡ S.calls stream.old ++ (calls_in rounds ++ end)) × AreRounds number rounds × Stops number rounds last end result }
     ensures empty { out.new.list ≡ [] }
     ensures fits { HasRoom out.new }
-    ensures wide { out.old.room ≤ out.new.room }
+    ensures wide { KeepsRoom out.old out.new }
     ensures long { out.old.marks ≤ out.new.marks }
 {
     for turn in 0..u64::MAX {
@@ -217,7 +221,7 @@ fn hang_up<D: Desk>(desk: &mut D, number: u8, ending: Carried, out: &mut Answers
     requires fits { HasRoom out.old }
     ensures left { (xs : List Exchange) × AreAsked D.asks desk.old xs desk.new × IsLeft number xs ending }
     ensures empty { out.new.list ≡ [] }
-    ensures wide { out.old.room ≤ out.new.room }
+    ensures wide { KeepsRoom out.old out.new }
     ensures long { out.old.marks ≤ out.new.marks }
 {
     if was_over(ending) {
@@ -243,9 +247,10 @@ pub fn carry<D: Desk, S: Stream>(
     requires number { number < 64 }
     requires room { 0 < length buffer.old.items }
     requires empty { out.old.list ≡ [] }
+    requires bound { out.old.most ≤ MOST_BYTES }
     ensures carried { (xs : List Exchange) × AreAsked D.asks desk.old xs desk.new × Makes (S.calls stream.old) (S.calls stream.new) (λ did. IsCarried number profile out.new xs did result) }
     ensures empty { out.new.list ≡ [] }
-    ensures wide { out.old.room ≤ out.new.room }
+    ensures wide { KeepsRoom out.old out.new }
     ensures long { out.old.marks ≤ out.new.marks }
 {
     if out.make_room().is_err() {

@@ -204,6 +204,7 @@ impl<V: SharedVolumes> Hub<V> {
     ghost use Rattle.tp_hub.specs.Desks.{IsAsked, RanSo, RunsSo};
     ghost use Rattle.tp_hub.specs.Runs.{Brings};
     ghost use Rattle.tp_hub.specs.Serving.{sessions_of};
+    ghost use Rattle.tp_hub.specs.Told.{KeepsRoom};
 
     /// Takes the READs and BLOCK_STATUSes with which a piece of a session begins, one after another, as long as a shared read or walk answers each and one longest
     /// answer more fits into `out`. Neither the sessions nor the pool change. None where not even one was taken, and then `out` has the answers that it had.
@@ -214,7 +215,7 @@ impl<V: SharedVolumes> Hub<V> {
         ensures traced { IfSome result (λ ran. GoesWithTrace V.view self.now.pool self.now.pool (λ t t'. IsAsked
             (λ took answers. RanSo outline_of_traced (TracedCall V.view.has_use) (sessions_of self.now.slots) t took answers (sessions_of self.now.slots) t')
             (Brings number piece.now) ran.events ran.bytes out.old out.new)) }
-        ensures none { result ≡ None → (out.new.list ≡ out.old.list) × (out.old.room ≤ out.new.room) × (out.old.marks ≤ out.new.marks) }
+        ensures none { result ≡ None → (out.new.list ≡ out.old.list) × KeepsRoom out.old out.new × (out.old.marks ≤ out.new.marks) }
     {
         ask_place(&self.sessions, &self.pool, number, piece, out)
     }

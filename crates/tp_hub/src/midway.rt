@@ -61,6 +61,7 @@ impl<V: Staged> MidHub<V> {
     ghost use Rattle.tp_hub.specs.Runs.{Brings};
     ghost use Rattle.tp_hub.specs.Seats.{seat_at};
     ghost use Rattle.tp_hub.specs.Serving.{Serves, sessions_of};
+    ghost use Rattle.tp_hub.specs.Told.{KeepsRoom};
 
     /// Takes READs and BLOCK_STATUSes as `Hub::ask_shared` of the hub of which the flush was begun.
     pub fn ask_shared(&self, number: u8, piece: &[u8], out: &mut Answers) -> Option<Ran>
@@ -70,7 +71,7 @@ impl<V: Staged> MidHub<V> {
         ensures traced { IfSome result (λ ran. GoesWithTrace V.view self.now.pool self.now.pool (λ t t'. IsAsked
             (λ took answers. RanSo outline_of_traced (TracedCall V.view.has_use) (sessions_of self.now.slots) t took answers (sessions_of self.now.slots) t')
             (Brings number piece.now) ran.events ran.bytes out.old out.new)) }
-        ensures none { result ≡ None → (out.new.list ≡ out.old.list) × (out.old.room ≤ out.new.room) × (out.old.marks ≤ out.new.marks) }
+        ensures none { result ≡ None → (out.new.list ≡ out.old.list) × KeepsRoom out.old out.new × (out.old.marks ≤ out.new.marks) }
     {
         ask_place(&self.sessions, &self.midway, number, piece, out)
     }
@@ -200,7 +201,7 @@ impl<V: Staged> MidMessage<V> {
         requires { number < 64 }
         ensures asked { IfSome result (λ ran. IsAsked (λ took answers. RunsSo V.view (sessions_of self.now.slots) self.now.pool took answers (sessions_of self.now.slots) self.now.pool)
             (Brings number piece.now) ran.events ran.bytes out.old out.new) }
-        ensures none { result ≡ None → (out.new.list ≡ out.old.list) × (out.old.room ≤ out.new.room) × (out.old.marks ≤ out.new.marks) }
+        ensures none { result ≡ None → (out.new.list ≡ out.old.list) × KeepsRoom out.old out.new × (out.old.marks ≤ out.new.marks) }
         ensures waits { has_older (sessions_of self.now.slots number).phase ≡ true → result ≡ None }
     {
         if self.mid.has_older(number) {

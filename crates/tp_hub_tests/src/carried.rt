@@ -35,7 +35,7 @@ fn carry_by(
     requires { 0 < length buffer.old.items }
 {
     let mut hub = Hub::new(blank_shelf(alloc)?);
-    let mut out = Answers::new(alloc);
+    let mut out = Answers::of_a_turn(alloc);
     let mut desk = HubDesk {
         alloc,
         hub: &mut hub,
@@ -135,7 +135,7 @@ fn carry_watched(
     requires { 0 < length buffer.old.items }
 {
     let mut hub = Hub::new(blank_shelf(alloc)?);
-    let mut out = Answers::new(alloc);
+    let mut out = Answers::of_a_turn(alloc);
     let desk = HubDesk {
         alloc,
         hub: &mut hub,
@@ -204,7 +204,7 @@ fn serve_beside(
     requires { 0 < length buffer.old.items }
 {
     let mut hub = Hub::new(blank_shelf(alloc)?);
-    let mut out = Answers::new(alloc);
+    let mut out = Answers::of_a_turn(alloc);
     let ran = hub.run(
         alloc,
         &[

@@ -83,8 +83,12 @@ fn run_on<V: Managed>(alloc: Global, hub: &mut Hub<V>, text: &[u8], out: &mut An
 }
 
 /// How many bytes answer GO of session 0, and what the runs of a piece behind it come to.
-fn came_behind_go(alloc: Global, mut hub: Hub<Shelf>, text: &[u8]) -> (usize, Came) {
-    let mut out = Answers::new(alloc);
+fn came_behind_go(
+    alloc: Global,
+    mut hub: Hub<Shelf>,
+    text: &[u8],
+    mut out: Answers,
+) -> (usize, Came) {
     hub.run(
         alloc,
         &[Event::Open(0, Profile::Strict), Event::Bytes(0, GO_0)],
@@ -97,22 +101,33 @@ fn came_behind_go(alloc: Global, mut hub: Hub<Shelf>, text: &[u8]) -> (usize, Ca
 }
 
 /// The same of a hub of its own, where the piece is of large reads.
-fn came_of_reads(alloc: Global) -> Result<(usize, Came), Refusal> {
+fn came_of_reads(alloc: Global, out: Answers) -> Result<(usize, Came), Refusal> {
     let Ok(text) = numbered_reads(alloc, READS) else {
         return Err(Refusal::Memory);
     };
-    Ok(came_behind_go(alloc, blank_hub(alloc)?, &text))
+    Ok(came_behind_go(alloc, blank_hub(alloc)?, &text, out))
 }
 
 /// Where the buffer is full a run stops, and the next one gives the rest of the same output: each reply comes once and in its order, and the
 /// message behind them is done once.
 #[test]
 fn a_full_buffer_loses_no_answer(rt: HostRuntime) -> Result<(), Fail> {
-    let (answered, came) = came_of_reads(rt.alloc())?;
+    let out = Answers::of_a_turn(rt.alloc());
+    let (answered, came) = came_of_reads(rt.alloc(), out)?;
     let told = (answered, came.in_order, came.messages, came.bytes);
     let is_in_bounds = came.runs > 2 && came.most <= MOST_BYTES;
     let gone = GREETED + GONE;
     assert!(rt; (told, is_in_bounds) == ((gone, READS, 1, gone + READS * ALL_GIVEN), true));
+    Ok(())
+}
+
+/// Where the answers have no bound but memory, one run takes all of it, and one more finds nothing left.
+#[test]
+fn a_run_takes_what_memory_holds(rt: HostRuntime) -> Result<(), Fail> {
+    let (answered, came) = came_of_reads(rt.alloc(), Answers::new(rt.alloc()))?;
+    let told = (answered, came.in_order, came.messages, came.bytes, came.runs);
+    let gone = GREETED + GONE;
+    assert!(rt; told == (gone, READS, 1, gone + READS * ALL_GIVEN, 1));
     Ok(())
 }
 

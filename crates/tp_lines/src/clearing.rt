@@ -84,7 +84,7 @@ fn clear_all<D: Desk>(desk: &mut D, out: &mut Answers) -> u32
 fn make_answers(alloc: Global) -> Result<Answers, AllocError>
     ensures { IfOk result (λ out. (out.list ≡ []) × HasRoom out) }
 {
-    let mut out = Answers::new(alloc);
+    let mut out = Answers::of_a_turn(alloc);
     out.make_room()?;
     Ok(out)
 }

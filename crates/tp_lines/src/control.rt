@@ -321,7 +321,7 @@ fn make_buffers(alloc: Global) -> Result<Buffers, AllocError>
 {
     let piece = zeroes(alloc, PIECE)?;
     let line = HeldLine::new(alloc)?;
-    let mut out = Answers::new(alloc);
+    let mut out = Answers::of_a_turn(alloc);
     out.make_room()?;
     Ok(Buffers { piece, line, out })
 }

@@ -336,7 +336,7 @@ fn make_buffers(alloc: Global) -> Result<ScriptBuffers, AllocError>
     let piece = zeroes(alloc, PIECE)?;
     let bytes = zeroes(alloc, MOST_BYTES)?;
     let line = HeldLine::new(alloc)?;
-    let mut out = Answers::new(alloc);
+    let mut out = Answers::of_a_turn(alloc);
     out.make_room()?;
     Ok(ScriptBuffers {
         piece,

@@ -8,7 +8,8 @@ use Rattle.tp_model.specs.Clauses.{View}
 use Rattle.tp_msg.specs.declared.message.Message.{Message}
 use Rattle.tp_msg.specs.declared.message.Message.TheVariants as orders
 use Rattle.tp_msg.specs.Messages.{reading}
-use Rattle.tp_hub.specs.Told.{Answer, Grows, HasRoom, Told, all_sent}
+use Rattle.tp_hub.specs.Told.{Answer, Grows, HasRoom, KeepsRoom, Told, all_sent}
+use Rattle.tp_hub.proofs.Turning.{room_then}
 use Rattle.tp_hub.specs.Runs.{Incoming, Orders}
 use Rattle.tp_hub.specs.Desks.{IsAsked}
 use Rattle.tp_hub.specs.Flushes.{flush_told}
@@ -95,14 +96,14 @@ ordered_asked view message line answer before after told is grows =
     }
 
 -- room was made before
-pub asked_wider : (Did : List Incoming → List Answer → Type 0) (event : Incoming) (events bytes : ℕ) (before mid after : Told) → mid.list ≡ before.list → before.room ≤ mid.room → before.marks ≤ mid.marks
+pub asked_wider : (Did : List Incoming → List Answer → Type 0) (event : Incoming) (events bytes : ℕ) (before mid after : Told) → mid.list ≡ before.list → KeepsRoom before mid → before.marks ≤ mid.marks
     → IsAsked Did event events bytes mid after → IsAsked Did event events bytes before after
 asked_wider Did event events bytes before mid after list room marks asked = record {
   answers = asked.answers;
   did = asked.did;
   adds = record {
     list = asked.adds.list ∙ ap (λ (l : List Answer). l ++ asked.answers) list;
-    room = omega (arith, room, asked.adds.room);
+    room = room_then room asked.adds.room;
     marks = omega (arith, marks, asked.adds.marks);
   };
   cut = asked.cut;
@@ -112,6 +113,6 @@ asked_wider Did event events bytes before mid after list room marks asked = reco
   where
     wider : HasRoom before → HasRoom mid
     wider has = record {
-      bytes = let sent = ap (λ (l : List Answer). length (all_sent l)) list in omega (arith, sent, room, has.bytes);
+      bytes = let sent = ap (λ (l : List Answer). length (all_sent l)) list in omega (arith, sent, room.room, has.bytes);
       marks = let count = ap (λ (l : List Answer). length l) list in omega (arith, count, marks, has.marks);
     }

@@ -6,7 +6,7 @@ use Rattle.tp_model.specs.Clauses.{View}
 use Rattle.nbd_session.specs.Turns.{Sessions}
 use Rattle.tp_hub.specs.declared.event.Event.{Event}
 use Rattle.tp_hub.specs.declared.hub.Ran.{Ran}
-use Rattle.tp_hub.specs.Told.{Told}
+use Rattle.tp_hub.specs.Told.{KeepsRoom, Told}
 use Rattle.tp_hub.specs.Runs.{Brings, Incoming, incoming}
 use Rattle.tp_hub.specs.Desks.{IsAsked, RunsSo}
 use Rattle.tp_hub.specs.Flushes.{IsHubFlushed}
@@ -52,7 +52,7 @@ module _ {D : Type 0} (view : View D) where
         flush = (slots, flush ∙ ap (has_flush (sessions_of slots)) its);
       }
 
-  pub seen_wider : (event : Event) (seen : Seen) (before mid after : Told) → mid.list ≡ before.list → before.room ≤ mid.room → before.marks ≤ mid.marks → IsSeen view event seen mid after → IsSeen view event seen before after
+  pub seen_wider : (event : Event) (seen : Seen) (before mid after : Told) → mid.list ≡ before.list → KeepsRoom before mid → before.marks ≤ mid.marks → IsSeen view event seen mid after → IsSeen view event seen before after
   seen_wider event seen before mid after list room marks is = record {
     asked = asked_wider (λ took answers. SomeRun view took answers) (incoming event) seen.ran.events seen.ran.bytes before mid after list room marks is.asked;
     told = asked_wider (λ took answers. SomeRunTo view (hearer_in (incoming event)) seen.is_at_work took answers) (incoming event) seen.ran.events seen.ran.bytes before mid after list room marks is.told;

@@ -46,7 +46,7 @@ ArePartRuns view n left (answers ∷ later) last = (left ≡ true) × (more : Bo
 
 -- No part is left, or one longest answer more does not fit in the room that there was first. last: whether parts are left.
 abbrev pub AreAllMade : Told → Bool → Told → Type 0
-AreAllMade first last after = (last ≡ false) ⊎ IsFull (record { list = after.list; room = first.room; marks = first.marks })
+AreAllMade first last after = (last ≡ false) ⊎ IsFull (record { list = after.list; room = first.room; marks = first.marks; most = first.most })
 
 -- Parts are made so, and their answers were added. left: whether there were any.
 abbrev pub MakesParts : {D : Type 0} → View D → ℕ → Bool → Told → Told → Type 0

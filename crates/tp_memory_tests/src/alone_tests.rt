@@ -37,7 +37,7 @@ fn carry_over(
     requires { 0 < length buffer.old.items }
 {
     let mut hub = hub;
-    let mut out = Answers::new(alloc);
+    let mut out = Answers::of_a_turn(alloc);
     let mut desk = HubDesk {
         alloc,
         hub: &mut hub,
@@ -60,7 +60,7 @@ fn serve_so(
     if way == Way::Carry {
         return carry_over(alloc, hub, guest, buffer);
     }
-    let mut out = Answers::new(alloc);
+    let mut out = Answers::of_a_turn(alloc);
     serve(alloc, hub, Profile::Strict, guest, buffer, &mut out)
 }
 

@@ -1,6 +1,7 @@
 use Rattle.std.proofs.Common.{◌∙◌, arith, sym}
 use Rattle.tp_hub.proofs.Carrying.{carried_in_use, carried_lost, carried_none, carried_not, carried_on, was_false, was_true}
 use Rattle.tp_hub.proofs.Telling.{on_err}
+use Rattle.tp_hub.proofs.Turning.{room_then}
 use Rattle.tp_hub.proofs.client.carry.Goals as goal
 
 pub returns-then-opened-eq0-clause-carried : goal.returns-then-opened-eq0-clause-carried
@@ -19,16 +20,16 @@ pub returns-then-is_err-clause-carried : goal.returns-then-is_err-clause-carried
 returns-then-is_err-clause-carried g c = carried_not g.D.Desk.asks c.args.number c.args.profile c.make_room.new.self c.args.desk.now (g.S.Stream.calls c.args.stream.now) (on_err c.make_room.result (sym c.is_err.ensures.value ∙ c.if-is_err.true) c.make_room.ensures.full)
 
 pub returns-then-opened-eq0-clause-wide : goal.returns-then-opened-eq0-clause-wide
-returns-then-opened-eq0-clause-wide g c = omega (arith, c.make_room.ensures.room, c.exchange-opened.ensures.wide)
+returns-then-opened-eq0-clause-wide g c = room_then c.make_room.ensures.room c.exchange-opened.ensures.wide
 
 pub returns-then-opened-clause-wide : goal.returns-then-opened-clause-wide
-returns-then-opened-clause-wide g c = omega (arith, c.make_room.ensures.room, c.exchange-opened.ensures.wide)
+returns-then-opened-clause-wide g c = room_then c.make_room.ensures.room c.exchange-opened.ensures.wide
 
 pub returns-then-not-opened-clause-wide : goal.returns-then-not-opened-clause-wide
-returns-then-not-opened-clause-wide g c = omega (arith, c.make_room.ensures.room, c.exchange-opened.ensures.wide, c.hang_up.ensures.wide)
+returns-then-not-opened-clause-wide g c = room_then c.make_room.ensures.room (room_then c.exchange-opened.ensures.wide c.hang_up.ensures.wide)
 
 pub returns-clause-wide : goal.returns-clause-wide
-returns-clause-wide g c = omega (arith, c.make_room.ensures.room, c.exchange-opened.ensures.wide, c.listen-ending.ensures.wide, c.hang_up-2.ensures.wide)
+returns-clause-wide g c = room_then c.make_room.ensures.room (room_then c.exchange-opened.ensures.wide (room_then c.listen-ending.ensures.wide c.hang_up-2.ensures.wide))
 
 pub returns-then-opened-eq0-clause-long : goal.returns-then-opened-eq0-clause-long
 returns-then-opened-eq0-clause-long g c = omega (arith, c.make_room.ensures.marks, c.exchange-opened.ensures.long)

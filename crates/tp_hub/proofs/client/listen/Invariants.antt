@@ -1,5 +1,5 @@
 use Rattle.std.proofs.Common.{◌≡◌, ◌<◌, ◌≤◌, [], length}
-use Rattle.tp_hub.specs.Told.{HasRoom}
+use Rattle.tp_hub.specs.Told.{HasRoom, KeepsRoom}
 use Rattle.tp_hub.proofs.Carrying.{Listening}
 use Rattle.tp_hub.proofs.client.listen.Given as goal
 
@@ -8,7 +8,7 @@ invariant-loop-turn g l = record {
   room : 0 < length l.buffer.items;
   empty : l.out.list ≡ [];
   fits : HasRoom l.out;
-  wide : l.initial.out.room ≤ l.out.room;
+  wide : KeepsRoom l.initial.out l.out;
   long : l.initial.out.marks ≤ l.out.marks;
   listening : Listening g.D.Desk.asks l.fn.number l.turn l.initial.desk l.desk (g.S.Stream.calls l.initial.stream) (g.S.Stream.calls l.stream);
 }

@@ -1,4 +1,4 @@
-use Rattle.std.proofs.Common.{◌≤◌, Err, length, ap, arith}
+use Rattle.std.proofs.Common.{◌≤◌, ◌∙◌, Err, length, ap, arith}
 use Rattle.tp_hub.proofs.Telling.{full_bytes, full_marks, made_room, room_there}
 use Rattle.tp_hub.proofs.answers.Answers.make_room.Goals as goal
 
