@@ -1,16 +1,16 @@
 //! What is seen of a client in what it sent and what it was answered, for the log only.
 
-use nbd_wire::{CHUNK_MAGIC, OPTION_GO, OPTION_MAGIC, REPLY_MAGIC, SIMPLE_REPLY_MAGIC};
+use nbd_wire::{
+    ChunkType, OPTION_GO, ReplyType, read_chunk, read_error, read_option_reply,
+    read_simple_reply_head,
+};
 use tp_hub::{Answers, Mark};
 
-/// The number of `NBD_REP_ERR_UNKNOWN` (`proto.md`, "Option reply types").
-const UNKNOWN: u64 = 0x8000_0006;
-
-/// The number of `NBD_REPLY_TYPE_ERROR` (`proto.md`, "Structured reply types").
-const ERROR_CHUNK: u64 = 0x8001;
-
 /// The number of `NBD_ENOSPC` (`proto.md`, "Error values").
-const NO_SPACE: u64 = 28;
+const NO_SPACE: u32 = 28;
+
+/// The front of `NBD_OPT_GO`, up to the length of its data (`proto.md`, "Option types").
+const GO: &[u8] = b"IHAVEOPT\0\0\0\x07";
 
 /// The most bytes that are kept of what a client sent since it was answered last.
 const MOST_SENT: usize = 512;
@@ -31,15 +31,14 @@ impl Unanswered {
         }
     }
 
-    /// Adds what was sent.
+    /// Adds what was sent, as far as there is room.
     pub(crate) fn add(&mut self, sent: &[u8]) {
-        for byte in sent {
-            let Some(place) = self.bytes.get_mut(self.len) else {
-                return;
-            };
-            *place = *byte;
-            self.len = self.len.saturating_add(1);
-        }
+        let Some(rest) = self.bytes.get_mut(self.len..) else {
+            return;
+        };
+        let count = rest.len().min(sent.len());
+        rest[..count].copy_from_slice(&sent[..count]);
+        self.len = self.len.saturating_add(count);
     }
 
     /// It was answered.
@@ -62,33 +61,25 @@ pub(crate) enum Answer {
     NoVolume,
 }
 
-/// The number in so many bytes from a place on, the highest first.
-fn number_at(bytes: &[u8], at: usize, len: usize) -> Option<u64> {
-    let mut number = 0u64;
-    for byte in bytes.get(at..at.checked_add(len)?)? {
-        number = number << 8 | u64::from(*byte);
-    }
-    Some(number)
-}
-
 /// Whether a simple reply or a chunk says that there is no space.
 fn is_no_space(reply: &[u8]) -> bool {
-    match number_at(reply, 0, 4) {
-        Some(magic) if magic == u64::from(SIMPLE_REPLY_MAGIC) => {
-            number_at(reply, 4, 4) == Some(NO_SPACE)
+    if let Some((head, _)) = read_simple_reply_head(reply) {
+        return head.error == NO_SPACE;
+    }
+    match read_chunk(reply) {
+        Some((chunk, _)) => {
+            chunk.kind == ChunkType::Error && read_error(chunk.payload) == Some(NO_SPACE)
         }
-        Some(magic) if magic == u64::from(CHUNK_MAGIC) => {
-            number_at(reply, 6, 2) == Some(ERROR_CHUNK) && number_at(reply, 20, 4) == Some(NO_SPACE)
-        }
-        _ => false,
+        None => false,
     }
 }
 
 /// Whether the reply to an option GO says that there is no such volume.
 fn is_no_volume(reply: &[u8]) -> bool {
-    number_at(reply, 0, 8) == Some(REPLY_MAGIC)
-        && number_at(reply, 8, 4) == Some(u64::from(OPTION_GO))
-        && number_at(reply, 12, 4) == Some(UNKNOWN)
+    match read_option_reply(reply) {
+        Some((said, _)) => said.option == OPTION_GO && said.reply == ReplyType::Unknown,
+        None => false,
+    }
 }
 
 /// What one reply says that is logged.
@@ -122,21 +113,21 @@ pub(crate) fn noticed(answers: &Answers) -> Option<Answer> {
 pub(crate) fn name_in(sent: &[u8]) -> Option<&[u8]> {
     let mut found = None;
     for at in 0..sent.len() {
-        let is_go = number_at(sent, at, 8) == Some(OPTION_MAGIC)
-            && number_at(sent, at.saturating_add(8), 4) == Some(u64::from(OPTION_GO));
-        if is_go {
-            found = sent
-                .get(at.saturating_add(16)..)
-                .and_then(name_of)
-                .or(found);
+        let rest = sent.get(at..).unwrap_or(&[]);
+        if rest.starts_with(GO) {
+            found = name_of(rest).or(found);
         }
     }
     found
 }
 
-/// The name at the front of the data of an option GO, as far as it is there.
-fn name_of(data: &[u8]) -> Option<&[u8]> {
-    let len = usize::try_from(number_at(data, 0, 4)?).ok()?;
-    let name = data.get(4..)?;
+/// The name in an option GO at the front of a text, as far as it is there: behind the length of the
+/// option's data and its own.
+fn name_of(text: &[u8]) -> Option<&[u8]> {
+    let name = text.get(20..)?;
+    let mut len = 0usize;
+    for byte in text.get(16..20)? {
+        len = len << 8 | usize::from(*byte);
+    }
     Some(name.get(..len).unwrap_or(name))
 }

@@ -118,7 +118,7 @@ impl Failure {
     }
 
     /// Returns whether the explanation has a number that the error does not name.
-    pub fn tells_what_fits(&self) -> bool {
+    pub fn needs_reason(&self) -> bool {
         match self.cause {
             Cause::Unfit(_) => true,
             // A number does not name the group.

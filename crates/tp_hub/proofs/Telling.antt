@@ -208,19 +208,19 @@ room_there now marks used bytes room memory cap view fits has = (has_bytes now m
 bytes_of : (marks : List Mark) (used : ℕ) (bytes : List ℕ) → total marks ≡ used → used ≤ length bytes → length (all_sent (told marks (take used bytes))) ≡ used
 bytes_of marks used bytes sum inside = let t : total marks ≡ length (take used bytes) = omega (arith, length-take used bytes, sum, inside) in let e = ap length (told_sent marks (take used bytes) t) in omega (arith, e, t, sum)
 
-pub made_room : {most : ℕ} {A E : Type 0} (marks after : List Mark) (used : ℕ) (bytes : List ℕ) (room cap : ℕ) (r : Result A E) → total marks ≡ used → used ≤ length bytes → after ≡ marks → OnOk r (length after + 2 ≤ cap) → used + MAX_ANSWER ≤ room
+pub made_room : (most : ℕ) {A E : Type 0} (marks after : List Mark) (used : ℕ) (bytes : List ℕ) (room cap : ℕ) (r : Result A E) → total marks ≡ used → used ≤ length bytes → after ≡ marks → OnOk r (length after + 2 ≤ cap) → used + MAX_ANSWER ≤ room
     → OnOk r (HasRoom (view_of after used bytes room cap most))
-made_room marks after used bytes room cap r sum inside same places has =
+made_room most marks after used bytes room cap r sum inside same places has =
     let u : length (all_sent (told after (take used bytes))) ≡ used = bytes_of after used bytes (ap total same ∙ sum) inside in
     on_ok_weaker r (λ few. record { bytes = omega (arith, u, has); marks = let l = told_length after (take used bytes) in omega (arith, l, few) }) places
 
 -- there is no room for the bytes
-pub full_bytes : {most : ℕ} {A E : Type 0} (marks : List Mark) (used : ℕ) (bytes : List ℕ) (room cap : ℕ) (r : Result A E) → total marks ≡ used → used ≤ length bytes → OnErr r (room < used + MAX_ANSWER) → OnErr r (IsFull (view_of marks used bytes room cap most))
-full_bytes marks used bytes room cap r sum inside few = on_err_weaker r (λ lt. inl (let u = bytes_of marks used bytes sum inside in omega (arith, u, lt))) few
+pub full_bytes : (most : ℕ) {A E : Type 0} (marks : List Mark) (used : ℕ) (bytes : List ℕ) (room cap : ℕ) (r : Result A E) → total marks ≡ used → used ≤ length bytes → OnErr r (room < used + MAX_ANSWER) → OnErr r (IsFull (view_of marks used bytes room cap most))
+full_bytes most marks used bytes room cap r sum inside few = on_err_weaker r (λ lt. inl (let u = bytes_of marks used bytes sum inside in omega (arith, u, lt))) few
 
 -- there is no place for a mark
-pub full_marks : {most : ℕ} {A E : Type 0} (after : List Mark) (used : ℕ) (bytes : List ℕ) (room cap : ℕ) (r : Result A E) → OnErr r (cap < length after + 2) → OnErr r (IsFull (view_of after used bytes room cap most))
-full_marks after used bytes room cap r few = on_err_weaker r (λ lt. inr (let l = told_length after (take used bytes) in omega (arith, l, lt))) few
+pub full_marks : (most : ℕ) {A E : Type 0} (after : List Mark) (used : ℕ) (bytes : List ℕ) (room cap : ℕ) (r : Result A E) → OnErr r (cap < length after + 2) → OnErr r (IsFull (view_of after used bytes room cap most))
+full_marks most after used bytes room cap r few = on_err_weaker r (λ lt. inr (let l = told_length after (take used bytes) in omega (arith, l, lt))) few
 
 pub on_err : {A E P : Type 0} (r : Result A E) → is_err r ≡ true → OnErr r P → P
 on_err (Ok x) e p = absurd cc

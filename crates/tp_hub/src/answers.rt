@@ -1,6 +1,6 @@
 //! What the hub answers.
 
-ghost use Rattle.std.specs.Prelude.{◌≡◌, ℕ, List, ◌+◌, ◌<◌, ◌≤◌, [], ◌∷◌, ◌++◌, length, take, false, None, IfSome, IfOk, IfErr, OnErr, OnOk, IsOk, vec_len, vec_capacity};
+ghost use Rattle.std.specs.Prelude.{◌≡◌, ℕ, List, ◌+◌, ◌-◌, ◌^◌, ◌<◌, ◌≤◌, [], ◌∷◌, ◌++◌, length, take, false, None, IfSome, IfOk, IfErr, OnErr, OnOk, IsOk, vec_len, vec_capacity};
 ghost use Rattle.nbd_session.specs.Clauses.{Advances, IsReady};
 ghost use Rattle.nbd_session.specs.Session.{is_at_work};
 ghost use Rattle.tp_hub.specs.Flushed.{EndsFlush};
@@ -333,7 +333,7 @@ fn step_at<V: Cloned>(
     session.step_into(pool, piece, &mut bytes[at..])
 }
 
-/// Takes a step whose answer is put at a place of a buffer, which is used as far as it has memory.
+/// Takes a step whose answer is put at a place of a buffer, which is widened for the longest answer.
 fn step_wide<V: Cloned>(
     session: &mut Session,
     pool: &mut V,
@@ -353,7 +353,7 @@ fn step_wide<V: Cloned>(
     ensures most { length bytes.new.items ≤ room }
     ensures capacity { room ≤ vec_capacity bytes.new }
 {
-    widen(bytes, room);
+    widen(bytes, at + MAX_ANSWER);
     step_at(session, pool, piece, bytes, at).unwrap()
 }
 
@@ -418,13 +418,13 @@ fn begins_with_long_read(piece: &[u8]) -> bool {
 }
 
 /// How long a buffer is to be for the answer to the READ with which a piece begins.
-fn len_for(piece: &[u8], at: usize, room: usize) -> usize
-    requires { at + MAX_ANSWER ≤ room }
+fn len_for(piece: &[u8], at: usize) -> usize
+    requires { at + MAX_ANSWER ≤ 2 ^ 64 - 1 }
     ensures least { at + SHORT_ANSWER ≤ result }
-    ensures most { result ≤ room }
+    ensures most { result ≤ at + MAX_ANSWER }
 {
     if begins_with_long_read(piece) {
-        room
+        at + MAX_ANSWER
     } else {
         at + SHORT_ANSWER
     }
@@ -444,7 +444,7 @@ fn widen_for(bytes: &mut Vec<u8>, piece: &[u8], at: usize, room: usize)
     if bytes.len() >= room {
         return;
     }
-    widen(bytes, len_for(piece, at, room));
+    widen(bytes, len_for(piece, at));
 }
 
 /// The same at a place of a buffer that has memory for it.
@@ -560,12 +560,7 @@ fn widen(bytes: &mut Vec<u8>, len: usize)
 /// Memory for one longest answer behind what is used: for how many bytes there is memory then. As
 /// much again is asked for with it, if there may be so much: who makes room for a turn before a lock
 /// is taken asks for none under it. None of it is touched.
-fn reserve(
-    bytes: &mut Vec<u8>,
-    room: usize,
-    used: usize,
-    most: usize,
-) -> Result<usize, AllocError>
+fn reserve(bytes: &mut Vec<u8>, room: usize, used: usize, most: usize) -> Result<usize, AllocError>
     requires used { used ≤ length bytes.old.items }
     requires inside { length bytes.old.items ≤ room }
     requires most { room ≤ most }

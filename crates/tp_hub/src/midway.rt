@@ -193,6 +193,7 @@ impl<V: Staged> MidMessage<V> {
     ghost use Rattle.tp_hub.specs.Runs.{Brings};
     ghost use Rattle.tp_hub.specs.Seats.{seat_at};
     ghost use Rattle.tp_hub.specs.Serving.{HubState, sessions_of};
+    ghost use Rattle.tp_hub.specs.Told.{KeepsRoom};
     ghost use Rattle.tp_hub.specs.Unkept.{IsHubOrdered, IsOrdering, IsUnkept};
 
     /// Takes READs and BLOCK_STATUSes as `Hub::ask_shared`, except of a session that compares its

@@ -5,7 +5,7 @@ use Rattle.std.proofs.lemmas.Bool.{cases_lt}
 use Rattle.tp_model.specs.Clauses.{View}
 use Rattle.nbd_session.specs.declared.answer.TheConstants.{MAX_ANSWER}
 use Rattle.nbd_session.specs.Turns.{Sessions}
-use Rattle.tp_hub.specs.Told.{Answer, Grows, IsFull, KeepsRoom, Told, all_sent}
+use Rattle.tp_hub.specs.Told.{Answer, Grows, IsFull, Told, all_sent}
 use Rattle.tp_hub.proofs.Turning.{room_same, room_then}
 use Rattle.tp_hub.specs.Runs.{Brings, Incoming, taken_of}
 use Rattle.tp_hub.specs.Desks.{IsAsked, IsCut, RunsSo}
@@ -86,10 +86,10 @@ one_lacks : (bytes room count marks : ℕ) → (bytes ≤ room → count ≤ mar
 one_lacks bytes room count marks both = ⊎_elim (λ few. inl few) (λ fits. ⊎_elim (λ few. inr few) (λ has. absurd (both fits has)) (cases_lt marks count)) (cases_lt room bytes)
 
 -- what does not fit in some room does not fit in less
-full_in_less : (first now : Told) (answers : List Answer) → answers ≡ now.list → KeepsRoom first now → first.marks ≤ now.marks → IsFull now → IsFull (record { list = answers; room = first.room; marks = first.marks; most = first.most })
+full_in_less : (first now : Told) (answers : List Answer) → answers ≡ now.list → first.room ≤ now.room → first.marks ≤ now.marks → IsFull now → IsFull (record { list = answers; room = first.room; marks = first.marks; most = first.most })
 full_in_less first now answers same room marks (inl few) =
     let sent : length (all_sent answers) ≡ length (all_sent now.list) = ap (λ (l : List Answer). length (all_sent l)) same in
-    inl (omega (arith, sent, room.room, few))
+    inl (omega (arith, sent, room, few))
 full_in_less first now answers same room marks (inr few) =
     let count : length answers ≡ length now.list = ap (λ (l : List Answer). length l) same in
     inr (omega (arith, count, marks, few))
@@ -105,12 +105,12 @@ made_to_full : (Did : List Incoming → List Answer → Type 0) (session : ℕ) 
     → IsAsked Did (Brings session piece) events bytes before after → AreAllMade first last after
 made_to_full Did session piece last events bytes first before after made none nothing grows asked =
     let adds : Grows before after [] = subst (λ (l : List Answer). Grows before after l) (asked.silent none nothing) asked.adds in
-    inr (full_in_less first before after.list (adds.list ∙ append-nil before.list) grows.room grows.marks (wants_room Did session piece events bytes before after none nothing asked))
+    inr (full_in_less first before after.list (adds.list ∙ append-nil before.list) grows.room.room grows.marks (wants_room Did session piece events bytes before after none nothing asked))
 
 -- answers were given before the parts
 made_from : (first before after : Told) (last : Bool) (answers : List Answer) → Grows first before answers → AreAllMade before last after → AreAllMade first last after
 made_from first before after last answers grows (inl none) = inl none
-made_from first before after last answers grows (inr full) = inr (full_in_less first (record { list = after.list; room = before.room; marks = before.marks; most = before.most }) after.list refl grows.room grows.marks full)
+made_from first before after last answers grows (inr full) = inr (full_in_less first (record { list = after.list; room = before.room; marks = before.marks; most = before.most }) after.list refl grows.room.room grows.marks full)
 
 module _ {D : Type 0} (view : View D) (session : ℕ) (left : Bool) where
   -- one ask, and whether parts are left behind it

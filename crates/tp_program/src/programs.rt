@@ -172,7 +172,7 @@ fn always_explains(task: &Task<'_>) -> bool {
 /// command that always explains, or if it has the number of volumes that fit.
 fn tell_failure<E: Write>(task: &Task<'_>, failure: Failure, explains: bool, errors: &mut E) {
     let told = writeln!(errors, "thinpool: {}", failure.refusal);
-    let is_explained = explains || always_explains(task) || failure.tells_what_fits();
+    let is_explained = explains || always_explains(task) || failure.needs_reason();
     if is_explained && told.is_ok() {
         let explanation = Explanation {
             task: *task,
