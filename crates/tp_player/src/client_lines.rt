@@ -115,6 +115,12 @@ impl World {
         };
         hang_up(self.alloc, server, number, &mut self.out);
         let answer = raw_reply(&self.out, &mut self.report)?;
+        let expected = if self.connection(number).is_open {
+            Answer::Closed
+        } else {
+            Answer::Failed(Refusal::NoSession)
+        };
+        self.compare_answer(answer, expected)?;
         self.forget(number);
         Ok(answer)
     }
@@ -183,6 +189,21 @@ impl World {
         Ok(())
     }
 
+    /// Returns whether the last option reported the size of this volume.
+    fn reports_size_of(&self, id: u32) -> Result<bool, AllocError> {
+        let Some(reference) = self.reference() else {
+            return Ok(true);
+        };
+        let Some(volume) = reference.volume(id) else {
+            return Ok(false);
+        };
+        let line = reference.size_line(volume)?;
+        let (size, _) = cut_at(line.as_bytes(), b' ');
+        let reported = self.report.strip_prefix(b"size ".as_slice());
+        let (reported, _) = cut_at(reported.unwrap_or(&[]), b' ');
+        Ok(reported == size)
+    }
+
     /// Compares the answer to an option that names a volume. Returns whether the disk failed in it.
     fn compare_export(
         &mut self,
@@ -198,7 +219,12 @@ impl World {
                 return Ok(true);
             }
             self.require(expected, b"another export")?;
-        } else if answer == Answer::Reported && !matches!(call, ClientCall::Info(_)) {
+            return Ok(false);
+        }
+        if answer == Answer::Reported && !self.reports_size_of(id)? {
+            self.require(expected, b"another size")?;
+        }
+        if answer == Answer::Reported && !matches!(call, ClientCall::Info(_)) {
             self.take_open(number, id)?;
         }
         Ok(false)
@@ -415,6 +441,14 @@ impl World {
         Ok(self.ask(number, &request, &rest, COOKIE_OF_HALVES)?.0)
     }
 
+    /// Returns the answer of a request of which something is left: nothing may be sent before that.
+    fn say_left(&mut self, left: &[u8]) -> Result<Answer, AllocError> {
+        if !self.out.marks().is_empty() {
+            return Ok(Answer::Strange);
+        }
+        self.say(left)
+    }
+
     /// Sends a request that is served one part at a time. Reports `parts left`, `flush left`, or the reply. If only the flush is
     /// left, the change is made; otherwise the reference model makes it when the request is answered.
     fn play_begin(&mut self, number: u8, request: &Request) -> Result<Answer, AllocError> {
@@ -427,11 +461,11 @@ impl World {
                 let step = Step::Request(&request);
                 self.compare_step(&step, Answer::Done, Caller::Client, false)?;
                 self.set_pending(number, None);
-                self.say(b"flush left")
+                self.say_left(b"flush left")
             }
             (true, false) => {
                 self.set_pending(number, Some(request));
-                self.say(b"parts left")
+                self.say_left(b"parts left")
             }
             _ => self.end_parts(number, &request),
         }
@@ -450,7 +484,7 @@ impl World {
     fn play_next_part(&mut self, number: u8) -> Result<Answer, AllocError> {
         let left = self.deliver_part(number, &[]);
         if left.0 || left.1 {
-            return self.say(b"parts left");
+            return self.say_left(b"parts left");
         }
         if let Some(request) = self.connection(number).pending {
             self.set_pending(number, None);

@@ -285,8 +285,13 @@ impl World {
         Answer::Done
     }
 
-    /// Reports the disk's calls since the last such line.
+    /// Reports the disk's calls since the last such line, and of a disk without a pool all that it ever had.
     fn report_calls(&mut self) -> Result<Answer, AllocError> {
+        if let Stage::Disk(_) = &self.stage {
+            let calls = self.calls_now();
+            let text = format!(in self.alloc; "{calls} calls")?;
+            return self.say(text.as_bytes());
+        }
         let now = self.tally_now();
         let calls = now.since(self.tally);
         self.tally = now;
