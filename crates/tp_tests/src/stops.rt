@@ -1,10 +1,9 @@
-//! What a stop leaves of random writes after a fault of any disk call, against plain arrays, with few places for changed blocks.
+//! What a stop leaves of some sectors of two volumes, against plain arrays, with few places for changed blocks.
 
-use crate::calls::{close, flush};
 use crate::pools::{
-    FEW, MemServed, byte_at, closed, is_clean, opened, with_new, with_volume, write,
+    MemServed, byte_at, closed, flush, is_clean, opened, told_of_opened, with_new, with_volume,
+    write,
 };
-use crate::told::told_of_opened;
 use std::alloc::Global;
 use std::test::Fail;
 use tp_disk::{Disk, MemDisk};
@@ -13,11 +12,6 @@ use tp_served::Room;
 
 /// The sectors that are looked at: of each of two volumes some in blocks of their own, and about the end of a block; and one in a block that no step writes to.
 pub(crate) const PLACES: usize = 9;
-
-const STEPS: usize = 60;
-
-/// The disk calls of opening.
-const OPENING: u64 = 6;
 
 pub(crate) fn volume_of(place: usize) -> DevId {
     DevId::new((place % 2) as u32)
@@ -77,16 +71,6 @@ pub(crate) fn perform(
     fill_place(pool, place, (number % 63 + 1) as u8, expected)
 }
 
-/// Does the steps up to the first that is refused.
-fn perform_all(pool: &mut MemServed, expected: &mut Expected) -> Result<(), Refusal> {
-    let mut bits = 1u64;
-    for number in 0..STEPS {
-        bits = bits.wrapping_mul(6_364_136_223_846_793_005).wrapping_add(1);
-        perform(pool, number, bits, expected)?;
-    }
-    Ok(())
-}
-
 /// A pool with volumes 0 and 1.
 fn with_both(alloc: Global, geometry: Geometry, room: Room) -> Result<MemServed, Refusal> {
     with_new(with_volume(alloc, geometry, room)?, DevId::new(1))
@@ -95,7 +79,6 @@ fn with_both(alloc: Global, geometry: Geometry, room: Room) -> Result<MemServed,
 /// A pool with two volumes, closed.
 #[derive(Drop)]
 pub(crate) struct Begin {
-    geometry: Geometry,
     room: Room,
     disk: MemDisk,
 }
@@ -103,11 +86,7 @@ pub(crate) struct Begin {
 pub(crate) fn begun(alloc: Global, room: Room) -> Result<Begin, Refusal> {
     let geometry = Geometry::new(128, 4, 1032, 8)?;
     let disk = closed(with_both(alloc, geometry, room)?)?;
-    Ok(Begin {
-        geometry,
-        room,
-        disk,
-    })
+    Ok(Begin { room, disk })
 }
 
 /// A disk on which a pool was closed, or failed.
@@ -115,56 +94,26 @@ pub(crate) fn begun(alloc: Global, room: Room) -> Result<Begin, Refusal> {
 pub(crate) struct Run {
     pub(crate) disk: MemDisk,
     pub(crate) expected: Expected,
-    /// Whether a step or the closing was refused.
-    pub(crate) refused: bool,
 }
 
 /// Opens a copy of the pool on which this disk call fails.
 pub(crate) fn opened_failing(alloc: Global, begin: &Begin, call: u64) -> Result<MemServed, Fail> {
     let mut disk = begin.disk.stop(alloc, &[])?;
     disk.fail(call, call);
-    Ok(opened(alloc, disk, begin.geometry, begin.room)?)
+    Ok(opened(alloc, disk, begin.room)?)
 }
 
-/// Does the steps on such a copy, then closes it.
-fn run_steps(alloc: Global, begin: &Begin, call: u64) -> Result<Run, Fail> {
-    let mut pool = opened_failing(alloc, begin, call)?;
-    let mut expected = Expected {
-        now: [0; PLACES],
-        allowed: [1; PLACES],
-    };
-    let refused = perform_all(&mut pool, &mut expected).is_err();
-    let (answer, disk) = close(pool);
-    if answer.is_ok() {
-        expected.keep();
-    }
-    Ok(Run {
-        disk,
-        expected,
-        refused: refused || answer.is_err(),
-    })
-}
-
-/// Which of the values since the last flush a stop leaves of a sector: by a number made from its own and this one, 0 the oldest, or the
-/// newest.
-fn pick_of(seed: Option<u64>, sector: u64) -> u64 {
-    let Some(seed) = seed else {
-        return 1000;
-    };
+/// Which of the values since the last flush a stop leaves of a sector: by a number made from its own and this one; by 0 the oldest.
+fn pick_of(seed: u64, sector: u64) -> u64 {
     let mixed = (sector ^ 0x5bd1_e995).wrapping_mul(6_364_136_223_846_793_005);
     (mixed.wrapping_mul(seed) >> 40) % 3
 }
 
-/// What a stop leaves, by a seed for the sectors of the slots and one for all others.
-pub(crate) fn stopped(
-    alloc: Global,
-    disk: &MemDisk,
-    slots: Option<u64>,
-    others: Option<u64>,
-) -> Result<MemDisk, Fail> {
+/// What a stop leaves, by this seed.
+fn stopped(alloc: Global, disk: &MemDisk, seed: u64) -> Result<MemDisk, Fail> {
     let mut picks = Vec::new(alloc);
     for sector in 0..disk.sectors() {
-        picks.push(pick_of(if sector < 16 { slots } else { others }, sector))?;
+        picks.push(pick_of(seed, sector))?;
     }
     Ok(disk.stop(alloc, &picks)?)
 }
@@ -182,10 +131,10 @@ fn places_left(pool: &mut MemServed, expected: &Expected) -> Result<u64, Refusal
 
 /// Whether the image that the stop by this seed leaves of a run is clean (1 where it is), and how many places of its pool read as they may.
 fn left_by_stop(alloc: Global, begin: &Begin, run: &Run, seed: u64) -> Result<[u64; 2], Fail> {
-    let mut left = stopped(alloc, &run.disk, Some(seed), Some(seed))?;
+    let mut left = stopped(alloc, &run.disk, seed)?;
     let is_clean = is_clean(alloc, &mut left);
     let expected = &run.expected;
-    let places = told_of_opened(alloc, left, begin.geometry, begin.room, |pool| {
+    let places = told_of_opened(alloc, left, begin.room, |pool| {
         places_left(pool, expected)
     })??;
     Ok([is_clean as u64, places])
@@ -202,49 +151,4 @@ pub(crate) fn left_by_stops(alloc: Global, begin: &Begin, run: &Run) -> Result<[
         all = [all[0].wrapping_add(left[0]), all[1].wrapping_add(left[1])];
     }
     Ok(all)
-}
-
-/// Whether a fault of this call is told, and stops leave what they may. The run without a fault counts as call 0.
-fn is_right(alloc: Global, begin: &Begin, call: u64) -> Result<bool, Fail> {
-    let run = run_steps(alloc, begin, call)?;
-    Ok(left_by_stops(alloc, begin, &run)? == ALL_LEFT && run.refused == (call > 0))
-}
-
-/// The disk calls of a run without a fault.
-fn calls_of(alloc: Global, begin: &Begin) -> Result<u64, Fail> {
-    Ok(run_steps(alloc, begin, 0)?.disk.calls())
-}
-
-/// How many faults were tried, one of each call behind those of opening; or the first call whose fault is not told or leaves what it may not, 0 where a run without a
-/// fault does.
-fn faults_of(alloc: Global, begin: &Begin) -> Result<Result<u64, u64>, Fail> {
-    let mut tried = 0u64;
-    for number in OPENING..calls_of(alloc, begin)? {
-        if !is_right(alloc, begin, number + 1)? {
-            return Ok(Err(number + 1));
-        }
-        tried = tried.wrapping_add(1);
-    }
-    Ok(if is_right(alloc, begin, 0)? {
-        Ok(tried)
-    } else {
-        Err(0)
-    })
-}
-
-/// The same of a pool with this room.
-fn faults_with(alloc: Global, room: Room) -> Result<Result<u64, u64>, Fail> {
-    faults_of(alloc, &begun(alloc, room)?)
-}
-
-/// With one place the table is full in most steps. Behind each fault three stops are looked at.
-#[test]
-fn a_stop_among_random_writes(rt: HostRuntime) -> Result<(), Fail> {
-    let one = Room {
-        changed: 1,
-        read: 1,
-    };
-    let tried = (faults_with(rt.alloc(), FEW)?, faults_with(rt.alloc(), one)?);
-    assert_eq!(rt; tried, (Ok(84), Ok(220)));
-    Ok(())
 }

@@ -1,7 +1,6 @@
 //! A flush in parts: what is read between them, how often the disk is flushed, and what stops leave behind a fault of each call.
 
-use crate::calls::close;
-use crate::pools::{FEW, MANY, MemServed, SECTOR, byte_at, with_volume};
+use crate::pools::{FEW, MANY, MemServed, SECTOR, byte_at, close, with_volume};
 use crate::stops::{
     ALL_LEFT, Begin, Expected, PLACES, Run, begun, fill_place, left_by_stops, opened_failing,
     perform, sector_of, volume_of,
@@ -164,13 +163,6 @@ fn read_all(pool: &mut MemServed, life: &mut Life) {
     }
 }
 
-/// How often a disk was written to so far, how often it was flushed, and how many syncs ahead it had.
-fn work_of(disk: &TalliedDisk<MemDisk>) -> [u64; 3] {
-    let tally = disk.tally();
-    let writes = tally.metadata_writes.wrapping_add(tally.data_writes);
-    [writes, tally.flushes, disk.syncs()]
-}
-
 /// What a flush in parts was answered, and what the disk had had behind the first part, and behind the second one, where there was one.
 #[derive(Clone, Copy)]
 struct Told {
@@ -181,7 +173,7 @@ struct Told {
 /// Reads a pool between two parts, and syncs ahead: what the disk had had before that.
 fn look_between(midway: &MidMem, life: &mut Life) -> [u64; 3] {
     read_between(midway, life);
-    let work = work_of(midway.disk());
+    let work = midway.disk().work();
     midway.sync_ahead();
     work
 }
@@ -271,7 +263,6 @@ fn told_of_run(
     let run = Run {
         disk,
         expected: life.expected,
-        refused: life.has_failed,
     };
     let left = left_by_stops(alloc, begin, &run)?;
     Ok((run.disk.calls(), left))
@@ -392,10 +383,10 @@ fn since(work: [u64; 3], earlier: [u64; 3]) -> [u64; 3] {
 /// How often each part of a flush of such a pool wrote and flushed, and how often it was synced ahead before it.
 fn work_of_parts(pool: MemServed, life: &mut Life) -> [[u64; 3]; 3] {
     let mut works = [[0; 3]; 2];
-    let before = work_of(pool.disk());
+    let before = pool.disk().work();
     let pool = flushed(pool, life, &mut works);
     let [first, second] = works;
-    let last = since(work_of(pool.disk()), second);
+    let last = since(pool.disk().work(), second);
     [since(first, before), since(second, first), last]
 }
 

@@ -1,8 +1,8 @@
 //! Blocks that cannot be held where memory is refused.
 
-use crate::calls::create_thin;
-use crate::pools::{MemServed, byte_at, closed, formatted, write};
-use crate::told::told_of_opened;
+use crate::pools::{
+    MemServed, byte_at, closed, create_thin, formatted, told_of_opened, write,
+};
 use std::alloc::Global;
 use std::test::Fail;
 use tp_disk::MemDisk;
@@ -50,7 +50,7 @@ fn refused_memory_changes_no_answer(rt: HostRuntime) -> Result<(), Fail> {
     let Ok(disk) = filled(rt.alloc(), geometry) else {
         return Ok(());
     };
-    let Ok(told) = told_of_opened(rt.alloc(), disk, geometry, ROOM, bytes) else {
+    let Ok(told) = told_of_opened(rt.alloc(), disk, ROOM, bytes) else {
         return Ok(());
     };
     assert_eq!(rt; told, Ok([1, 2, 3, 4, 1, 2, 3, 4]));
