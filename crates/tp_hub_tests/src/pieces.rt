@@ -1,73 +1,91 @@
-//! Long requests, part by part.
+//! Pieces of several requests: reads that are shared, and a long request whose parts are made one by one.
 
-use crate::hubs::wide_hub;
-use crate::talk::{DONE, GIVEN, GO_0, GO_1, GONE, GREETED, HALF, READ, WRITE, refused, sent};
+use crate::hubs::{blank_hub, wide_hub};
+use crate::talk::{
+    DONE, GIVEN, GO_0, GO_1, GONE, GREETED, HALF, READ, WRITE, reads_and_a_write, refused, sent,
+};
 use nbd_session::Profile;
 use std::alloc::Global;
 use std::test::Fail;
 use tp_hub::{Answers, Event, Hub, Mark, Ran};
 use tp_model::Refusal;
+use tp_msg::Managed;
 use tp_shelf::Shelf;
 
-/// What a session offers that takes long requests.
-const LONG: Profile = Profile::Extended;
-
-/// A TRIM of 3 MiB from the second block on, which has three parts and a block of another.
-const TRIM: &[u8] = b"\x25\x60\x95\x13\0\0\0\x04\0\0\0\0\0\0\0\x05\0\0\0\0\0\x01\0\0\0\x30\0\0";
-
-/// A WRITE_ZEROES of the same range, with FUA and NO_HOLE.
-const ZERO: &[u8] = b"\x25\x60\x95\x13\0\x03\0\x06\0\0\0\0\0\0\0\x06\0\0\0\0\0\x01\0\0\0\x30\0\0";
-
-/// Session 0 goes to volume 0, and is sent what it is offered to be.
-fn enter(alloc: Global, hub: &mut Hub<Shelf>, profile: Profile, out: &mut Answers) -> Ran {
+/// Sessions 1 and 2 each go to a volume of their own and send a write in halves, by turns: the second one's is whole, and it reads.
+fn write_by_turns<V: Managed>(alloc: Global, hub: &mut Hub<V>, out: &mut Answers) -> Ran {
     hub.run(
         alloc,
-        &[Event::Open(0, profile), Event::Bytes(0, GO_0)],
+        &[
+            Event::Open(1, Profile::Strict),
+            Event::Open(2, Profile::Strict),
+            Event::Bytes(1, GO_0),
+            Event::Bytes(2, GO_1),
+            Event::Bytes(1, WRITE),
+            Event::Bytes(1, HALF),
+            Event::Bytes(2, WRITE),
+            Event::Bytes(2, HALF),
+            Event::Bytes(2, HALF),
+            Event::Bytes(2, READ),
+        ],
         out,
     )
 }
 
-/// How many trims and zeroings a run of a long request made, and whether it gave the marks of one reply.
-fn run_whole(
-    alloc: Global,
-    mut hub: Hub<Shelf>,
-    profile: Profile,
-    request: &[u8],
-) -> ((usize, usize), u64, bool) {
+/// The bytes of two reads.
+const TWO_READS: usize = 56;
+
+/// What shared reads tell of a piece, and of what stands behind its reads.
+fn ask_twice(hub: &Hub<Shelf>, piece: &[u8], out: &mut Answers) -> (Option<Ran>, Option<Ran>) {
+    let first = hub.ask_shared(2, piece, out);
+    let write = piece.get(TWO_READS..).unwrap_or(&[]);
+    (first, hub.ask_shared(2, write, out))
+}
+
+/// The same, and whether two answers were given, which are those of a run.
+type Shared = ((Option<Ran>, Option<Ran>), bool, bool);
+
+/// That behind the writes by turns.
+fn shared_as_run(alloc: Global, hub: &mut Hub<Shelf>, piece: &[u8]) -> Shared {
     let mut out = Answers::new(alloc);
-    enter(alloc, &mut hub, profile, &mut out);
+    write_by_turns(alloc, hub, &mut out);
     out.clear();
-    let ran = hub.run(alloc, &[Event::Bytes(0, request)], &mut out);
-    let is_answered = out.marks() == [sent(0, DONE)].as_slice();
-    (
-        (ran.events, ran.bytes),
-        hub.into_pool().cleared(),
-        is_answered,
-    )
+    let asked = ask_twice(hub, piece, &mut out);
+    let reads = piece.get(..TWO_READS).unwrap_or(&[]);
+    let mut told = Answers::new(alloc);
+    hub.run(alloc, &[Event::Bytes(2, reads)], &mut told);
+    let are_given = out.marks() == [sent(2, GIVEN), sent(2, GIVEN)].as_slice();
+    (asked, are_given, out.bytes() == told.bytes())
 }
 
-/// A run makes all parts of it, and answers it once.
+/// The same of a hub of its own.
+fn shared_of(alloc: Global, piece: &[u8]) -> Result<Shared, Refusal> {
+    let mut hub = blank_hub(alloc)?;
+    Ok(shared_as_run(alloc, &mut hub, piece))
+}
+
+/// The same of a piece of reads and a write.
+fn shared_reads(alloc: Global) -> Result<Shared, Refusal> {
+    match reads_and_a_write(alloc) {
+        Ok(piece) => shared_of(alloc, &piece),
+        Err(_) => Err(Refusal::Memory),
+    }
+}
+
+/// Shared reads answer the reads with which a piece begins, as a run does, and nothing behind them.
 #[test]
-fn a_long_trim_is_the_trims_of_its_parts(rt: HostRuntime) -> Result<(), Fail> {
-    let told = run_whole(rt.alloc(), wide_hub(rt.alloc())?, LONG, TRIM);
-    assert!(rt; told == ((1, 0), 4, true));
+fn reads_of_a_piece_are_shared(rt: HostRuntime) -> Result<(), Fail> {
+    let told = shared_reads(rt.alloc())?;
+    let taken = Ran {
+        events: 0,
+        bytes: TWO_READS,
+    };
+    assert!(rt; told == ((Some(taken), None), true, true));
     Ok(())
 }
 
-#[test]
-fn a_long_write_zeroes_is_that_of_its_parts(rt: HostRuntime) -> Result<(), Fail> {
-    let told = run_whole(rt.alloc(), wide_hub(rt.alloc())?, LONG, ZERO);
-    assert!(rt; told == ((1, 0), 4, true));
-    Ok(())
-}
-
-/// A session that is not extended refuses it, and asks the pool nothing.
-#[test]
-fn a_strict_session_refuses_a_long_trim(rt: HostRuntime) -> Result<(), Fail> {
-    let told = run_whole(rt.alloc(), wide_hub(rt.alloc())?, Profile::Strict, TRIM);
-    assert!(rt; told == ((1, 0), 0, true));
-    Ok(())
-}
+/// What a session offers that takes long requests.
+const LONG: Profile = Profile::Extended;
 
 /// Asks for one part of session 0's request more, and tells whether any are left.
 fn one_more(alloc: Global, hub: &mut Hub<Shelf>, out: &mut Answers) -> bool {
@@ -77,7 +95,7 @@ fn one_more(alloc: Global, hub: &mut Hub<Shelf>, out: &mut Answers) -> bool {
 
 /// Session 0 begins a long request, by a piece with a read before it and one behind it, and makes the first part.
 fn begin(alloc: Global, hub: &mut Hub<Shelf>, piece: &[u8], out: &mut Answers) -> (Ran, bool) {
-    enter(alloc, hub, LONG, out);
+    hub.run(alloc, &[Event::Open(0, LONG), Event::Bytes(0, GO_0)], out);
     out.clear();
     let ran = hub.run(alloc, &[Event::Parted(0, piece)], out);
     (ran, one_more(alloc, hub, out))
@@ -145,23 +163,5 @@ fn others_are_served_between_two_parts(rt: HostRuntime) -> Result<(), Fail> {
         bytes: 0,
     };
     assert!(rt; told == ((begun, true), between, [true, true, false], true, 4));
-    Ok(())
-}
-
-/// What is told of a client that goes behind the first part.
-fn told_of_gone(alloc: Global, mut hub: Hub<Shelf>) -> (bool, bool, u64, usize) {
-    let mut out = Answers::new(alloc);
-    let begun = begin(alloc, &mut hub, TRIM, &mut out);
-    hub.run(alloc, &[Event::Hangup(0)], &mut out);
-    let is_marked = out.marks() == [Mark::End { session: 0 }].as_slice();
-    let pool = hub.into_pool();
-    (begun.1, is_marked, pool.cleared(), pool.held())
-}
-
-/// Parts that were made stay made, no other is made, and nothing is answered.
-#[test]
-fn a_client_goes_in_the_middle_of_a_long_request(rt: HostRuntime) -> Result<(), Fail> {
-    let told = told_of_gone(rt.alloc(), wide_hub(rt.alloc())?);
-    assert!(rt; told == (true, true, 1, 0));
     Ok(())
 }
