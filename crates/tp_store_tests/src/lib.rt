@@ -4,8 +4,6 @@
 #![tactic(auto)]
 
 #[cfg(test)]
-mod btree;
-#[cfg(test)]
 mod commands;
 #[cfg(test)]
 mod faults;
