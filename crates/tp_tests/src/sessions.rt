@@ -10,7 +10,7 @@ use tp_disk::MemDisk;
 use tp_meta::Meta;
 use tp_model::{Cloned, DevId, Mode, Refusal};
 use tp_pool::Pool;
-use tp_samples::{MemPool, byte_at, example_failing};
+use tp_samples::{MemPool, byte_at, example};
 
 /// The client flags, and GO of volume 0.
 const GO: &[u8] = b"\0\0\0\x03IHAVEOPT\0\0\0\x07\0\0\0\x07\0\0\0\x010\0\0";
@@ -76,7 +76,7 @@ const WRITTEN: usize = 567;
 
 /// What a client is sent that goes behind this, and the byte that fills the first sector then.
 fn begun(alloc: Global, text: &[u8]) -> Result<(Vec<u8>, Option<u8>), Refusal> {
-    let mut pool = example_failing(alloc, 0, 0)?;
+    let mut pool = example(alloc)?;
     let (sent, _) = told(alloc, &mut pool, text)?;
     Ok((sent, byte_at(&mut pool, DevId::new(0), 0)?))
 }
