@@ -1,4 +1,4 @@
-//! Plays the scripts of its arguments, and prints a line for each script and each mismatch.
+//! Plays scripts of crashes.
 #![tactic(auto)]
 
 use std::io;

@@ -1,4 +1,4 @@
-//! Plays the scripts of its arguments, and prints a line for each script and each mismatch.
+//! Plays scripts of disk calls that fail.
 #![tactic(auto)]
 
 use std::io;

@@ -1,4 +1,4 @@
-//! Tests of the hub, and of lines over it, over volumes in memory.
+//! Tests of the hub and of lines, over volumes in memory.
 #![tactic(auto)]
 
 #[cfg(test)]

@@ -1,4 +1,4 @@
-//! Pools over a disk in memory, their calls with sectors of one byte each, and servers of pools: what tests of several crates share.
+//! Pools over a disk in memory, and servers of pools, for tests of several crates.
 #![tactic(auto)]
 
 mod calls;

@@ -1,4 +1,4 @@
-//! Tests of NBD over the pool, of the pool on caches, and of the pool's users, by their public calls.
+//! Tests of the pool on caches, and of the pool's users.
 //!
 //! They stand here, above all of them, so that no large crate is proved a second time for its tests.
 #![tactic(auto)]
