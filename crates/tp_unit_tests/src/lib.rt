@@ -16,6 +16,8 @@ mod disk;
 #[cfg(test)]
 mod file_calls;
 #[cfg(test)]
+mod files;
+#[cfg(test)]
 mod layout;
 #[cfg(test)]
 mod messages;
