@@ -2,9 +2,7 @@
 
 use crate::disks::{Before, noted};
 use crate::outcome::Outcome;
-use crate::pools::{
-    disk_of_volume, is_empty, is_of_volume, is_of_volume_to_read, sizes,
-};
+use crate::pools::{disk_of_volume, is_empty, is_of_volume, is_of_volume_to_read, sizes};
 use std::alloc::Global;
 use tp_disk::MemDisk;
 use tp_model::Refusal;

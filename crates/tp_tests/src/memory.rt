@@ -1,8 +1,6 @@
 //! Blocks that cannot be held where memory is refused.
 
-use crate::pools::{
-    MemServed, byte_at, closed, create_thin, formatted, told_of_opened, write,
-};
+use crate::pools::{MemServed, byte_at, closed, create_thin, formatted, told_of_opened, write};
 use std::alloc::Global;
 use std::test::Fail;
 use tp_disk::MemDisk;

@@ -34,11 +34,7 @@ impl<D: Disk> TalliedDisk<D> {
 
     /// How often it was written to so far, how often it was flushed, and how many syncs ahead it had that are to bring whatever was written.
     pub(crate) fn work(&self) -> [u64; 3] {
-        [
-            self.writes,
-            self.flushes,
-            self.syncs.load(Ordering::SeqCst),
-        ]
+        [self.writes, self.flushes, self.syncs.load(Ordering::SeqCst)]
     }
 }
 

@@ -24,11 +24,7 @@ IHAVEOPT\0\0\0\x02\0\0\0\0";
 const ABORT: &[u8] = b"\0\0\0\x03IHAVEOPT\0\0\0\x02\0\0\0\x02ab";
 
 /// What is sent for these bytes behind the greeting, until the client goes.
-fn sent<V: Cloned>(
-    alloc: Global,
-    pool: &mut V,
-    text: &[u8],
-) -> Result<Vec<u8>, Refusal>
+fn sent<V: Cloned>(alloc: Global, pool: &mut V, text: &[u8]) -> Result<Vec<u8>, Refusal>
     requires { HoldsBeside [] (V.view.outline pool.old).holds }
 {
     let mut out = Vec::new(alloc);
