@@ -1,7 +1,8 @@
 """The edits under edits/, which CI does not try: their headers, their index, and their faults.
 
 An edit begins with two header lines. `# turns:` states what the edit changes in meaning. `# test:`
-names the tests that fail with that body, as CRATE::MODULE::TEST, or is `none, because ..`.
+names the tests that fail with that body, as CRATE::MODULE::TEST or CRATE::SCRIPT::CASE, or is
+`none, because ..`.
 """
 import glob
 import os
@@ -10,7 +11,7 @@ import re
 INDEX = "edits/INDEX.md"
 HEADER = re.compile(r"# (turns|test): (\S.*)")
 NO_TEST = "none, because "
-TEST = re.compile(r"\b(tp_\w+|nbd_\w+)((?:::\w+)*)::(\w+)\b")
+TEST = re.compile(r"\b(tp_\w+|nbd_\w+|play_\w+)((?:::\w+)*)::(\w+)\b")
 
 
 class Edit:
@@ -67,8 +68,11 @@ def text_of(path):
 
 
 def is_test(crate, modules, test):
-    """Whether CRATE::MODULE::TEST is a function with the attribute `#[test]`."""
+    """Whether CRATE::MODULE::TEST is a function with the attribute `#[test]`, or a case of a script."""
     path = modules.replace("::", "/").lstrip("/") or "lib"
+    if crate.startswith("play_"):
+        script = text_of(f"crates/{crate}/data/{path}.txt")
+        return bool(re.search(rf"^case {test}\b", script, re.M))
     text = text_of(f"crates/{crate}/src/{path}.rt")
     return bool(re.search(rf"#\[test\]\s*(?:#\[.*\]\s*)*fn {test}\b", text))
 

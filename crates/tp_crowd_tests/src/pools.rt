@@ -1,50 +1,22 @@
 //! A crowd over a pool, in place of a shelf.
 
-ghost use Rattle.std.specs.Prelude.{◌≡◌};
-ghost use Rattle.std.specs.FinMap.{empty};
-ghost use Rattle.tp_holders.specs.Holders.{holds_of};
-
 use crate::waiting::{Seen, Waiting};
 use std::alloc::Global;
 use std::sync::Wait;
 use std::thread::Threads;
-use tp_cache::ReadCache;
 use tp_crowd::{Served as Crowd, serve_all};
 use tp_disk::{MemDisk, SharedDisk};
 use tp_hub::{Answers, Event, Hub};
-use tp_meta::{Meta, Metadata};
+use tp_meta::Metadata;
 use tp_model::{DevId, Geometry, Refusal};
-use tp_samples::{closed, create_thin, empty};
-use tp_served::{Room, Served};
-
-type MemServed = Served<ReadCache<MemDisk>, Meta>;
-
-/// Room for few blocks.
-const ROOM: Room = Room {
-    changed: 32,
-    read: 4,
-};
+use tp_samples::{MemServed, closed, create_thin, empty, opened_hub};
+use tp_served::Served;
 
 /// The disk of a pool of four data blocks with volume 0, closed.
 fn disk_of_volume(alloc: Global) -> Result<MemDisk, Refusal> {
     let mut pool = empty(alloc, Geometry::new(128, 16, 2048, 4)?)?;
     create_thin(&mut pool, DevId::new(0))?;
     closed(pool)
-}
-
-/// The hub over a pool of which nobody holds a volume.
-fn hub_of(pool: MemServed) -> Hub<MemServed>
-    requires { holds_of pool.besides.holders ≡ empty }
-{
-    Hub::new(pool)
-}
-
-/// The hub over that pool.
-fn hub_of_volume(alloc: Global) -> Result<Hub<MemServed>, Refusal> {
-    match MemServed::open(alloc, disk_of_volume(alloc)?, ROOM) {
-        Ok(pool) => Ok(hub_of(pool)),
-        Err((refusal, _)) => Err(refusal),
-    }
 }
 
 /// Whether this is the status line of a hub, which ends.
@@ -81,7 +53,7 @@ pub(crate) fn served_over_pool<H>(
 where
     H: Threads + Wait + Sync + Alloc<A = Global>,
 {
-    let hub = hub_of_volume(rt.alloc())?;
+    let hub = opened_hub(rt.alloc(), disk_of_volume(rt.alloc())?)?;
     let ((came, refused), hub) = served(rt, hub, clients);
     Ok((came, refused, has_line(hub, rt.alloc(), line)))
 }

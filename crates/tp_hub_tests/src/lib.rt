@@ -1,4 +1,4 @@
-//! Tests of the hub, and of lines over it, over volumes in memory.
+//! Tests of the hub and of lines, over volumes in memory.
 #![tactic(auto)]
 
 #[cfg(test)]
@@ -12,19 +12,11 @@ mod holes;
 #[cfg(test)]
 mod hubs;
 #[cfg(test)]
-mod kept;
-#[cfg(test)]
 mod lines;
 #[cfg(test)]
-mod long;
-#[cfg(test)]
-mod messages;
-#[cfg(test)]
-mod pages;
+mod pieces;
 #[cfg(test)]
 mod resumed;
-#[cfg(test)]
-mod runs;
 #[cfg(test)]
 mod script;
 #[cfg(test)]
@@ -33,8 +25,6 @@ mod statuses;
 mod talk;
 #[cfg(test)]
 mod watched;
-#[cfg(test)]
-mod zeroed;
 
 /// A library has a public item at least: this crate has nothing but tests.
 pub fn tests_only() {}

@@ -16,8 +16,7 @@ pub(crate) const WRITE: &[u8] =
 pub(crate) const READ: &[u8] =
     b"\x25\x60\x95\x13\0\0\0\0\0\0\0\0\0\0\0\x02\0\0\0\0\0\0\0\0\0\0\x02\0";
 
-pub(crate) const READ_ALL: &[u8] =
-    b"\x25\x60\x95\x13\0\0\0\0\0\0\0\0\0\0\0\x03\0\0\0\0\0\0\0\0\0\x10\0\0";
+const READ_ALL: &[u8] = b"\x25\x60\x95\x13\0\0\0\0\0\0\0\0\0\0\0\x03\0\0\0\0\0\0\0\0\0\x10\0\0";
 
 pub(crate) const DISC: &[u8] =
     b"\x25\x60\x95\x13\0\0\0\x02\0\0\0\0\0\0\0\x04\0\0\0\0\0\0\0\0\0\0\0\0";
@@ -29,7 +28,7 @@ const READ_NEXT: &[u8] = b"\x25\x60\x95\x13\0\0\0\0\0\0\0\0\0\0\0\x02\0\0\0\0\0\
 pub(crate) const HALF: &[u8] = &[0x61; 256];
 
 /// Half of another one.
-pub(crate) const OTHER_HALF: &[u8] = &[0x62; 256];
+const OTHER_HALF: &[u8] = &[0x62; 256];
 
 /// How long the greeting is, and the replies to GO, to a write, to a read of a sector, and to one of 1 MiB.
 pub(crate) const GREETED: usize = 18;

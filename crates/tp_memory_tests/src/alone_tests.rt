@@ -4,11 +4,12 @@ ghost use Rattle.std.specs.Prelude.{◌≡◌, ◌<◌, IfOk, length};
 use crate::disks::Before;
 use crate::guests::{Guest, Seen};
 use crate::outcome::Outcome;
-use crate::pools::{MemServed, hub_of_volume, is_kept};
+use crate::pools::{hub_of_volume, is_kept};
 use crate::talk::{READS, texts_of_reads};
 use nbd_session::Profile;
 use std::alloc::{AllocError, Global};
 use tp_hub::{Answers, Carried, Hub, HubDesk, carry, serve};
+use tp_samples::MemServed;
 
 /// By which call the client is served.
 #[derive(Clone, Copy, Debug, PartialEq, Eq)]

@@ -3,7 +3,7 @@
 use crate::disks::Before;
 use crate::guests::{Guest, Seen, Silence};
 use crate::outcome::Outcome;
-use crate::pools::{MemServed, hub_of_volume, is_kept};
+use crate::pools::{hub_of_volume, is_kept};
 use crate::talk::{READS, texts_of_reads};
 use std::alloc::Global;
 use std::sync::Wait;

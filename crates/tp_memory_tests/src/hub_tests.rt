@@ -2,13 +2,14 @@
 
 use crate::disks::Before;
 use crate::outcome::Outcome;
-use crate::pools::{MemServed, hub_of_volume, is_kept};
+use crate::pools::{hub_of_volume, is_kept};
 use crate::talk::{READS, reads, session};
 use nbd_session::Profile;
 use std::alloc::Global;
 use tp_hub::{Answers, Event, Hub};
 use tp_model::Refusal;
 use tp_msg::Managed;
+use tp_samples::MemServed;
 use tp_shelf::{Shelf, blank_shelf};
 
 /// How many events there are.

@@ -2,12 +2,11 @@
 
 use crate::disks::{Before, noted};
 use crate::outcome::Outcome;
-use crate::pools::{
-    MemServed, ROOM, disk_of_volume, is_empty, is_of_volume, is_of_volume_to_read, sizes,
-};
+use crate::pools::{disk_of_volume, is_empty, is_of_volume, is_of_volume_to_read, sizes};
 use std::alloc::Global;
 use tp_disk::MemDisk;
 use tp_model::Refusal;
+use tp_samples::{MemServed, ROOM};
 
 /// A pool that was asked for, or a refusal with the disk handed back.
 type Asked = Result<MemServed, (Refusal, MemDisk)>;

@@ -1,26 +1,12 @@
 //! A pool with a volume that is written, and what is told of pools.
 
-ghost use Rattle.std.specs.Prelude.{◌≡◌};
-ghost use Rattle.std.specs.FinMap.{empty};
-ghost use Rattle.tp_holders.specs.Holders.{holds_of};
-
 use crate::disks::{Before, noted};
 use std::alloc::Global;
-use tp_cache::ReadCache;
 use tp_disk::MemDisk;
 use tp_hub::Hub;
-use tp_meta::Meta;
 use tp_model::{DevId, Geometry, Refusal, Volumes};
 use tp_msg::{Managed, Message};
-use tp_served::{Room, Served};
-
-pub(crate) type MemServed = Served<ReadCache<MemDisk>, Meta>;
-
-/// Room for few blocks.
-pub(crate) const ROOM: Room = Room {
-    changed: 32,
-    read: 4,
-};
+use tp_samples::{MemServed, ROOM, opened_hub};
 
 /// The sizes of the pool: 16 virtual blocks over 4 data blocks of 128 sectors.
 pub(crate) fn sizes() -> Result<Geometry, Refusal> {
@@ -68,27 +54,12 @@ pub(crate) fn disk_of_volume(alloc: Global) -> Result<MemDisk, Refusal> {
     closed(pool, filled)
 }
 
-/// The hub over a pool of which nobody holds a volume.
-fn hub_of(pool: MemServed) -> Hub<MemServed>
-    requires { holds_of pool.besides.holders ≡ empty }
-{
-    Hub::new(pool)
-}
-
-/// The hub over the pool of a disk. None where it is not opened.
-fn opened_hub(alloc: Global, disk: MemDisk) -> Option<Hub<MemServed>> {
-    match MemServed::open(alloc, disk, ROOM) {
-        Ok(pool) => Some(hub_of(pool)),
-        Err(_) => None,
-    }
-}
-
-/// The same, and what the disk had before.
+/// The hub over the pool of a disk, and what the disk had before. None where it is not opened.
 fn opened_behind(alloc: Global, disk: MemDisk) -> Option<(Hub<MemServed>, Before)> {
     let before = noted(alloc, &disk)?;
     match opened_hub(alloc, disk) {
-        Some(hub) => Some((hub, before)),
-        None => None,
+        Ok(hub) => Some((hub, before)),
+        Err(_) => None,
     }
 }
 

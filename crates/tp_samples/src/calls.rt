@@ -51,17 +51,3 @@ pub fn closed(pool: MemPool) -> Result<MemDisk, Refusal> {
     answer?;
     Ok(disk)
 }
-
-/// Whether this is the pool's status line.
-pub fn has_line(pool: &MemPool, line: &[u8]) -> bool {
-    let mut out = [0; 192];
-    let length = pool.status(&mut out);
-    &out[..length] == line
-}
-
-/// Whether this is a volume's status line.
-pub fn has_volume_line(pool: &mut MemPool, id: DevId, line: &[u8]) -> Result<bool, Refusal> {
-    let mut out = [0; 192];
-    let length = pool.thin_status(id, &mut out)?;
-    Ok(&out[..length] == line)
-}

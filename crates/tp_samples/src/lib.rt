@@ -1,20 +1,15 @@
-//! Pools over a disk in memory, their calls with sectors of one byte each, and stops of them: what the tests of the pool, of sessions
-//! over it and of its users share.
+//! Pools over a disk in memory, and servers of pools, for tests of several crates.
 #![tactic(auto)]
 
 mod calls;
 mod pools;
-mod stops;
-mod told;
+mod served;
 
 pub use calls::{
-    close, closed, create_snap, create_thin, delete, flush, grow, has_line, has_volume_line,
-    release, reserve, set_transaction_id, volume_blocks,
+    close, closed, create_snap, create_thin, delete, flush, grow, release, reserve,
+    set_transaction_id, volume_blocks,
 };
 pub use pools::{
-    MemPool, SECTOR, byte_at, byte_over, empty, example, example_failing, fill, fill_of, formatted,
-    held_byte_at, opened, read, trim, trim_through, write, write_through, write_zeroes,
-    zero_through,
+    MemPool, SECTOR, byte_at, empty, example, fill_of, opened, read, trim, write, write_zeroes,
 };
-pub use stops::{Stop, restarted, stopped};
-pub use told::{told_of_empty, told_of_example, told_of_failing, told_of_restarted};
+pub use served::{MemServed, ROOM, opened_hub};

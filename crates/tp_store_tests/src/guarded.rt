@@ -4,15 +4,12 @@ ghost use Rattle.std.specs.Prelude.{◌<◌, ◌≤◌, IsTrue};
 ghost use Rattle.tp_model.specs.Geometry.{sectors_of_image};
 ghost use Rattle.tp_tm.specs.Tm.{free_metadata};
 
-use arrayvec::ArrayVec;
 use std::alloc::Global;
 use std::test::Fail;
-use tp_btree::{
-    Changed, count, drop_tree, empty, insert, last, lookup, remove, replace, share, walk,
-};
+use tp_btree::{Changed, drop_tree, empty, insert, remove, replace, share};
 use tp_counts::Counts;
 use tp_disk::{Disk, MemDisk};
-use tp_layout::{Entry, MOST_ENTRIES, Part, TreeKind};
+use tp_layout::{Entry, Part, TreeKind};
 use tp_model::{Geometry, Mb, Pb, Refusal};
 use tp_tm::Tm;
 
@@ -151,56 +148,6 @@ pub(crate) fn release_on<D: Disk>(tm: &mut Tm, disk: &mut D, root: Mb) -> Result
         return Err(Refusal::BadSuper);
     }
     Ok(drop_tree(tm, disk, TreeKind::Mapping, root)?)
-}
-
-/// Whether the tree has the key, and whether its path is shared.
-pub(crate) fn lookup_on<D: Disk>(
-    tm: &Tm,
-    disk: &mut D,
-    root: Mb,
-    key: u64,
-) -> Result<(bool, bool), Refusal> {
-    if !is_on(tm, disk, root) {
-        return Err(Refusal::BadSuper);
-    }
-    match lookup(tm, disk, TreeKind::Mapping, root, key)? {
-        Some(found) => Ok((found.entry.key == key, found.is_shared)),
-        None => Ok((false, false)),
-    }
-}
-
-/// How many entries a walk finds from a key on, at most 252, and the last of their keys.
-pub(crate) fn walk_on<D: Disk>(
-    tm: &Tm,
-    disk: &mut D,
-    root: Mb,
-    from: u64,
-) -> Result<(usize, u64), Refusal> {
-    if !is_on(tm, disk, root) {
-        return Err(Refusal::BadSuper);
-    }
-    let mut entries: ArrayVec<Entry, MOST_ENTRIES> = ArrayVec::new();
-    walk(tm, disk, TreeKind::Mapping, root, from, &mut entries)?;
-    let count = entries.len();
-    if count == 0 {
-        return Ok((0, 0));
-    }
-    Ok((count, entries[count - 1].key))
-}
-
-/// How many entries a tree has, and the last key.
-pub(crate) type Extent = (u64, Option<u64>);
-
-/// The extent of a tree.
-pub(crate) fn extent_on<D: Disk>(tm: &Tm, disk: &mut D, root: Mb) -> Result<Extent, Refusal> {
-    if !is_on(tm, disk, root) {
-        return Err(Refusal::BadSuper);
-    }
-    let entries = count(tm, disk, TreeKind::Mapping, root)?;
-    match last(tm, disk, TreeKind::Mapping, root)? {
-        Some(entry) => Ok((entries, Some(entry.key))),
-        None => Ok((entries, None)),
-    }
 }
 
 /// One reference more to a data block.

@@ -1,10 +1,8 @@
-//! Tests of the store of nodes, the trees, the mapping and the metadata by their public calls.
+//! Tests of the store of nodes, the trees and the mapping.
 //!
 //! They stand here, above all of them, so that no large crate is proved a second time for its tests.
 #![tactic(auto)]
 
-#[cfg(test)]
-mod btree;
 #[cfg(test)]
 mod commands;
 #[cfg(test)]

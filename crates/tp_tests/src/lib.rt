@@ -1,18 +1,22 @@
-//! Tests of NBD over the pool, of pools out of metadata room, and of the pool's users, by their public calls.
+//! Tests of the pool on caches, and of the pool's users.
 //!
 //! They stand here, above all of them, so that no large crate is proved a second time for its tests.
 #![tactic(auto)]
 
 #[cfg(test)]
-mod checks;
-#[cfg(test)]
-mod clients;
-#[cfg(test)]
-mod clones;
-#[cfg(test)]
 mod listing;
 #[cfg(test)]
+mod memory;
+#[cfg(test)]
+mod parts;
+#[cfg(test)]
+mod pools;
+#[cfg(test)]
 mod sessions;
+#[cfg(test)]
+mod stops;
+#[cfg(test)]
+mod tallies;
 #[cfg(test)]
 mod texts;
 #[cfg(test)]

@@ -1,4 +1,4 @@
-//! Tests of single crates by their public calls.
+//! Tests of single crates.
 //!
 //! They stand here, so that none of those crates is proved a second time for its tests.
 #![tactic(auto)]
@@ -15,6 +15,8 @@ mod counts;
 mod disk;
 #[cfg(test)]
 mod file_calls;
+#[cfg(test)]
+mod files;
 #[cfg(test)]
 mod layout;
 #[cfg(test)]

@@ -1,0 +1,23 @@
+//! Plays scripts: each line through the layers that the product uses, beside the reference model.
+#![tactic(auto)]
+
+mod calls;
+mod chunks;
+mod client_lines;
+mod compare;
+mod crash;
+mod disk;
+mod disk_lines;
+mod image;
+mod lifetimes;
+mod look;
+mod matrix;
+mod play;
+mod pool_lines;
+mod random;
+mod replies;
+mod report;
+mod server;
+mod world;
+
+pub use play::play_scripts;
