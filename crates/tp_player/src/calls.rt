@@ -8,7 +8,6 @@ ghost use Rattle.tp_holders.specs.Holders.{holds_of};
 use crate::disk::ScriptDisk;
 use std::alloc::{AllocError, Global};
 use tp_cache::ReadCache;
-use tp_disk::MemDisk;
 use tp_hub::Hub;
 use tp_meta::Meta;
 use tp_model::{DevId, Geometry, Refusal, SharedVolumes, Slots, Vb, Volumes, Walked};
@@ -46,16 +45,16 @@ fn border_of(geometry: &Geometry) -> u64 {
 #[inline(never)]
 pub(crate) fn formatted(
     alloc: Global,
-    disk: MemDisk,
+    disk: ScriptDisk,
     geometry: Geometry,
     room: Room,
     failing: (u64, u64),
-) -> Result<IdlePool, (Refusal, MemDisk)> {
-    let disk = ScriptDisk::over(disk, border_of(&geometry));
-    disk.fail(failing.0, failing.1);
+) -> Result<IdlePool, (Refusal, ScriptDisk)> {
+    let mut disk = disk;
+    disk.begin(border_of(&geometry), failing);
     match MemServed::format(alloc, disk, geometry, room) {
         Ok(pool) => Ok(idle(pool)),
-        Err((refusal, disk)) => Err((refusal, disk.into_inner())),
+        Err((refusal, disk)) => Err((refusal, disk)),
     }
 }
 
@@ -63,16 +62,16 @@ pub(crate) fn formatted(
 #[inline(never)]
 pub(crate) fn opened(
     alloc: Global,
-    disk: MemDisk,
+    disk: ScriptDisk,
     border: u64,
     room: Room,
     failing: (u64, u64),
-) -> Result<IdlePool, (Refusal, MemDisk)> {
-    let disk = ScriptDisk::over(disk, border);
-    disk.fail(failing.0, failing.1);
+) -> Result<IdlePool, (Refusal, ScriptDisk)> {
+    let mut disk = disk;
+    disk.begin(border, failing);
     match MemServed::open(alloc, disk, room) {
         Ok(pool) => Ok(idle(pool)),
-        Err((refusal, disk)) => Err((refusal, disk.into_inner())),
+        Err((refusal, disk)) => Err((refusal, disk)),
     }
 }
 
@@ -80,36 +79,36 @@ pub(crate) fn opened(
 #[inline(never)]
 pub(crate) fn opened_to_read(
     alloc: Global,
-    disk: MemDisk,
+    disk: ScriptDisk,
     border: u64,
     room: Room,
     failing: (u64, u64),
-) -> Result<IdlePool, (Refusal, MemDisk)> {
-    let disk = ScriptDisk::over(disk, border);
-    disk.fail(failing.0, failing.1);
+) -> Result<IdlePool, (Refusal, ScriptDisk)> {
+    let mut disk = disk;
+    disk.begin(border, failing);
     match MemServed::open_read_only(alloc, disk, room) {
         Ok(pool) => Ok(idle(pool)),
-        Err((refusal, disk)) => Err((refusal, disk.into_inner())),
+        Err((refusal, disk)) => Err((refusal, disk)),
     }
 }
 
 #[inline(never)]
 pub(crate) fn clear_needs_check(
     alloc: Global,
-    disk: MemDisk,
+    disk: ScriptDisk,
     failing: (u64, u64),
-) -> (Result<(), Refusal>, MemDisk) {
-    let mut disk = ScriptDisk::over(disk, 0);
-    disk.fail(failing.0, failing.1);
+) -> (Result<(), Refusal>, ScriptDisk) {
+    let mut disk = disk;
+    disk.begin(0, failing);
     let answer = MemServed::clear_needs_check(alloc, &mut disk);
-    (answer, disk.into_inner())
+    (answer, disk)
 }
 
 #[inline(never)]
-pub(crate) fn closed(idle: IdlePool) -> (Result<(), Refusal>, MemDisk) {
+pub(crate) fn closed(idle: IdlePool) -> (Result<(), Refusal>, ScriptDisk) {
     let IdlePool { pool } = idle;
     let (answer, disk) = pool.close();
-    (answer, disk.into_inner())
+    (answer, disk)
 }
 
 #[inline(never)]

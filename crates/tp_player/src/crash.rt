@@ -1,7 +1,7 @@
 //! The image that a crash leaves of a disk.
 
 use std::alloc::{AllocError, Global};
-use tp_disk::{Disk, MemDisk, SharedDisk};
+use tp_disk::{Disk, MemDisk};
 use tp_script::CrashImage;
 
 /// Superblocks are in the sectors before this one.
@@ -28,7 +28,7 @@ fn newest_if(is_newest: bool) -> u64 {
 }
 
 /// Returns which of a sector's values a crash leaves, counted from the oldest.
-fn pick(image: CrashImage, sector: u64) -> u64 {
+pub(crate) fn pick(image: CrashImage, sector: u64) -> u64 {
     let is_superblock = sector < AFTER_SUPERBLOCKS;
     match image {
         CrashImage::Oldest => 0,
@@ -58,42 +58,4 @@ pub(crate) fn left_by_crash(
         picks.push(pick(image, sector))?;
     }
     disk.stop(alloc, &picks)
-}
-
-/// Four sums at a time, so that a processor adds them concurrently.
-type Sums = [u64; 4];
-
-fn mix(sum: u64, bytes: &[u8]) -> u64 {
-    let mut word = [0; 8];
-    for (to, from) in word.iter_mut().zip(bytes.iter()) {
-        *to = *from;
-    }
-    let sum = (sum ^ u64::from_le_bytes(word)).wrapping_mul(0x0000_0100_0000_01b3);
-    sum ^ sum >> 29
-}
-
-fn add_to_sums(sums: &mut Sums, bytes: &[u8; 4096]) {
-    for group in bytes.chunks_exact(32) {
-        let (front, back) = group.split_at(16);
-        let (first, second) = front.split_at(8);
-        let (third, fourth) = back.split_at(8);
-        sums[0] = mix(sums[0], first);
-        sums[1] = mix(sums[1], second);
-        sums[2] = mix(sums[2], third);
-        sums[3] = mix(sums[3], fourth);
-    }
-}
-
-/// Returns a checksum of a disk's contents, up to its last multiple of 8 sectors.
-pub(crate) fn checksum(disk: &MemDisk) -> u64 {
-    let mut sums: Sums = [0xcbf2_9ce4_8422_2325, 1, 2, 3];
-    let mut bytes = [0; 4096];
-    for piece in 0..disk.sectors() / 8 {
-        let first = piece.saturating_mul(8);
-        if first.saturating_add(8) <= disk.sectors() && disk.read_shared(first, &mut bytes) {
-            add_to_sums(&mut sums, &bytes);
-        }
-    }
-    sums.iter()
-        .fold(0u64, |all, sum| all.wrapping_mul(31).wrapping_add(*sum))
 }

@@ -1,7 +1,11 @@
 //! The disk of a script: a disk in memory that counts calls on metadata and on data, and fails some of them.
 
+use crate::changes::Changes;
+use crate::crash::left_by_crash;
+use std::alloc::{AllocError, Global};
 use std::sync::atomic::{AtomicU64, Ordering};
 use tp_disk::{Disk, Fault, MemDisk, SharedDisk};
+use tp_script::CrashImage;
 
 /// The number of calls of a disk. The first sector of a call decides whether it is one on metadata.
 #[derive(Clone, Copy)]
@@ -38,6 +42,7 @@ impl Tally {
 #[derive(Drop)]
 pub(crate) struct ScriptDisk {
     disk: MemDisk,
+    changes: Changes,
     /// The first sector after the metadata.
     border: u64,
     tally: Tally,
@@ -47,29 +52,45 @@ pub(crate) struct ScriptDisk {
 }
 
 impl ScriptDisk {
-    pub(crate) fn over(disk: MemDisk, border: u64) -> ScriptDisk {
+    fn over(disk: MemDisk, changes: Changes) -> ScriptDisk {
         ScriptDisk {
             disk,
-            border,
+            changes,
+            border: 0,
             tally: Tally::NONE,
             first: AtomicU64::new(0),
             last: AtomicU64::new(0),
         }
     }
 
-    pub(crate) fn inner(&self) -> &MemDisk {
-        &self.disk
+    /// Returns a blank disk.
+    pub(crate) fn new(alloc: Global, sectors: u64) -> Result<ScriptDisk, AllocError> {
+        let disk = MemDisk::new(alloc, sectors)?;
+        Ok(ScriptDisk::over(disk, Changes::none(alloc, 0)))
     }
 
-    pub(crate) fn into_inner(self) -> MemDisk {
-        let ScriptDisk {
-            disk,
-            border: _,
-            tally: _,
-            first: _,
-            last: _,
-        } = self;
-        disk
+    /// Returns the disk that a crash leaves.
+    pub(crate) fn left(&self, alloc: Global, image: CrashImage) -> Result<ScriptDisk, AllocError> {
+        let checksum = self.checksum(image)?;
+        let disk = left_by_crash(alloc, &self.disk, image)?;
+        Ok(ScriptDisk::over(disk, Changes::none(alloc, checksum)))
+    }
+
+    /// Returns the checksum of the disk that a crash leaves.
+    pub(crate) fn checksum(&self, image: CrashImage) -> Result<u64, AllocError> {
+        self.changes.checksum(image)
+    }
+
+    /// A pool whose metadata ends at this sector is opened or formatted.
+    pub(crate) fn begin(&mut self, border: u64, failing: (u64, u64)) {
+        self.border = border;
+        self.tally = Tally::NONE;
+        self.fail(failing.0, failing.1);
+    }
+
+    /// Returns how often a sector was written.
+    pub(crate) fn writes(&self, sector: u64) -> u64 {
+        self.disk.writes(sector)
     }
 
     pub(crate) fn tally(&self) -> Tally {
@@ -125,6 +146,7 @@ impl Disk for ScriptDisk {
         }
         let (first, last) = self.failing();
         self.disk.fail(first, last);
+        self.changes.write(&self.disk, at, bytes);
         self.disk.write(at, bytes)
     }
 
@@ -132,7 +154,11 @@ impl Disk for ScriptDisk {
         self.tally.flushes = self.tally.flushes.wrapping_add(1);
         let (first, last) = self.failing();
         self.disk.fail(first, last);
-        self.disk.flush()
+        let result = self.disk.flush();
+        if result.is_ok() {
+            self.changes.flush();
+        }
+        result
     }
 }
 

@@ -1,14 +1,13 @@
 //! Lines on the disk and the image, and those that begin or end a lifetime of the pool.
 
 use crate::calls::{clear_needs_check, closed, formatted, opened, opened_to_read};
-use crate::crash::left_by_crash;
-use crate::disk::Tally;
+use crate::disk::{ScriptDisk, Tally};
 use crate::image::{check_answer, report_byte, report_bytes, report_each_byte, set_byte};
 use crate::look::look;
 use crate::server::{CONNECTIONS, Connection};
 use crate::world::{NO_CALLS, Stage, World};
 use std::alloc::AllocError;
-use tp_disk::{Disk, MemDisk};
+use tp_disk::Disk;
 use tp_model::{Geometry, Refusal};
 use tp_reference::{Found, History};
 use tp_script::{Answer, Caller, CrashImage, Disk as DiskLine, answer_of};
@@ -20,7 +19,7 @@ const MOST_BLOCKS: u64 = 64;
 impl World {
     fn begin_disk(&mut self, sectors: u64) -> Result<Answer, AllocError> {
         self.take_stage();
-        self.stage = Stage::Disk(MemDisk::new(self.alloc, sectors)?);
+        self.stage = Stage::Disk(ScriptDisk::new(self.alloc, sectors)?);
         Ok(Answer::Done)
     }
 
@@ -41,7 +40,7 @@ impl World {
         };
         let disk = match self.take_stage() {
             Stage::Disk(disk) => disk,
-            _ => MemDisk::new(self.alloc, geometry.image_sectors())?,
+            _ => ScriptDisk::new(self.alloc, geometry.image_sectors())?,
         };
         match formatted(self.alloc, disk, geometry, self.room, self.failing) {
             Ok(pool) => {
@@ -117,18 +116,10 @@ impl World {
     }
 
     /// Returns the disk that a crash leaves now.
-    pub(crate) fn left(&self, image: CrashImage) -> Result<Option<MemDisk>, AllocError> {
-        match &self.stage {
-            Stage::Pool(idle) => {
-                let left = left_by_crash(self.alloc, idle.pool.disk().inner(), image)?;
-                Ok(Some(left))
-            }
-            Stage::Server(server) => {
-                let left = left_by_crash(self.alloc, server.pool().disk().inner(), image)?;
-                Ok(Some(left))
-            }
-            Stage::Disk(disk) => Ok(Some(left_by_crash(self.alloc, disk, image)?)),
-            Stage::Empty => Ok(None),
+    pub(crate) fn left(&self, image: CrashImage) -> Result<Option<ScriptDisk>, AllocError> {
+        match self.disk() {
+            Some(disk) => Ok(Some(disk.left(self.alloc, image)?)),
+            None => Ok(None),
         }
     }
 
@@ -168,7 +159,7 @@ impl World {
 
     /// Opens the disk that a crash left: it must be clean, and show a state that a crash may leave.
     #[inline(never)]
-    pub(crate) fn open_left(&mut self, disk: MemDisk) -> Result<Answer, AllocError> {
+    pub(crate) fn open_left(&mut self, disk: ScriptDisk) -> Result<Answer, AllocError> {
         let mut disk = disk;
         let checked = check_answer(self.alloc, &mut disk);
         self.take_stage();
@@ -277,10 +268,8 @@ impl World {
             (calls.saturating_add(first), calls.saturating_add(last))
         };
         let (first, last) = self.failing;
-        match &self.stage {
-            Stage::Pool(idle) => idle.pool.disk().fail(first, last),
-            Stage::Server(server) => server.pool().disk().fail(first, last),
-            _ => {}
+        if let Some(disk) = self.disk() {
+            disk.fail(first, last);
         }
         Answer::Done
     }
@@ -308,12 +297,9 @@ impl World {
     }
 
     fn writes_of(&self, block: u64) -> u64 {
-        let sector = block.saturating_mul(8);
-        match &self.stage {
-            Stage::Pool(idle) => idle.pool.disk().inner().writes(sector),
-            Stage::Server(server) => server.pool().disk().inner().writes(sector),
-            Stage::Disk(disk) => disk.writes(sector),
-            Stage::Empty => 0,
+        match self.disk() {
+            Some(disk) => disk.writes(block.saturating_mul(8)),
+            None => 0,
         }
     }
 

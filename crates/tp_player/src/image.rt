@@ -1,8 +1,9 @@
 //! Images with a byte changed, and what `open` and `check` return for them.
 
+use crate::disk::ScriptDisk;
 use std::alloc::{AllocError, Global};
 use tp_check::check;
-use tp_disk::{Disk, Fault, MemDisk};
+use tp_disk::{Disk, Fault};
 use tp_meta::Meta;
 use tp_model::Refusal;
 use tp_script::{Answer, Caller, SECTOR, add_answer, add_hex_of, answer_of};
@@ -14,7 +15,7 @@ const BLOCK: u64 = 4096;
 
 /// Changes a byte of a metadata block: leaves the bits `keep`, then flips the bits `flip`. Returns the byte that was there.
 pub(crate) fn change_byte(
-    disk: &mut MemDisk,
+    disk: &mut ScriptDisk,
     block: u64,
     place: u64,
     keep: u8,
@@ -35,13 +36,18 @@ pub(crate) fn change_byte(
 }
 
 /// Sets a byte of a metadata block, and returns the byte that was there.
-pub(crate) fn set_byte(disk: &mut MemDisk, block: u64, place: u64, value: u8) -> Result<u8, Fault> {
+pub(crate) fn set_byte(
+    disk: &mut ScriptDisk,
+    block: u64,
+    place: u64,
+    value: u8,
+) -> Result<u8, Fault> {
     change_byte(disk, block, place, 0, value)
 }
 
 /// Reports bytes of a metadata block, at most 512. Returns whether the block has them.
 pub(crate) fn report_bytes(
-    disk: &mut MemDisk,
+    disk: &mut ScriptDisk,
     block: u64,
     place: u64,
     count: u64,
@@ -65,14 +71,14 @@ pub(crate) fn report_bytes(
     }
 }
 
-fn open_result(alloc: Global, disk: &mut MemDisk) -> Result<(), Refusal> {
+fn open_result(alloc: Global, disk: &mut ScriptDisk) -> Result<(), Refusal> {
     match Meta::open(alloc, disk) {
         Ok(_) => Ok(()),
         Err(refusal) => Err(refusal),
     }
 }
 
-fn check_result(alloc: Global, disk: &mut MemDisk) -> Result<(), Refusal> {
+fn check_result(alloc: Global, disk: &mut ScriptDisk) -> Result<(), Refusal> {
     match check(alloc, disk) {
         Ok(()) => Ok(()),
         Err(error) => Err(error.refusal()),
@@ -82,7 +88,7 @@ fn check_result(alloc: Global, disk: &mut MemDisk) -> Result<(), Refusal> {
 /// Reports what `open` and `check` return with another byte, which is put back. Returns whether the image has that byte.
 pub(crate) fn report_byte(
     alloc: Global,
-    disk: &mut MemDisk,
+    disk: &mut ScriptDisk,
     block: u64,
     place: u64,
     value: u64,
@@ -108,7 +114,7 @@ struct Counts {
 }
 
 impl Counts {
-    fn count(&mut self, alloc: Global, disk: &mut MemDisk) {
+    fn count(&mut self, alloc: Global, disk: &mut ScriptDisk) {
         if check_result(alloc, disk).is_ok() {
             self.clean = self.clean.saturating_add(1);
             if open_result(alloc, disk).is_err() {
@@ -121,7 +127,7 @@ impl Counts {
     fn count_at(
         &mut self,
         alloc: Global,
-        disk: &mut MemDisk,
+        disk: &mut ScriptDisk,
         block: u64,
         place: u64,
         bits: u8,
@@ -136,7 +142,7 @@ impl Counts {
 /// Reports how many images are clean that have these bits of one byte of a block flipped. Returns whether the image has the block.
 pub(crate) fn report_each_byte(
     alloc: Global,
-    disk: &mut MemDisk,
+    disk: &mut ScriptDisk,
     block: u64,
     bits: u64,
     report: &mut Vec<u8>,
@@ -160,6 +166,6 @@ pub(crate) fn report_each_byte(
 }
 
 /// Returns what a check of a disk finds.
-pub(crate) fn check_answer(alloc: Global, disk: &mut MemDisk) -> Answer {
+pub(crate) fn check_answer(alloc: Global, disk: &mut ScriptDisk) -> Answer {
     answer_of(check_result(alloc, disk), Caller::Pool)
 }

@@ -2,9 +2,11 @@
 #![tactic(auto)]
 
 mod calls;
+mod changes;
 mod chunks;
 mod client_lines;
 mod compare;
+mod counts;
 mod crash;
 mod disk;
 mod disk_lines;
@@ -12,6 +14,7 @@ mod image;
 mod lifetimes;
 mod look;
 mod matrix;
+mod option_lines;
 mod play;
 mod pool_lines;
 mod random;

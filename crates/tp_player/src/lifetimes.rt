@@ -1,10 +1,10 @@
 //! A lifetime of a pool, from its opening to its close or to a crash, in which disk calls may fail.
 
+use crate::disk::ScriptDisk;
 use crate::play::{add_with_number, is_expected};
 use crate::server::{CONNECTIONS, Connection};
 use crate::world::{Faults, NO_CALLS, Stage, World};
 use std::alloc::{AllocError, Global};
-use tp_disk::MemDisk;
 use tp_reference::{History, Reference};
 use tp_script::{Answer, Block, CrashImage, Disk, Line, Verb, line_at};
 use tp_served::Room;
@@ -12,7 +12,7 @@ use tp_served::Room;
 /// The disk of a closed pool, and the state of the reference model.
 #[derive(Drop)]
 pub(crate) struct Kept {
-    pub disk: MemDisk,
+    pub disk: ScriptDisk,
     pub reference: Reference,
     pub border: u64,
     pub room: Room,
@@ -85,7 +85,7 @@ impl World {
     }
 
     /// Becomes a world with this disk that has the sizes of another one, and no reference model.
-    pub(crate) fn begin_without_reference(&mut self, other: &World, disk: MemDisk) {
+    pub(crate) fn begin_without_reference(&mut self, other: &World, disk: ScriptDisk) {
         self.room = other.room;
         self.border = other.border;
         self.stage = Stage::Disk(disk);
@@ -98,7 +98,7 @@ impl World {
         self.clear();
         self.room = kept.room;
         self.border = kept.border;
-        self.stage = Stage::Disk(kept.disk.stop(self.alloc, &[])?);
+        self.stage = Stage::Disk(kept.disk.left(self.alloc, CrashImage::Newest)?);
         self.history = Some(History::only(self.alloc, kept.reference.copy()?)?);
         self.has_failed = false;
         self.connections = [Connection::CLOSED; CONNECTIONS];
@@ -181,9 +181,12 @@ impl World {
         Ok(self.calls_now())
     }
 
-    /// Returns the disk that a crash left, if it is the world's.
-    pub(crate) fn image(&self, image: CrashImage) -> Result<Option<MemDisk>, AllocError> {
-        self.left(image)
+    /// Returns the checksum of the disk that a crash leaves now.
+    pub(crate) fn checksum(&self, image: CrashImage) -> Result<Option<u64>, AllocError> {
+        match self.disk() {
+            Some(disk) => Ok(Some(disk.checksum(image)?)),
+            None => Ok(None),
+        }
     }
 }
 

@@ -7,12 +7,13 @@ use crate::calls::{
     IdlePool, MemServed, next_id, read, read_snapshot, served, status, stopped, thin_status,
     volume_blocks,
 };
+use crate::world::zero_sectors;
 use nbd_session::Profile;
 use std::alloc::{AllocError, Global};
 use tp_hub::{Answers, Event, Hub};
 use tp_model::{Refusal, Volumes};
 use tp_reference::{Found, FoundVolume};
-use tp_script::{SECTOR, add_head, add_info_option, add_values};
+use tp_script::{add_head, add_info_option, add_values};
 
 /// Sectors of one read, and of one READ of a client.
 const PIECE: u64 = 2048;
@@ -59,7 +60,7 @@ fn add_sectors(
     for piece in 0..sectors / PIECE + 1 {
         let first = piece.saturating_mul(PIECE);
         let count = sectors.saturating_sub(first).min(PIECE) as usize;
-        bytes.resize(count.saturating_mul(SECTOR), 0)?;
+        zero_sectors(bytes, count)?;
         match add_piece(pool, first, in_snapshot, bytes, found)? {
             Ok(have) => have_values = have_values && have,
             Err(refusal) => return Ok(Err(refusal)),

@@ -1,22 +1,13 @@
 //! A workload that is crashed at each of its disk calls, or in which each disk call fails, and what its crash images show.
 
-use crate::crash::checksum;
+use crate::counts::{Counts, Kind, Place, Seen};
+use crate::disk::ScriptDisk;
 use crate::image::check_answer;
-use crate::lifetimes::{Course, Ending, Kept, begins_closed};
-use crate::world::{Faults, NO_CALLS, World};
+use crate::lifetimes::{Course, Kept, begins_closed};
+use crate::world::{NO_CALLS, World};
 use std::alloc::{AllocError, Global};
-use tp_disk::MemDisk;
 use tp_reference::Found;
 use tp_script::{Answer, CrashImage, Line, Picks};
-
-/// The kind of a matrix.
-#[derive(Clone, Copy, PartialEq, Eq)]
-pub(crate) enum Kind {
-    /// All disk calls fail from one on.
-    Crashes,
-    /// One disk call fails.
-    Faults,
-}
 
 /// A matrix: a workload, and a second one on each image that the first one leaves.
 #[derive(Clone, Copy)]
@@ -28,157 +19,12 @@ pub(crate) struct Plan<'a> {
     pub kind: Kind,
 }
 
-/// An image that was looked at.
-#[derive(Drop)]
-struct Seen {
-    checksum: u64,
-    found: Found,
-    /// The images of the second lifetime on this one, if it was played.
-    later: Option<u64>,
-}
-
-/// The counts of a matrix.
-#[derive(Drop)]
-pub(crate) struct Counts {
-    kind: Kind,
-    /// The disk calls of the workload.
-    calls: u64,
-    images: u64,
-    /// The images of second lifetimes. Equal images are played once, and counted each time.
-    later: u64,
-    /// The images of both that differ.
-    different: u64,
-    /// The images without a pool.
-    blank: u64,
-    faults: Faults,
-    pub wrong: u64,
-    /// Where the first wrong image or answer is, and why.
-    why: Vec<u8>,
-    seen: Vec<Seen>,
-}
-
-/// The place of an image: the disk call, the line of the script in which it failed, and the image's number.
-#[derive(Clone, Copy)]
-struct Place {
-    call: u64,
-    line: usize,
-    image: Option<usize>,
-}
-
-fn add_place(alloc: Global, out: &mut Vec<u8>, place: &Place) -> Result<(), AllocError> {
-    let (call, line) = (place.call, place.line);
-    let text = format!(in alloc; "at call {call} in line {line}")?;
-    out.extend_from_slice(text.as_bytes())?;
-    if let Some(image) = place.image {
-        let text = format!(in alloc; ", image {image}")?;
-        out.extend_from_slice(text.as_bytes())?;
-    }
-    out.extend_from_slice(b": ")
-}
-
-impl Counts {
-    fn new(alloc: Global, kind: Kind) -> Counts {
-        Counts {
-            kind,
-            calls: 0,
-            images: 0,
-            later: 0,
-            different: 0,
-            blank: 0,
-            faults: Faults::NONE,
-            wrong: 0,
-            why: Vec::new(alloc),
-            seen: Vec::new(alloc),
-        }
-    }
-
-    pub(crate) fn checks(&self) -> u64 {
-        self.calls
-            .saturating_add(self.images)
-            .saturating_add(self.later)
-    }
-
-    fn crash_text(&self, alloc: Global) -> Result<String, AllocError> {
-        let (calls, images, later, different) = (
-            self.calls,
-            self.images,
-            self.later,
-            self.different,
-        );
-        format!(in alloc;
-            "{calls} calls, {images} images, {later} later images, {different} different"
-        )
-    }
-
-    fn fault_text(&self, alloc: Global) -> Result<String, AllocError> {
-        let (calls, images, later) = (self.calls, self.images, self.later);
-        let (options, reads) = (self.faults.options, self.faults.reads);
-        let (changes, closings) = (self.faults.changes, self.faults.closings);
-        format!(in alloc;
-            "{calls} calls, reported by {options} options {reads} reads {changes} changes {closings} closings, {images} images, {later} later images"
-        )
-    }
-
-    /// Returns the counts as text, or where the first wrong image or answer is.
-    pub(crate) fn text(&self, alloc: Global) -> Result<Vec<u8>, AllocError> {
-        let (wrong, blank) = (self.wrong, self.blank);
-        if wrong > 0 {
-            let head = format!(in alloc; "{wrong} others, the first ")?;
-            let mut text = Vec::from_slice(alloc, head.as_bytes())?;
-            text.extend_from_slice(&self.why)?;
-            return Ok(text);
-        }
-        let counts = match self.kind {
-            Kind::Crashes => self.crash_text(alloc)?,
-            Kind::Faults => self.fault_text(alloc)?,
-        };
-        let mut text = Vec::from_slice(alloc, counts.as_bytes())?;
-        if blank > 0 {
-            let more = format!(in alloc; ", {blank} without a pool")?;
-            text.extend_from_slice(more.as_bytes())?;
-        }
-        Ok(text)
-    }
-
-    fn add_wrong(&mut self, alloc: Global, places: &[Place], why: &[u8]) -> Result<(), AllocError> {
-        self.wrong = self.wrong.saturating_add(1);
-        if self.wrong > 1 {
-            return Ok(());
-        }
-        for place in places {
-            add_place(alloc, &mut self.why, place)?;
-        }
-        self.why.extend_from_slice(why)
-    }
-
-    /// Notes the wrong answers of a lifetime.
-    fn judge(
-        &mut self,
-        alloc: Global,
-        places: &[Place],
-        ending: &Ending,
-    ) -> Result<(), AllocError> {
-        if ending.wrong == 0 {
-            return Ok(());
-        }
-        let line = ending.line;
-        let head = format!(in alloc; "in line {line}: ")?;
-        let mut why = Vec::from_slice(alloc, head.as_bytes())?;
-        why.extend_from_slice(&ending.why)?;
-        self.add_wrong(alloc, places, &why)
-    }
-
-    fn place_of(&self, checksum: u64) -> Option<usize> {
-        self.seen.iter().position(|seen| seen.checksum == checksum)
-    }
-}
-
 /// Looks at an image, which must be clean and open, or have no pool. Returns what it shows, or why it is wrong.
 #[inline(never)]
 fn look_at(
     viewer: &mut World,
     life: &World,
-    disk: MemDisk,
+    disk: ScriptDisk,
 ) -> Result<Result<Found, &'static [u8]>, AllocError> {
     let mut disk = disk;
     let checked = check_answer(viewer.alloc, &mut disk);
@@ -214,34 +60,53 @@ fn is_allowed(life: &World, found: &Found) -> Result<bool, AllocError> {
     }
 }
 
-/// Looks at an image of a lifetime, unless an equal one was looked at. Returns its number among those that differ.
+/// Returns the number of an image among those that differ. Unless it has one, it is looked at.
 #[inline(never)]
+fn place_or_look(
+    counts: &mut Counts,
+    viewer: &mut World,
+    life: &World,
+    image: CrashImage,
+    places: &[Place],
+) -> Result<Option<usize>, AllocError> {
+    let Some(checksum) = life.checksum(image)? else {
+        counts.add_wrong(viewer.alloc, places, b"there is no disk")?;
+        return Ok(None);
+    };
+    if let Some(place) = counts.place_of(checksum) {
+        return Ok(Some(place));
+    }
+    let Some(disk) = life.left(image)? else {
+        return Ok(None);
+    };
+    match look_at(viewer, life, disk)? {
+        Ok(found) => {
+            counts.different = counts.different.saturating_add(1);
+            counts.seen.push(Seen {
+                checksum,
+                found,
+                later: None,
+            })?;
+            Ok(Some(counts.seen.len().saturating_sub(1)))
+        }
+        Err(why) => {
+            counts.add_wrong(viewer.alloc, places, why)?;
+            Ok(None)
+        }
+    }
+}
+
+/// Looks at an image of a lifetime. Returns its number among those that differ, if a crash may leave it.
 fn see(
     counts: &mut Counts,
     viewer: &mut World,
     life: &World,
-    disk: &MemDisk,
+    image: CrashImage,
     places: &[Place],
 ) -> Result<Option<usize>, AllocError> {
     let alloc = viewer.alloc;
-    let checksum = checksum(disk);
-    let place = match counts.place_of(checksum) {
-        Some(place) => place,
-        None => match look_at(viewer, life, disk.stop(alloc, &[])?)? {
-            Ok(found) => {
-                counts.different = counts.different.saturating_add(1);
-                counts.seen.push(Seen {
-                    checksum,
-                    found,
-                    later: None,
-                })?;
-                counts.seen.len().saturating_sub(1)
-            }
-            Err(why) => {
-                counts.add_wrong(alloc, places, why)?;
-                return Ok(None);
-            }
-        },
+    let Some(place) = place_or_look(counts, viewer, life, image, places)? else {
+        return Ok(None);
     };
     let Some(seen) = counts.seen.get(place) else {
         return Ok(None);
@@ -272,14 +137,12 @@ fn see_later(
 ) -> Result<(), AllocError> {
     for number in 0..plan.later_picks.len() {
         if let Some(pick) = plan.later_picks[number] {
-            if let Some(disk) = later.image(pick)? {
-                let place = Place {
-                    image: Some(number),
-                    ..place
-                };
-                counts.later = counts.later.saturating_add(1);
-                see(counts, viewer, later, &disk, &[before, place])?;
-            }
+            let place = Place {
+                image: Some(number),
+                ..place
+            };
+            counts.later = counts.later.saturating_add(1);
+            see(counts, viewer, later, pick, &[before, place])?;
         }
     }
     Ok(())
@@ -376,23 +239,23 @@ fn kept_in(
     counts: &Counts,
     life: &World,
     seen: usize,
-    disk: MemDisk,
+    image: CrashImage,
 ) -> Result<Option<Kept>, AllocError> {
     let (Some(seen), Some(history)) = (counts.seen.get(seen), &life.history) else {
         return Ok(None);
     };
-    match history.find(&seen.found)? {
-        Some(reference) => Ok(Some(Kept {
-            disk,
-            reference,
-            border: life.border,
-            room: life.room,
-        })),
-        None => Ok(None),
-    }
+    let (Some(reference), Some(disk)) = (history.find(&seen.found)?, life.left(image)?) else {
+        return Ok(None);
+    };
+    Ok(Some(Kept {
+        disk,
+        reference,
+        border: life.border,
+        room: life.room,
+    }))
 }
 
-/// Plays the second lifetime on an image, or counts its images again if it was played on an equal one.
+/// Plays the second lifetime on an image, and notes how many images it has.
 fn follow(
     counts: &mut Counts,
     plan: &Plan<'_>,
@@ -402,10 +265,6 @@ fn follow(
     later: &mut World,
     place: Place,
 ) -> Result<(), AllocError> {
-    if let Some(Some(again)) = counts.seen.get(seen).map(|seen| seen.later) {
-        counts.later = counts.later.saturating_add(again);
-        return Ok(());
-    }
     let before = counts.later;
     play_later(counts, plan, kept, viewer, later, place)?;
     let more = counts.later.saturating_sub(before);
@@ -426,17 +285,14 @@ fn see_image(
     place: Place,
     pick: CrashImage,
 ) -> Result<(), AllocError> {
-    let Some(disk) = life.image(pick)? else {
-        return Ok(());
-    };
     counts.images = counts.images.saturating_add(1);
-    let Some(seen) = see(counts, viewer, life, &disk, &[place])? else {
+    let Some(seen) = see(counts, viewer, life, pick, &[place])? else {
         return Ok(());
     };
-    if plan.then.is_empty() {
+    if plan.then.is_empty() || counts.count_again(seen) {
         return Ok(());
     }
-    match kept_in(counts, life, seen, disk)? {
+    match kept_in(counts, life, seen, pick)? {
         Some(kept) => follow(counts, plan, &kept, seen, viewer, later, place),
         None => Ok(()),
     }

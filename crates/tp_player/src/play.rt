@@ -1,7 +1,8 @@
 //! Plays scripts, case by case and line by line.
 
+use crate::counts::{Counts, Kind};
 use crate::lifetimes::Kept;
-use crate::matrix::{Counts, Kind, Plan, play_matrix};
+use crate::matrix::{Plan, play_matrix};
 use crate::report::Report;
 use crate::world::{Stage, World};
 use std::alloc::{AllocError, Global};
@@ -480,7 +481,8 @@ fn play_files<R: Files + Env + Alloc<A = Global>>(rt: &R, report: &mut Report) -
     Ok(())
 }
 
-/// Plays the scripts that the arguments name, and writes the report. Returns the exit status: 1 if a line is wrong.
+/// Plays the scripts that the arguments name, and writes the report. Returns the exit status: 1 if a line is wrong, or nothing is
+/// played.
 pub fn play_scripts<R: Files + Env + Alloc<A = Global>, W: Write>(
     rt: &R,
     out: &mut W,
@@ -488,5 +490,6 @@ pub fn play_scripts<R: Files + Env + Alloc<A = Global>, W: Write>(
     let mut report = Report::new(rt.alloc());
     play_files(rt, &mut report)?;
     out.write_all(&report.text)?;
-    Ok(ExitCode::from(if report.failed == 0 { 0u8 } else { 1u8 }))
+    let is_right = report.failed == 0 && report.scripts > 0;
+    Ok(ExitCode::from(if is_right { 0u8 } else { 1u8 }))
 }

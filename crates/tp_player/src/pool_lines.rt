@@ -6,15 +6,14 @@ use crate::calls::{
 };
 use crate::compare::Source;
 use crate::server::handle;
-use crate::world::{Stage, World};
+use crate::world::{Stage, World, zero_sectors};
 use std::alloc::AllocError;
 use tp_hub::Event;
 use tp_model::{Refusal, Slots};
 use tp_msg::{Message, read_message};
 use tp_reference::Step;
 use tp_script::{
-    Answer, Caller, Operation, Pool as PoolLine, Request, SECTOR, add_fill, add_runs, add_values,
-    answer_of,
+    Answer, Caller, Operation, Pool as PoolLine, Request, add_fill, add_runs, add_values, answer_of,
 };
 
 /// Returns the answer of a call that reported a text if it succeeded.
@@ -182,8 +181,7 @@ impl World {
 
     fn make_room(&mut self, count: u64) -> Result<(), AllocError> {
         let count = usize::try_from(count.min(MOST_SECTORS)).unwrap_or(0);
-        self.bytes.clear();
-        self.bytes.resize(count.saturating_mul(SECTOR), 0)
+        zero_sectors(&mut self.bytes, count)
     }
 
     fn play_read(&mut self, request: &Request, source: Source) -> Result<Answer, AllocError> {

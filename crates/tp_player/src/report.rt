@@ -58,13 +58,16 @@ impl Report {
         self.text.extend_from_slice(text.as_bytes())
     }
 
-    /// Adds the counts of a script.
+    /// Adds the counts of a script. One that checks nothing has failed.
     pub(crate) fn end_script(
         &mut self,
         script: &str,
         cases: u64,
         checks: u64,
     ) -> Result<(), AllocError> {
+        if checks == 0 {
+            self.failed = self.failed.saturating_add(1);
+        }
         let text = format!(in self.alloc; "{script}: {cases} cases, {checks} checks\n")?;
         self.text.extend_from_slice(text.as_bytes())
     }

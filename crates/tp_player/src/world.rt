@@ -1,21 +1,20 @@
 //! A case at work: its disk, the pool on it or a server of the pool, and the reference model.
 
 use crate::calls::{IdlePool, MemServed, served, stopped};
-use crate::disk::Tally;
+use crate::disk::{ScriptDisk, Tally};
 use crate::server::{CONNECTIONS, Connection, handle};
 use std::alloc::{AllocError, Global};
-use tp_disk::MemDisk;
 use tp_hub::{Answers, Event, Hub};
 use tp_model::{Geometry, Refusal};
 use tp_reference::{History, Reference, used_metadata_in};
-use tp_script::{Answer, Caller, add_answer};
+use tp_script::{Answer, Caller, SECTOR, add_answer};
 use tp_served::Room;
 
 /// The part of the product that a case has at a time.
 #[derive(Drop)]
 pub(crate) enum Stage {
     Empty,
-    Disk(MemDisk),
+    Disk(ScriptDisk),
     Pool(IdlePool),
     Server(Box<Hub<MemServed>>),
 }
@@ -159,22 +158,29 @@ impl World {
         self.mismatch.clear();
     }
 
+    /// Returns the disk, if there is one.
+    pub(crate) fn disk(&self) -> Option<&ScriptDisk> {
+        match &self.stage {
+            Stage::Pool(idle) => Some(idle.pool.disk()),
+            Stage::Server(server) => Some(server.pool().disk()),
+            Stage::Disk(disk) => Some(disk),
+            Stage::Empty => None,
+        }
+    }
+
     /// Returns how many calls the disk had.
     pub(crate) fn calls_now(&self) -> u64 {
-        match &self.stage {
-            Stage::Pool(idle) => idle.pool.disk().calls(),
-            Stage::Server(server) => server.pool().disk().calls(),
-            Stage::Disk(disk) => tp_disk::MemDisk::calls(disk),
-            Stage::Empty => 0,
+        match self.disk() {
+            Some(disk) => disk.calls(),
+            None => 0,
         }
     }
 
     /// Returns the calls of the disk since the pool was opened.
     pub(crate) fn tally_now(&self) -> Tally {
-        match &self.stage {
-            Stage::Pool(idle) => idle.pool.disk().tally(),
-            Stage::Server(server) => server.pool().disk().tally(),
-            _ => Tally::NONE,
+        match self.disk() {
+            Some(disk) => disk.tally(),
+            None => Tally::NONE,
         }
     }
 
@@ -266,4 +272,14 @@ pub(crate) fn fault_for(caller: Caller) -> Answer {
 /// Returns the answer of a call to a failed pool.
 pub(crate) fn failed_for(caller: Caller) -> Answer {
     tp_script::answer_of(Err(Refusal::Failed), caller)
+}
+
+/// Makes a buffer one of this many sectors of zeros.
+pub(crate) fn zero_sectors(bytes: &mut Vec<u8>, count: usize) -> Result<(), AllocError> {
+    let zeros = [0; SECTOR];
+    bytes.clear();
+    for _ in 0..count {
+        bytes.extend_from_slice(&zeros)?;
+    }
+    Ok(())
 }
