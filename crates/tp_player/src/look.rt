@@ -28,12 +28,14 @@ const BEFORE_DATA: usize = 120;
 fn add_piece(
     pool: &mut MemServed,
     sector: u64,
+    count: usize,
     in_snapshot: bool,
-    bytes: &mut [u8],
+    bytes: &mut Vec<u8>,
     found: &mut FoundVolume,
 ) -> Result<Result<bool, Refusal>, AllocError>
     ensures { holds_of pool.new.besides.holders ≡ holds_of pool.old.besides.holders }
 {
+    zero_sectors(bytes, count)?;
     let result = if in_snapshot {
         read_snapshot(pool, found.id, sector, bytes)
     } else {
@@ -60,9 +62,8 @@ fn add_sectors(
     for piece in 0..sectors / PIECE + 1 {
         let first = piece.saturating_mul(PIECE);
         let count = sectors.saturating_sub(first).min(PIECE) as usize;
-        zero_sectors(bytes, count)?;
-        match add_piece(pool, first, in_snapshot, bytes, found)? {
-            Ok(have) => have_values = have_values && have,
+        match add_piece(pool, first, count, in_snapshot, bytes, found)? {
+            Ok(have) => have_values &= have,
             Err(refusal) => return Ok(Err(refusal)),
         }
     }

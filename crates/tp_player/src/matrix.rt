@@ -378,17 +378,27 @@ fn spare_memory(alloc: Global) -> Result<(), AllocError> {
     Ok(())
 }
 
+/// Plays a matrix in worlds of its own.
+fn play_in_worlds(
+    alloc: Global,
+    counts: &mut Counts,
+    plan: &Plan<'_>,
+    kept: &Kept,
+) -> Result<(), AllocError> {
+    let mut life = World::new(alloc);
+    let mut viewer = World::new(alloc);
+    let mut later = World::new(alloc);
+    play_each(counts, plan, kept, &mut life, &mut viewer, &mut later)
+}
+
 /// Plays a matrix on a closed pool.
 pub(crate) fn play_matrix(
     alloc: Global,
     kept: &Kept,
     plan: &Plan<'_>,
 ) -> Result<Counts, AllocError> {
-    let mut counts = Counts::new(alloc, plan.kind);
-    let mut life = World::new(alloc);
-    let mut viewer = World::new(alloc);
-    let mut later = World::new(alloc);
     spare_memory(alloc)?;
-    play_each(&mut counts, plan, kept, &mut life, &mut viewer, &mut later)?;
+    let mut counts = Counts::new(alloc, plan.kind);
+    play_in_worlds(alloc, &mut counts, plan, kept)?;
     Ok(counts)
 }
