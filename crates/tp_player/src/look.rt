@@ -216,6 +216,27 @@ fn next_volume(idle: &mut IdlePool, from: u32, found: &mut Found) -> Option<u32>
     }
 }
 
+/// Adds all volumes.
+#[inline(never)]
+fn add_volumes(
+    alloc: Global,
+    idle: IdlePool,
+    bytes: &mut Vec<u8>,
+    out: &mut Answers,
+    found: &mut Found,
+) -> Result<IdlePool, AllocError> {
+    let mut idle = idle;
+    let mut from = 0;
+    for _ in 0..65_536 {
+        let Some(id) = next_volume(&mut idle, from, found) else {
+            break;
+        };
+        idle = add_volume(alloc, idle, id, bytes, out, found)?;
+        from = id.saturating_add(1);
+    }
+    Ok(idle)
+}
+
 /// Returns all that a pool shows, and of the metadata snapshot the volumes with these numbers.
 #[inline(never)]
 pub(crate) fn look(
@@ -228,14 +249,7 @@ pub(crate) fn look(
     let mut idle = idle;
     let mut found = Found::new(alloc);
     status(&mut idle.pool, &mut found.line)?;
-    let mut from = 0;
-    for _ in 0..65_536 {
-        let Some(id) = next_volume(&mut idle, from, &mut found) else {
-            break;
-        };
-        idle = add_volume(alloc, idle, id, bytes, out, &mut found)?;
-        from = id.saturating_add(1);
-    }
+    let mut idle = add_volumes(alloc, idle, bytes, out, &mut found)?;
     add_copies(alloc, &mut idle.pool, ids, bytes, &mut found)?;
     Ok((found, idle))
 }
