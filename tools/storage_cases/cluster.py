@@ -8,9 +8,8 @@ import time
 
 from device_cases.loops import wants
 from running import LIMIT, Stuck, held, want
-from storage_cases.hosts import Host, make_bridge
+from storage_cases.hosts import hosts_in
 
-REPLICAS, SERVERS = (1, 2, 3), (4, 5)
 # Files that belong to options such as `group virt`.
 GROUPS = "/var/lib/glusterd/groups"
 
@@ -36,26 +35,23 @@ def processes(*words):
 
 @functools.lru_cache(None)
 def cluster_in(folder):
-    """The cluster of a folder. Its daemons run until the tool ends."""
-    wants("glusterd", "gluster", "mount.glusterfs", "nsenter", "ip")
-    return Cluster(f"{folder}/cluster")
+    """The cluster over the hosts of a folder."""
+    wants("glusterd", "gluster", "mount.glusterfs")
+    return Cluster(hosts_in(folder))
 
 
 class Cluster:
-    """The hosts that store the replicas, and those that run servers."""
+    """A cluster of GlusterFS over the hosts that store."""
 
-    def __init__(self, folder):
-        self.folder, self.count = folder, 0
-        os.mkdir(folder)
-        make_bridge()
-        self.storage = [Host(folder, it) for it in REPLICAS]
-        self.servers = [Host(folder, it) for it in SERVERS]
+    def __init__(self, hosts):
+        self.hosts, self.storage, self.servers, self.count = hosts, hosts.storage, hosts.servers, 0
         for it in self.storage:
             shutil.copytree(GROUPS, f"{it.folder}/lib/glusterd/groups")
             it.done("glusterd")
         for it in self.storage[1:]:
             self.gluster("peer", "probe", it.address)
-        soon(lambda: self.gluster("peer", "status").count("(Connected)") == len(REPLICAS) - 1)
+        others = len(self.storage) - 1
+        soon(lambda: self.gluster("peer", "status").count("(Connected)") == others)
 
     def gluster(self, *words):
         return self.storage[0].done("gluster", "--mode=script", *words)
@@ -65,7 +61,7 @@ class Cluster:
         """A new volume with these options, as a folder where both servers have mounted it."""
         self.count += 1
         self.name = f"pools{self.count}"
-        self.shared = folder = f"{self.folder}/{self.name}"
+        self.shared = folder = f"{self.hosts.folder}/{self.name}"
         os.mkdir(folder)
         bricks = [f"{it.address}:{self.replica(it)}" for it in self.storage]
         self.gluster("volume", "create", self.name, "replica", "3", *bricks, "force")
@@ -78,15 +74,11 @@ class Cluster:
                 it.done("mount", "-t", "glusterfs", source, folder)
             yield folder
         finally:
-            self.join_all()
+            self.hosts.join_all()
             for it in self.servers:
                 it.run("umount", "--lazy", folder)
             self.gluster("volume", "stop", self.name, "force")
             self.gluster("volume", "delete", self.name)
-
-    def join_all(self):
-        for it in [*self.storage, *self.servers]:
-            it.join()
 
     def replica(self, host):
         """The folder of a host's replica."""
@@ -109,11 +101,12 @@ class Cluster:
         soon(self.is_healed)
 
     def is_connected(self, host):
-        places = [f"{self.shared}/.meta/graphs/active/{self.name}-client-{it}/private" for it in range(len(REPLICAS))]
-        return host.run("cat", *places).out.count(b"connected = 1\n") == len(REPLICAS)
+        shown = f"{self.shared}/.meta/graphs/active/{self.name}-client"
+        places = [f"{shown}-{it}/private" for it in range(len(self.storage))]
+        return host.run("cat", *places).out.count(b"connected = 1\n") == len(self.storage)
 
     def is_healed(self):
         # Without this the daemons look for differences every 10 minutes.
         self.storage[0].run("gluster", "volume", "heal", self.name)
         told = self.gluster("volume", "heal", self.name, "info") + "\n"
-        return told.count("\nNumber of entries: 0\n") == len(REPLICAS)
+        return told.count("\nNumber of entries: 0\n") == len(self.storage)

@@ -1,12 +1,15 @@
 """Hosts of one machine: each a network, mount and host-name namespace, joined by a bridge.
 
 All are in namespaces of the tool, whose end ends each process in them."""
+import functools
 import os
 import subprocess
 
-from running import run, start, want
+from device_cases.loops import wants
+from running import as_root, run, start, want
 
 BRIDGE, NETWORK = "hosts", "10.77.0."
+STORAGE, SERVERS = (1, 2, 3), (4, 5)
 # An address that moves from one host to another.
 MOVING = f"{NETWORK}100"
 # What a host does when it starts: it gets a name, and folders in place of those of the machine.
@@ -80,3 +83,26 @@ class Host:
 
     def give_up(self, address):
         self.done("ip", "address", "del", f"{address}/24", "dev", "eth0")
+
+
+class Hosts:
+    """Hosts that store, and hosts that run servers. `folder` is that of their files."""
+
+    def __init__(self, folder):
+        self.folder = folder
+        os.mkdir(folder)
+        make_bridge()
+        self.storage = [Host(folder, it) for it in STORAGE]
+        self.servers = [Host(folder, it) for it in SERVERS]
+
+    def join_all(self):
+        for it in [*self.storage, *self.servers]:
+            it.join()
+
+
+@functools.lru_cache(None)
+def hosts_in(folder):
+    """The hosts of a run of the tool. Their daemons run until it ends."""
+    as_root()
+    wants("ip", "nsenter")
+    return Hosts(f"{folder}/hosts")

@@ -2,17 +2,17 @@
 import random
 import struct
 
-from running import FLUSH, READ, WRITE, request, want
+from running import BLOCK, FLUSH, READ, WRITE, request, want
 
 UNIT, SECTOR = 4096, 512
-# How many blocks are written: those of a volume of 1 MiB.
+# How many blocks are written. Each begins a data block of the volume.
 UNITS = 256
 HEAD = struct.Struct("<QQ")
 
 
 def block_of(at, stamp):
-    """The bytes of a block: each sector has the number of its block and this stamp."""
-    return (HEAD.pack(at, stamp) * (SECTOR // HEAD.size)) * (UNIT // SECTOR) if stamp else bytes(UNIT)
+    """The bytes of a block: each sector has the number of the block and this stamp."""
+    return HEAD.pack(at, stamp) * (UNIT // HEAD.size)
 
 
 class Journal:
@@ -27,7 +27,7 @@ class Journal:
         at = self.random.randrange(UNITS)
         self.stamp += 1
         self.later[at].append(self.stamp)
-        return request(WRITE, at * UNIT, data=block_of(at, self.stamp))
+        return request(WRITE, at * BLOCK, data=block_of(at, self.stamp))
 
     def write(self, client):
         """The error that a WRITE is answered."""
@@ -59,7 +59,7 @@ class Journal:
         the others as they are."""
         lost = []
         for at in range(UNITS):
-            data = client.do(READ, at * UNIT, UNIT)
+            data = client.do(READ, at * BLOCK, UNIT)
             stamps = {sector_of(data[it : it + SECTOR], at) for it in range(0, UNIT, SECTOR)}
             if not stamps <= {self.flushed[at], *self.later[at]}:
                 lost.append((at, self.flushed[at], sorted(map(str, stamps))))

@@ -51,7 +51,7 @@ def replica_killed(ground):
 
 
 def replicas_in_turn(ground):
-    """Each of two replicas is killed and returns. With strict locks GlusterFS then fails the file."""
+    """With strict locks GlusterFS fails an open file after that."""
     with scene(ground, STRICT) as it:
         with it.killed(it.first) as server:
             client = server.client()
@@ -103,7 +103,7 @@ def quorum_cut(ground):
             for host in it.cluster.storage[1:]:
                 host.cut()
             told = want_failed(it, server, client)
-            it.cluster.join_all()
+            it.cluster.hosts.join_all()
             it.cluster.heal()
         it.compare(it.second)
     return told
@@ -137,5 +137,5 @@ CASES = [
     ("the link of a replica is cut and returns", link_cut),
     ("two replicas are killed: the pool fails", quorum_killed),
     ("the links of two replicas are cut: the pool fails", quorum_cut),
-    ("the link of an idle server is cut: another host serves, and the first one fails", server_cut),
+    ("an idle server is cut off, and another host serves: the first one fails", server_cut),
 ]

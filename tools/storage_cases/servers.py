@@ -8,7 +8,8 @@ from running import LIMIT, Failed, Place, Server, want
 from storage_cases.cluster import cluster_in
 from storage_cases.journal import UNITS, Journal
 
-SIZES = ["128", "16", "1100", "32"]
+# Sectors of a block, blocks of a volume, of metadata and of the pool.
+SIZES = ["128", str(UNITS), "1100", str(2 * UNITS)]
 # Of a lock that was lost, GlusterFS keeps no copy.
 STRICT = "client.strict-locks on"
 
@@ -60,36 +61,34 @@ def killed(ground, host, image, **how):
         server.kill()
 
 
-def compare(ground, host, image, journal):
-    """Fails if the volume, served by this host, lacks what was flushed, or the image is not clean."""
-    with killed(ground, host, image) as server:
-        journal.compare(server.client())
-    ran = ground.run("check", image, before=host.enter)
-    want(((ran.status, ran.out) == (0, b"clean\n"), f"check: {ran.told()}"))
-
-
 class Scene:
-    """A pool with the empty volume 0 on a volume of GlusterFS with these options, and a journal."""
+    """A pool with the empty volume 0 in an image that two hosts can serve, and a journal."""
 
-    def __init__(self, ground, cluster, folder):
-        self.ground, self.cluster, self.folder = ground, cluster, folder
-        self.first, self.second = cluster.servers
-        self.image, self.journal = f"{folder}/pool.img", Journal(1)
-        self.made("format", self.image, *SIZES)
-        self.made("message", self.image, "create_thin 0")
+    def __init__(self, ground, hosts, image):
+        self.ground, self.hosts, self.image, self.journal = ground, hosts, image, Journal(1)
+        self.first, self.second = hosts
 
-    def made(self, *words):
-        return self.ground.made(*words, before=self.first.enter)
+    def make(self):
+        for words in (["format", self.image, *SIZES], ["message", self.image, "create_thin 0"]):
+            self.ground.made(*words, before=self.first.enter)
 
     def killed(self, host, **how):
         return killed(self.ground, host, self.image, **how)
 
     def compare(self, host):
-        compare(self.ground, host, self.image, self.journal)
+        """Fails if the volume, served by this host, lacks what was flushed, or the check fails."""
+        with self.killed(host) as server:
+            self.journal.compare(server.client())
+        ran = self.ground.run("check", self.image, before=host.enter)
+        want(((ran.status, ran.out) == (0, b"clean\n"), f"check: {ran.told()}"))
 
 
 @contextlib.contextmanager
 def scene(ground, *options):
+    """A pool on a volume of GlusterFS with these options."""
     cluster = cluster_in(os.path.dirname(ground.folder))
     with cluster.volume(*options) as folder:
-        yield Scene(ground, cluster, folder)
+        it = Scene(ground, cluster.servers, f"{folder}/pool.img")
+        it.cluster, it.folder = cluster, folder
+        it.make()
+        yield it
