@@ -110,7 +110,9 @@ class Ceph:
         mine = [it["address"] for it in watchers if it["address"].startswith(f"{host.address}:")]
         want((mine, f"no client of {host.address} in {watchers}"))
         for it in mine:
-            self.done("ceph", "osd", "blocklist", "add", it)
+            words = ["ceph", "--conf", self.conf, "osd", "blocklist", "add", it]
+            # The command gives up if a busy monitor does not answer it soon.
+            soon(lambda: self.host.run(*words).status == 0)
 
 
 @contextlib.contextmanager
