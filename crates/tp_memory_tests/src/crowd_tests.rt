@@ -13,6 +13,7 @@ use tp_crowd::{Served, serve_all};
 use tp_disk::SharedDisk;
 use tp_hub::Hub;
 use tp_meta::Metadata;
+use tp_samples::MemServed;
 
 /// Serves these clients: how many came, how many of them were refused, and the hub behind them. It is generic in the disk and the metadata, so that the prover
 /// compares no pool that is written out.
