@@ -57,12 +57,15 @@ class Cluster:
         return self.storage[0].done("gluster", "--mode=script", *words)
 
     @contextlib.contextmanager
-    def volume(self, *options):
-        """A new volume with these options, as a folder where both servers have mounted it."""
+    def volume(self, *options, size=None):
+        """A new volume with these options, as a folder where both servers have mounted it. Its
+        replicas are in memory if they have a size."""
         self.count += 1
         self.name = f"pools{self.count}"
         self.shared = folder = f"{self.hosts.folder}/{self.name}"
         os.mkdir(folder)
+        if size:
+            self.give_size(size)
         bricks = [f"{it.address}:{self.replica(it)}" for it in self.storage]
         self.gluster("volume", "create", self.name, "replica", "3", *bricks, "force")
         for it in options:
@@ -80,14 +83,32 @@ class Cluster:
             self.gluster("volume", "stop", self.name, "force")
             self.gluster("volume", "delete", self.name)
 
+    def give_size(self, size):
+        """Sets the size of each replica, which is in memory."""
+        for it in self.storage:
+            place, how = self.replica(it), f"size={size}"
+            if os.path.exists(place):
+                how = f"remount,{how}"
+            os.makedirs(place, exist_ok=True)
+            it.done("mount", "-t", "tmpfs", "-o", how, "tmpfs", place)
+
     def replica(self, host):
         """The folder of a host's replica."""
         return f"{host.folder}/{self.name}"
 
     def kill_replica(self, host):
         """Kills the process of a host that serves its replica."""
-        found = [*processes("glusterfsd", f"{self.replica(host)}\0")]
-        want((len(found) == 1, f"{host.name} has {len(found)} processes for its replica"))
+        self.kill_one(processes("glusterfsd", f"{self.replica(host)}\0"), host)
+
+    def kill_mount(self, host):
+        """Kills the process that mounts the volume on a host."""
+        found = processes("glusterfs", "fuse", f"{self.shared}\0")
+        own = host.done("readlink", "/proc/self/ns/mnt")
+        self.kill_one((it for it in found if os.readlink(f"/proc/{it}/ns/mnt") == own), host)
+
+    def kill_one(self, found, host):
+        found = [*found]
+        want((len(found) == 1, f"{host.name} has {len(found)} such processes"))
         os.kill(found[0], signal.SIGKILL)
 
     def restart_replicas(self):

@@ -16,7 +16,9 @@ SERVER = f"driver=nbd,server.type=inet,server.host={MOVING},server.port={PORT},e
 
 def moving(ground):
     """QEMU's reconnect-delay over a killed server, whose address moves to another host"""
-    yield f"qemu-io, {TURNS} times: each flushed block is read", partial(reconnects, ground)
+    yield f"{TURNS} times: each flushed block is read", partial(reconnects, ground, "writeback")
+    name = f"cache=writethrough, {TURNS} times: each block whose WRITE was answered is read"
+    yield name, partial(reconnects, ground, "writethrough")
 
 
 class QemuIo:
@@ -24,11 +26,12 @@ class QemuIo:
 
     PROMPT = b"qemu-io> "
 
-    def __init__(self):
+    def __init__(self, cache):
         wants("qemu-io")
+        self.must_flush = cache == "writeback"
         options = f"{SERVER},reconnect-delay={LIMIT}"
         pipes = {"stdin": subprocess.PIPE, "stdout": subprocess.PIPE, "stderr": subprocess.STDOUT}
-        self.process = start(["qemu-io", "--image-opts", options], **pipes)
+        self.process = start(["qemu-io", "-t", cache, "--image-opts", options], **pipes)
         self.told()
 
     def told(self):
@@ -50,14 +53,14 @@ class QemuIo:
         want((wanted in told and "fail" not in told.lower(), f"{command}: {told}"))
 
     def write(self, at, value):
+        """Writes a block so that it is durable."""
         self.do(f"write -P {value} {at * BLOCK} {BLOCK}", f"wrote {BLOCK}/{BLOCK} bytes")
+        if self.must_flush:
+            self.do("flush")
 
     def read(self, at, value):
         """Fails unless the block has this value."""
         self.do(f"read -P {value} {at * BLOCK} {BLOCK}", f"read {BLOCK}/{BLOCK} bytes")
-
-    def flush(self):
-        self.do("flush")
 
     def end(self):
         kill(self.process)
@@ -71,14 +74,13 @@ def serves(it, host):
     return starts(it.ground, host, it.image, address=MOVING, port=PORT)[0]
 
 
-def reconnects(ground):
+def reconnects(ground, cache):
     with scene(ground, STRICT) as it:
         host, other = it.first, it.second
-        server, client, seconds = serves(it, host), QemuIo(), []
+        server, client, seconds = serves(it, host), QemuIo(cache), []
         try:
             for turn in range(TURNS):
                 client.write(turn, 65 + turn)
-                client.flush()
                 began = time.monotonic()
                 server.kill()
                 host.give_up(MOVING)
@@ -86,7 +88,6 @@ def reconnects(ground):
                 server = serves(it, host)
                 client.write(TURNS + turn, 97 + turn)
                 seconds.append(time.monotonic() - began)
-                client.flush()
                 for at in range(turn + 1):
                     client.read(at, 65 + at)
                     client.read(TURNS + at, 97 + at)

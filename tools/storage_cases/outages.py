@@ -66,6 +66,16 @@ def replicas_in_turn(ground):
     return "then the pool fails" if NBD_EIO in errors else "the pool goes on"
 
 
+def full(ground):
+    """The replicas have no room, and get more after the pool has failed."""
+    with scene(ground, STRICT, size="12m") as it:
+        with it.killed(it.first) as server:
+            told = want_failed(it, server, server.client())
+            it.cluster.give_size("64m")
+        it.compare(it.second)
+    return told
+
+
 def link_cut(ground):
     with scene(ground, STRICT, PING) as it:
         with it.killed(it.first) as server:
@@ -80,6 +90,18 @@ def link_cut(ground):
             it.journal.work(client, WRITES)
         it.compare(it.second)
     return f"{WRITES} WRITEs took {took:.1f} s"
+
+
+def mount_killed(ground):
+    """The process that mounts the volume on the server's host is killed."""
+    with scene(ground, STRICT) as it:
+        with it.killed(it.first) as server:
+            client = server.client()
+            it.journal.work(client, WRITES)
+            it.cluster.kill_mount(it.first)
+            told = want_failed(it, server, client)
+        it.compare(it.second)
+    return told
 
 
 def quorum_killed(ground):
@@ -135,6 +157,8 @@ CASES = [
     ("a replica is killed and returns", replica_killed),
     ("two replicas are killed and return one after the other", replicas_in_turn),
     ("the link of a replica is cut and returns", link_cut),
+    ("the replicas are full: the pool fails", full),
+    ("the mount of the server's host is killed: the pool fails", mount_killed),
     ("two replicas are killed: the pool fails", quorum_killed),
     ("the links of two replicas are cut: the pool fails", quorum_cut),
     ("an idle server is cut off, and another host serves: the first one fails", server_cut),

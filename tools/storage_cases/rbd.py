@@ -3,26 +3,30 @@ import contextlib
 import functools
 import json
 import os
+import signal
 import subprocess
+import time
 import uuid
+from concurrent.futures import ThreadPoolExecutor
 from functools import partial
 
 from device_cases.loops import wants
 from running import FLUSH, WRITE, kill, start, want
-from storage_cases.cluster import soon
+from storage_cases.cluster import processes, soon
 from storage_cases.failover import TURNS, life, told
 from storage_cases.hosts import hosts_in
 from storage_cases.journal import UNIT
 from storage_cases.servers import Scene, starts
 
 NBD_EIO = 5
-WRITES = 60
+WRITES, HANG = 60, 5
 # An image as large as the pool at least.
 SIZE = 64 << 20
-# No passwords, and objects in memory.
+# No passwords, and objects in memory. A client that has no map of the monitors may send a command
+# before it has learned the cluster's id, and fails.
 CONF = """[global]
 fsid = {id}
-mon_host = [v1:{address}:6789]
+monmap = {folder}/monmap
 ms_bind_msgr2 = false
 public_network = {address}/24
 auth_cluster_required = none
@@ -45,6 +49,7 @@ def rbd(ground):
     name = f"a host's server and export are killed {TURNS} times, and another host serves"
     yield name, partial(fails_over, ground)
     yield "a host that is fenced fails, and another one serves", partial(fences, ground)
+    yield f"the storage hangs for {HANG} s: requests wait, and go on", partial(hangs, ground)
 
 
 @functools.lru_cache(None)
@@ -104,15 +109,24 @@ class Ceph:
             kill(daemon)
             host.run("umount", "--lazy", path)
 
+    @contextlib.contextmanager
+    def stopped(self):
+        """The daemon that stores does nothing meanwhile."""
+        found = [*processes("ceph-osd", self.conf)]
+        want((len(found) == 1, f"{len(found)} daemons store"))
+        os.kill(found[0], signal.SIGSTOP)
+        try:
+            yield
+        finally:
+            os.kill(found[0], signal.SIGCONT)
+
     def fence(self, host, name):
         """Refuses what the clients on this host write from now on."""
         watchers = json.loads(self.done("rbd", "status", "--format", "json", name))["watchers"]
         mine = [it["address"] for it in watchers if it["address"].startswith(f"{host.address}:")]
         want((mine, f"no client of {host.address} in {watchers}"))
         for it in mine:
-            words = ["ceph", "--conf", self.conf, "osd", "blocklist", "add", it]
-            # The command gives up if a busy monitor does not answer it soon.
-            soon(lambda: self.host.run(*words).status == 0)
+            self.done("ceph", "osd", "blocklist", "add", it)
 
 
 @contextlib.contextmanager
@@ -122,6 +136,7 @@ def rbd_scene(ground):
     it = Scene(ground, ceph.servers, f"{ceph.folder}/images/{name}")
     it.exported = lambda host: ceph.exported(host, name)
     it.fence = lambda host: ceph.fence(host, name)
+    it.stopped = ceph.stopped
     with it.exported(it.first):
         it.make()
     yield it
@@ -161,3 +176,17 @@ def fences(ground):
         compare(it, it.second)
     want((error == NBD_EIO, f"the fenced server answers {error}"))
     return f"the second server started after {seconds:.1f} s; the first one's requests fail"
+
+
+def hangs(ground):
+    with rbd_scene(ground) as it:
+        with it.exported(it.first), it.killed(it.first) as server, ThreadPoolExecutor(1) as at_once:
+            client = server.client()
+            it.journal.work(client, WRITES)
+            with it.stopped():
+                work = at_once.submit(it.journal.work, client, WRITES)
+                time.sleep(HANG)
+                is_waiting, clients = not work.done(), server.control("clients")
+            work.result()
+        compare(it, it.second)
+    want((is_waiting, "the storage did not hang"), (clients == "1 of 64: 0", f"clients: {clients}"))

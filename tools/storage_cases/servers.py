@@ -1,5 +1,6 @@
 """`thinpool run` on a host, over an image on shared storage."""
 import contextlib
+import copy
 import os
 import socket
 import time
@@ -33,7 +34,10 @@ class HostServer(Server):
 
     def __init__(self, ground, host, image, address=None, port=0):
         self.host, self.listens_at = host, HostPlace(address or host.address, port)
-        super().__init__(ground, image, before=host.enter, is_controlled=True)
+        own = copy.copy(ground)
+        own.folder = ground.path(host.name)
+        os.makedirs(own.folder, exist_ok=True)
+        super().__init__(own, image, before=host.enter, is_controlled=True)
 
     def new_place(self, name, over):
         return self.listens_at if name == "nbd.sock" else HostPlace(self.host.address)
@@ -84,10 +88,10 @@ class Scene:
 
 
 @contextlib.contextmanager
-def scene(ground, *options):
+def scene(ground, *options, **how):
     """A pool on a volume of GlusterFS with these options."""
     cluster = cluster_in(os.path.dirname(ground.folder))
-    with cluster.volume(*options) as folder:
+    with cluster.volume(*options, **how) as folder:
         it = Scene(ground, cluster.servers, f"{folder}/pool.img")
         it.cluster, it.folder = cluster, folder
         it.make()
