@@ -1,6 +1,8 @@
 //! The commands of the program over an image in memory.
 
-use crate::commands::{Ask, CHECK, CREATE, FORMAT, IMAGE, Ran, is_done, outcome_behind, run};
+use crate::commands::{
+    Ask, CHECK, CREATE, CREATE_SECOND, FORMAT, IMAGE, Ran, is_done, outcome_behind, run,
+};
 use crate::outcome::Outcome;
 use crate::talk::session_texts;
 use std::alloc::Global;
@@ -14,9 +16,9 @@ use std::thread::Threads;
 use std::time::Clock;
 use tp_images::{Images, MemImages};
 
-/// What formatting a new image comes to that ended so. It has its size from when it was made on, also where formatting is refused; where there is no memory for
+/// What making a new image comes to that ended so. It has its size from when it was made on, also where formatting is refused; where there is no memory for
 /// the image, it is not there.
-fn outcome_of_made<H>(rt: &H, images: &mut MemImages, ran: &Ran) -> Outcome
+fn outcome_of_made<H>(rt: &H, images: &mut MemImages, ask: &Ask<'_>, ran: &Ran) -> Outcome
 where
     H: Files<File = File>
         + Net<Listener = TcpListener, Stream = TcpStream>
@@ -26,20 +28,20 @@ where
         + Sync
         + Alloc<A = Global>,
 {
-    if ran.is_done(&FORMAT) {
+    if ran.is_done(ask) {
         return Outcome::Done;
     }
     let is_untouched = is_unwritten(images);
     let is_there = images.length(IMAGE).is_some();
-    let is_done = is_done(rt, images, &FORMAT);
-    if ran.is_memory(&FORMAT) {
+    let is_done = is_done(rt, images, ask);
+    if ran.is_memory(ask) {
         return Outcome::refused(is_untouched, is_done);
     }
     Outcome::failed(ran.is_fault() && is_done && !(is_there && is_untouched))
 }
 
-/// The same where it is formatted now.
-fn outcome_of_new<H>(rt: &H, images: &mut MemImages) -> Outcome
+/// The same where it is made now.
+fn outcome_of_new<H>(rt: &H, images: &mut MemImages, ask: &Ask<'_>) -> Outcome
 where
     H: Files<File = File>
         + Net<Listener = TcpListener, Stream = TcpStream>
@@ -49,8 +51,8 @@ where
         + Sync
         + Alloc<A = Global>,
 {
-    match run(rt, images, &FORMAT) {
-        Some(ran) => outcome_of_made(rt, images, &ran),
+    match run(rt, images, ask) {
+        Some(ran) => outcome_of_made(rt, images, ask, &ran),
         None => Outcome::Before,
     }
 }
@@ -68,7 +70,29 @@ fn is_unwritten(images: &mut MemImages) -> bool {
 #[test]
 fn command_format(rt: HostRuntime) {
     let mut images = MemImages::new(rt.alloc());
-    let outcome = outcome_of_new(&rt, &mut images);
+    let outcome = outcome_of_new(&rt, &mut images, &FORMAT);
+    assert!(rt; outcome.is_right(&mut rt.stdout()));
+}
+
+#[test]
+fn command_create(rt: HostRuntime) {
+    let ask = Ask {
+        words: &[
+            "thinpool",
+            "create",
+            IMAGE,
+            "--size",
+            "256K",
+            "--volume-size",
+            "1M",
+            "--volumes",
+            "2",
+        ],
+        input: b"",
+        output: b"128 16 1032 4\n0 9/1032 0/4 - rw no_discard_passdown error_if_no_space - 512\n",
+    };
+    let mut images = MemImages::new(rt.alloc());
+    let outcome = outcome_of_new(&rt, &mut images, &ask);
     assert!(rt; outcome.is_right(&mut rt.stdout()));
 }
 
@@ -114,6 +138,62 @@ fn command_check_and_clear(rt: HostRuntime) {
         output: b"clean\n",
     };
     let outcome = outcome_behind(&rt, &[FORMAT, CREATE], &ask);
+    assert!(rt; outcome.is_right(&mut rt.stdout()));
+}
+
+/// What a listing comes to, over an image with volume 0, of which a sector is written, and an empty volume 1.
+fn outcome_of_listing<H>(rt: &H, words: &[&str], output: &[u8]) -> Outcome
+where
+    H: Files<File = File>
+        + Net<Listener = TcpListener, Stream = TcpStream>
+        + Threads
+        + Wait
+        + Clock
+        + Sync
+        + Alloc<A = Global>,
+{
+    let Ok((input, answers)) = session_texts(rt.alloc()) else {
+        return Outcome::Before;
+    };
+    let feed = Ask {
+        words: &["thinpool", "feed", IMAGE],
+        input: &input,
+        output: &answers,
+    };
+    let ask = Ask {
+        words,
+        input: b"",
+        output,
+    };
+    outcome_behind(rt, &[FORMAT, CREATE, CREATE_SECOND, feed], &ask)
+}
+
+#[test]
+fn command_ls(rt: HostRuntime) {
+    let words = &["thinpool", "ls", IMAGE];
+    let output = b"ID SIZE MAPPED EXCLUSIVE\n0 1048576 65536 65536\n1 1048576 0 0\n";
+    let outcome = outcome_of_listing(&rt, words, output);
+    assert!(rt; outcome.is_right(&mut rt.stdout()));
+}
+
+#[test]
+fn command_map(rt: HostRuntime) {
+    let words = &["thinpool", "map", IMAGE, "0"];
+    let outcome = outcome_of_listing(&rt, words, b"0 65536\n");
+    assert!(rt; outcome.is_right(&mut rt.stdout()));
+}
+
+#[test]
+fn command_delta(rt: HostRuntime) {
+    let words = &["thinpool", "delta", IMAGE, "1", "0"];
+    let outcome = outcome_of_listing(&rt, words, b"0 65536\n65536 983040 hole\n");
+    assert!(rt; outcome.is_right(&mut rt.stdout()));
+}
+
+#[test]
+fn command_free(rt: HostRuntime) {
+    let words = &["thinpool", "free", IMAGE];
+    let outcome = outcome_of_listing(&rt, words, b"4292608 196608\n");
     assert!(rt; outcome.is_right(&mut rt.stdout()));
 }
 

@@ -46,6 +46,13 @@ pub(crate) const CREATE: Ask<'static> = Ask {
     output: b"ok\n",
 };
 
+/// One that makes volume 1.
+pub(crate) const CREATE_SECOND: Ask<'static> = Ask {
+    words: &["thinpool", "message", IMAGE, "create_thin 1"],
+    input: b"",
+    output: b"ok\n",
+};
+
 /// One that finds the image clean.
 pub(crate) const CHECK: Ask<'static> = Ask {
     words: &["thinpool", "check", IMAGE],
@@ -81,19 +88,38 @@ impl Ran {
     /// Whether it is refused for memory, behind a beginning of what is printed where nothing is refused.
     pub(crate) fn is_memory(&self, ask: &Ask<'_>) -> bool {
         self.status == Status::Refused
-            && self.errors.as_slice() == b"thinpool: 10 Memory\n".as_slice()
+            && tells(&self.errors, MEMORY)
             && ask.output.starts_with(&self.output)
     }
 
     /// Whether it is refused since the disk failed, or at closing since it had; what is printed before may tell so too.
     pub(crate) fn is_fault(&self) -> bool {
-        self.status == Status::Refused && is_failure(&self.errors)
+        self.status == Status::Refused
+            && (tells(&self.errors, "thinpool: 5 Fault\n")
+                || tells(&self.errors, "thinpool: 21 Failed\n"))
     }
 }
 
-/// Whether this is told where a disk fails.
-fn is_failure(told: &[u8]) -> bool {
-    told == b"thinpool: 5 Fault\n".as_slice() || told == b"thinpool: 21 Failed\n".as_slice()
+/// The line of a call that was refused memory.
+pub(crate) const MEMORY: &str = "thinpool: 10 Memory\n";
+
+/// Whether this is one line that explains an error, or nothing: some commands explain theirs.
+pub(crate) fn is_explanation(text: &str) -> bool {
+    match text.split_once("\n") {
+        None => text.is_empty(),
+        Some((line, rest)) => line.starts_with("thinpool: ") && rest.is_empty(),
+    }
+}
+
+/// Whether this error is told, and nothing else but its explanation.
+fn tells(told: &[u8], error: &str) -> bool {
+    let Ok(text) = std::str::from_utf8(told) else {
+        return false;
+    };
+    match text.strip_prefix(error) {
+        Some(rest) => is_explanation(rest),
+        None => false,
+    }
 }
 
 /// Runs the program.

@@ -1,4 +1,4 @@
-//! Serving clients at once, one of whom may be refused memory or a thread.
+//! Serving two clients at once, one or both of whom may be refused memory or a thread.
 
 use crate::disks::Before;
 use crate::guests::{Guest, Seen, Silence};
@@ -6,12 +6,14 @@ use crate::outcome::Outcome;
 use crate::pools::{hub_of_volume, is_kept};
 use crate::talk::{READS, texts_of_reads};
 use std::alloc::Global;
+use std::io::Write;
 use std::sync::Wait;
 use std::thread::Threads;
 use tp_crowd::{Served, serve_all};
 use tp_disk::SharedDisk;
 use tp_hub::Hub;
 use tp_meta::Metadata;
+use tp_samples::MemServed;
 
 /// Serves these clients: how many came, how many of them were refused, and the hub behind them. It is generic in the disk and the metadata, so that the prover
 /// compares no pool that is written out.
@@ -65,8 +67,11 @@ where
 }
 
 /// What serving came to, with what is told of it: who is refused is one who was neither sent anything nor read from.
-fn outcome<H>(
+///
+/// It prints how many are told as refused. No allocation is refused behind that.
+fn outcome<H, W: Write>(
     rt: &H,
+    output: &mut W,
     counts: (u8, u64),
     untouched: Option<u64>,
     hub: Hub<MemServed>,
@@ -76,16 +81,24 @@ fn outcome<H>(
 where
     H: Threads + Wait + Sync + Alloc<A = Global>,
 {
-    let is_told = counts.0 == 2 && untouched == Some(counts.1);
-    match counts.1 {
+    let (came, refused) = counts;
+    let is_told = came == 2 && untouched == Some(refused);
+    let _ = writeln!(output, "clients refused: {refused}");
+    match refused {
         0 => Outcome::done(is_kept(hub, before) && is_told),
-        1 => Outcome::refused(is_told, is_served_again(rt, hub, visit, before)),
+        1 | 2 => Outcome::refused(is_told, is_served_again(rt, hub, visit, before)),
         _ => Outcome::Wrong,
     }
 }
 
 /// What serving two clients comes to.
-fn outcome_over<H>(rt: &H, hub: Hub<MemServed>, visit: &Visit, before: &Before) -> Outcome
+fn outcome_over<H, W: Write>(
+    rt: &H,
+    output: &mut W,
+    hub: Hub<MemServed>,
+    visit: &Visit,
+    before: &Before,
+) -> Outcome
 where
     H: Threads + Wait + Sync + Alloc<A = Global>,
 {
@@ -98,29 +111,29 @@ where
     };
     let (counts, hub) = serve(rt, hub, clients);
     let untouched = untouched(&first, &second, visit.wanted.len());
-    outcome(rt, counts, untouched, hub, visit, before)
+    outcome(rt, output, counts, untouched, hub, visit, before)
 }
 
 /// The same over the pool of a volume.
-fn outcome_of_visit<H>(rt: &H, visit: &Visit) -> Outcome
+fn outcome_of_visit<H, W: Write>(rt: &H, output: &mut W, visit: &Visit) -> Outcome
 where
     H: Threads + Wait + Sync + Alloc<A = Global>,
 {
     match hub_of_volume(rt.alloc()) {
-        Some((hub, before)) => outcome_over(rt, hub, visit, &before),
+        Some((hub, before)) => outcome_over(rt, output, hub, visit, &before),
         None => Outcome::Before,
     }
 }
 
 /// The same of clients that send reads.
-fn outcome_of<H>(rt: &H) -> Outcome
+fn outcome_of<H, W: Write>(rt: &H, output: &mut W) -> Outcome
 where
     H: Threads + Wait + Sync + Alloc<A = Global>,
 {
     match texts_of_reads(rt.alloc(), READS) {
         Ok((text, wanted)) => {
             let visit = Visit { text, wanted };
-            outcome_of_visit(rt, &visit)
+            outcome_of_visit(rt, output, &visit)
         }
         Err(_) => Outcome::Before,
     }
@@ -128,9 +141,10 @@ where
 
 #[test]
 fn serve_two_clients(rt: HostRuntime) {
-    let outcome = match outcome_of(&rt) {
-        Outcome::Before => Outcome::before(outcome_of(&rt)),
+    let mut output = rt.stdout();
+    let outcome = match outcome_of(&rt, &mut output) {
+        Outcome::Before => Outcome::before(outcome_of(&rt, &mut output)),
         outcome => outcome,
     };
-    assert!(rt; outcome.is_right(&mut rt.stdout()));
+    assert!(rt; outcome.is_right(&mut output));
 }

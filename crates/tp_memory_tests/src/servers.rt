@@ -1,7 +1,7 @@
 //! The program that serves clients over the system's sockets, and one who comes to it. He takes no memory.
 
 use crate::beside::has_begun;
-use crate::commands::{IMAGE, NO_TERMINAL};
+use crate::commands::{IMAGE, MEMORY, NO_TERMINAL, is_explanation};
 use crate::talk::{ANSWERED_BLANK, GO, READ};
 use std::alloc::{AllocError, Global};
 use std::fs::File;
@@ -80,9 +80,15 @@ impl<'a> Notice<'a> {
         addresses_in(&self.said).is_some()
     }
 
-    /// Whether the last that the program said is that it was refused memory.
+    /// Whether the last that the program said is that it was refused memory, and why it needs it.
     pub(crate) fn has_memory(&self) -> bool {
-        self.said.ends_with(b"thinpool: 10 Memory\n")
+        let Ok(text) = std::str::from_utf8(&self.said) else {
+            return false;
+        };
+        match text.split_once(MEMORY) {
+            Some((_, rest)) => is_explanation(rest),
+            None => false,
+        }
     }
 }
 

@@ -26,8 +26,9 @@ are the volumes 8388608 to 8388671; at the start all volumes with these ids are 
 can open or list a volume with an id of 8388608 or more.
 
 The log on standard error has one line for each event, with the time in UTC: a client connects or
-disconnects (with its volume, requests and bytes); a control line changed something; the pool
-failed, and why; free data or metadata falls below PERCENT %, once each time. With --quiet only
+disconnects (with its volume, requests and bytes), waits for a slot, or names a volume that does not
+exist; a control line changed something; free data or metadata falls below PERCENT %, is used up, or
+is free again; a request is refused for lack of space; the pool failed, and why. With --quiet only
 errors are logged, and the listen addresses are not printed.
 
 With --control the server also replies to control lines: those of 'serve --control', and
