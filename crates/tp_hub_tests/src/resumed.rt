@@ -125,7 +125,13 @@ fn a_full_buffer_loses_no_answer(rt: HostRuntime) -> Result<(), Fail> {
 #[test]
 fn a_run_takes_what_memory_holds(rt: HostRuntime) -> Result<(), Fail> {
     let (answered, came) = came_of_reads(rt.alloc(), Answers::new(rt.alloc()))?;
-    let told = (answered, came.in_order, came.messages, came.bytes, came.runs);
+    let told = (
+        answered,
+        came.in_order,
+        came.messages,
+        came.bytes,
+        came.runs,
+    );
     let gone = GREETED + GONE;
     assert!(rt; told == (gone, READS, 1, gone + READS * ALL_GIVEN, 1));
     Ok(())
