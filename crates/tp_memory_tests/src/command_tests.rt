@@ -142,7 +142,7 @@ fn command_check_and_clear(rt: HostRuntime) {
 }
 
 /// What a listing comes to, over an image with volume 0, of which a sector is written, and an empty volume 1.
-fn outcome_of_listing<H>(rt: &H, words: &[&str], output: &[u8]) -> Outcome
+fn outcome_of_listing<'a, H>(rt: &H, words: &'a [&'a str], output: &'a [u8]) -> Outcome
 where
     H: Files<File = File>
         + Net<Listener = TcpListener, Stream = TcpStream>
