@@ -142,7 +142,7 @@ fn command_check_and_clear(rt: HostRuntime) {
 }
 
 /// What a listing comes to, over an image with volume 0, of which a sector is written, and an empty volume 1.
-fn outcome_of_listing<'a, H>(rt: &H, words: &'a [&'a str], output: &'a [u8]) -> Outcome
+fn outcome_of_listing<H>(rt: &H, ask: &Ask<'_>) -> Outcome
 where
     H: Files<File = File>
         + Net<Listener = TcpListener, Stream = TcpStream>
@@ -160,40 +160,50 @@ where
         input: &input,
         output: &answers,
     };
-    let ask = Ask {
-        words,
-        input: b"",
-        output,
-    };
-    outcome_behind(rt, &[FORMAT, CREATE, CREATE_SECOND, feed], &ask)
+    outcome_behind(rt, &[FORMAT, CREATE, CREATE_SECOND, feed], ask)
 }
 
 #[test]
 fn command_ls(rt: HostRuntime) {
-    let words = &["thinpool", "ls", IMAGE];
-    let output = b"ID SIZE MAPPED EXCLUSIVE\n0 1048576 65536 65536\n1 1048576 0 0\n";
-    let outcome = outcome_of_listing(&rt, words, output);
+    let ask = Ask {
+        words: &["thinpool", "ls", IMAGE],
+        input: b"",
+        output: b"ID SIZE MAPPED EXCLUSIVE\n0 1048576 65536 65536\n1 1048576 0 0\n",
+    };
+    let outcome = outcome_of_listing(&rt, &ask);
     assert!(rt; outcome.is_right(&mut rt.stdout()));
 }
 
 #[test]
 fn command_map(rt: HostRuntime) {
-    let words = &["thinpool", "map", IMAGE, "0"];
-    let outcome = outcome_of_listing(&rt, words, b"0 65536\n");
+    let ask = Ask {
+        words: &["thinpool", "map", IMAGE, "0"],
+        input: b"",
+        output: b"0 65536\n",
+    };
+    let outcome = outcome_of_listing(&rt, &ask);
     assert!(rt; outcome.is_right(&mut rt.stdout()));
 }
 
 #[test]
 fn command_delta(rt: HostRuntime) {
-    let words = &["thinpool", "delta", IMAGE, "1", "0"];
-    let outcome = outcome_of_listing(&rt, words, b"0 65536\n65536 983040 hole\n");
+    let ask = Ask {
+        words: &["thinpool", "delta", IMAGE, "1", "0"],
+        input: b"",
+        output: b"0 65536\n65536 983040 hole\n",
+    };
+    let outcome = outcome_of_listing(&rt, &ask);
     assert!(rt; outcome.is_right(&mut rt.stdout()));
 }
 
 #[test]
 fn command_free(rt: HostRuntime) {
-    let words = &["thinpool", "free", IMAGE];
-    let outcome = outcome_of_listing(&rt, words, b"4292608 196608\n");
+    let ask = Ask {
+        words: &["thinpool", "free", IMAGE],
+        input: b"",
+        output: b"4292608 196608\n",
+    };
+    let outcome = outcome_of_listing(&rt, &ask);
     assert!(rt; outcome.is_right(&mut rt.stdout()));
 }
 
