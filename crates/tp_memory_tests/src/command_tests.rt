@@ -141,6 +141,15 @@ fn command_check_and_clear(rt: HostRuntime) {
     assert!(rt; outcome.is_right(&mut rt.stdout()));
 }
 
+/// The call that feeds the image a session, of which these are the texts.
+fn feed_of<'a>(texts: &'a (Vec<u8>, Vec<u8>)) -> Ask<'a> {
+    Ask {
+        words: &["thinpool", "feed", IMAGE],
+        input: &texts.0,
+        output: &texts.1,
+    }
+}
+
 /// What a listing comes to, over an image with volume 0, of which a sector is written, and an empty volume 1.
 fn outcome_of_listing<H>(rt: &H, ask: &Ask<'_>) -> Outcome
 where
@@ -152,14 +161,10 @@ where
         + Sync
         + Alloc<A = Global>,
 {
-    let Ok((input, answers)) = session_texts(rt.alloc()) else {
+    let Ok(texts) = session_texts(rt.alloc()) else {
         return Outcome::Before;
     };
-    let feed = Ask {
-        words: &["thinpool", "feed", IMAGE],
-        input: &input,
-        output: &answers,
-    };
+    let feed = feed_of(&texts);
     outcome_behind(rt, &[FORMAT, CREATE, CREATE_SECOND, feed], ask)
 }
 
