@@ -23,3 +23,4 @@ pub mod Holing
 pub mod Filling
 pub mod Flushing
 pub mod Zeros
+pub mod Batching

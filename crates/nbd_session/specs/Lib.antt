@@ -10,3 +10,4 @@ pub mod Status
 pub mod Holes
 pub mod Spans
 pub mod Flushes
+pub mod Batches

@@ -10,6 +10,8 @@ use Rattle.nbd_wire.specs.declared.Request.{Request}
 use Rattle.nbd_wire.specs.declared.TheConstants.{COMMAND_READ, COMMAND_WRITE, COMMAND_DISC, COMMAND_FLUSH, COMMAND_TRIM, COMMAND_WRITE_ZEROES, COMMAND_BLOCK_STATUS}
 use Rattle.nbd_wire.specs.Grammar.{Message, client_flags, client_option, command, malformed, IsRequest}
 use Rattle.nbd_session.specs.declared.phase.Manner.{Manner}
+use Rattle.nbd_session.specs.declared.batch.PieceKind.{PieceKind}
+use Rattle.nbd_session.specs.declared.batch.PieceKind.TheVariants as kinds
 use Rattle.nbd_session.specs.declared.request.Verdict.{Verdict}
 use Rattle.nbd_session.specs.declared.request.Verdict.TheVariants as verdicts
 
@@ -181,17 +183,30 @@ IsTested verdicts.Status size r = IsLeft size r
 abbrev pub is_look : Request → Bool
 is_look r = r.kind == COMMAND_READ || r.kind == COMMAND_BLOCK_STATUS
 
--- a READ or a BLOCK_STATUS stands whole at the front of a text
-pub record BeginsWithLook (text : List ℕ) : Type 0 where
+abbrev pub is_flush_request : Request → Bool
+is_flush_request r = r.kind == COMMAND_FLUSH
+
+-- a request of which this is so stands whole at the front of a text
+pub record BeginsWith (Such : Request → Bool) (text : List ℕ) : Type 0 where
   pub request : Request
+  pub payload : List ℕ
   pub frame : List ℕ
   pub rest : List ℕ
-  pub kind : IsTrue (is_look request)
-  pub is_frame : IsRequest frame request []
+  pub kind : IsTrue (Such request)
+  pub is_frame : IsRequest frame request payload
   pub text_is : text ≡ frame ++ rest
 
-abbrev pub is_look_message : Message → Bool
-is_look_message (client_flags no_zeroes) = false
-is_look_message (client_option option payload) = false
-is_look_message (command request payload) = is_look request
-is_look_message malformed = false
+-- of which kind the request is that stands whole at the front of a text
+abbrev pub IsKindOf : List ℕ → PieceKind → Type 0
+IsKindOf text kinds.Look = BeginsWith is_look text
+IsKindOf text kinds.Flush = BeginsWith is_flush_request text
+IsKindOf text kinds.Other = (BeginsWith is_look text → ⊥) × (BeginsWith is_flush_request text → ⊥)
+
+abbrev pub kind_of_request : Request → PieceKind
+kind_of_request r = if is_look r then kinds.Look else if is_flush_request r then kinds.Flush else kinds.Other
+
+abbrev pub kind_of_message : Message → PieceKind
+kind_of_message (client_flags no_zeroes) = kinds.Other
+kind_of_message (client_option option payload) = kinds.Other
+kind_of_message (command request payload) = kind_of_request request
+kind_of_message malformed = kinds.Other

@@ -15,7 +15,8 @@ use crate::phase::{Course, Manner, Phase};
 use nbd_wire::{Kind, MAX_FRAME, Request, read_frame, wanted};
 use tp_model::{Cloned, DevId, Volumes};
 
-fn kind_of(phase: &Phase) -> Option<Kind>
+/// Of which kind the frames are that come next, where any do.
+pub fn kind_of(phase: &Phase) -> Option<Kind>
     ensures { result ≡ kind_in phase.now }
 {
     match phase {

@@ -7,6 +7,7 @@
 
 mod advance;
 mod answer;
+mod batch;
 mod buffers;
 mod clones;
 mod feeding;
@@ -27,6 +28,7 @@ mod spans;
 mod status;
 
 pub use answer::{MAX_ANSWER, SHORT_ANSWER};
+pub use batch::{PieceKind, kind_of_piece};
 pub use buffers::give_back;
 pub use feeding::feed;
 pub use laws::{
@@ -38,4 +40,3 @@ pub use phase::{
     ContextOf, Course, FIRST_CLONE, MOST_CLONES, Manner, Phase, Profile, Terms, has_clones,
 };
 pub use session::{Answered, Session, Step};
-pub use shared::begins_with_look;

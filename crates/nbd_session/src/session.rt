@@ -2,8 +2,9 @@
 
 ghost use Rattle.std.specs.Prelude.{◌≡◌, ◌<◌, ◌≤◌, [], false, length, take, vec_capacity, IfOk, IfErr, IfSome, None, ⊤};
 
-use crate::advance::{advance, has_ended_in};
+use crate::advance::{advance, has_ended_in, kind_of};
 use crate::answer::{MAX_ANSWER, SHORT_ANSWER, end};
+use crate::batch::next_len;
 use crate::buffers::give_back;
 use crate::flushes::{flushed, is_at_flush};
 use crate::phase::{Phase, Profile, has_older, is_at_work, is_to_flush};
@@ -78,8 +79,9 @@ impl Session {
     ghost use Rattle.std.specs.Prelude.{None, true};
     ghost use Rattle.tp_model.specs.Flushing.{IsFlushed};
     ghost use Rattle.nbd_session.specs.Flushes.{IsAtFlush};
-    ghost use Rattle.nbd_session.specs.Requests.{BeginsWithLook};
-    ghost use Rattle.nbd_session.specs.Session.{has_older, is_at_work, is_to_flush, left_in, state};
+    ghost use Rattle.nbd_session.specs.Requests.{BeginsWith, is_look};
+    ghost use Rattle.nbd_session.specs.Batches.{IsNext};
+    ghost use Rattle.nbd_session.specs.Session.{has_older, is_at_work, is_to_flush, kind_of, left_in, state};
     ghost use Rattle.nbd_session.specs.Clauses.{Advances, IsCalm, IsReady, Leaves};
     ghost use Rattle.nbd_session.specs.contracts.session.Session.{the_row};
     ghost use mathlib.Core.Option.{none};
@@ -139,6 +141,20 @@ impl Session {
             return false;
         }
         is_at_flush(self.phase, piece)
+    }
+
+    /// How many bytes of a piece it takes before others may have the pool: up to the end of the frame
+    /// of which it holds a part, and else of its first 16 frames at most, or up to a FLUSH or a LIST,
+    /// and of one of these alone.
+    pub fn batch_len(&self, piece: &[u8]) -> usize
+        ensures few { IfSome (kind_of self.now.phase) (λ kind. IsNext kind self.now.held piece.now result) }
+        ensures most { result ≤ length piece.now }
+        ensures some { 0 < length piece.now → 0 < result }
+    {
+        match kind_of(&self.phase) {
+            None => piece.len(),
+            Some(kind) => next_len(kind, &self.input[..self.filled], piece),
+        }
     }
 
     /// Whether it is told since an older volume, at which its BLOCK_STATUSes look too.
@@ -278,7 +294,7 @@ impl Session {
         requires ready { IsReady self.now.phase (V.view.outline (S.of pool.now)) (V.view.more (S.of pool.now)) }
         requires room { SHORT_ANSWER ≤ length out.old }
         ensures steps { IfSome result (λ a. Advances V.view self.now (S.of pool.now) piece.now a.taken (take a.sent out.new) a.ended self.now (S.of pool.now)) }
-        ensures begins { IfSome result (λ a. BeginsWithLook piece.now) }
+        ensures begins { IfSome result (λ a. BeginsWith is_look piece.now) }
         ensures goes_on { IfSome result (λ a. (a.ended ≡ false) × (0 < a.taken) × (a.taken ≤ length piece.now)) }
         ensures fits { IfSome result (λ a. a.sent ≤ length out.new) }
         ensures len { length out.new ≡ length out.old }

@@ -3,8 +3,7 @@
 ghost use Rattle.std.specs.Prelude.{◌≡◌, ◌≤◌, ◌<◌, ◌+◌, ◌/◌, ℕ, List, [], false, length, take, drop, IfSome, IsTrue, MatchBool};
 ghost use Rattle.tp_model.specs.Calls.{Read};
 ghost use Rattle.tp_model.specs.Clauses.{PoolCall};
-ghost use Rattle.nbd_wire.specs.Reading.{message_of};
-ghost use Rattle.nbd_session.specs.Requests.{BeginsWithLook, IsWhole, is_look, is_look_message, known_bytes, verdict_in};
+ghost use Rattle.nbd_session.specs.Requests.{BeginsWith, IsWhole, is_look, known_bytes, verdict_in};
 ghost use Rattle.nbd_session.specs.Session.{AnswersRead, Performs, ReadsInChunks, ReadsLong, SeeksFrom, Serves, Steps, chunk_to, is_at_work, reply_to, state};
 ghost use Rattle.nbd_session.specs.Status.{unit_of};
 ghost use Rattle.nbd_session.specs.Clauses.{IsReady};
@@ -12,7 +11,7 @@ ghost use Rattle.nbd_session.specs.Clauses.{IsReady};
 use crate::answer::{SHORT_ANSWER, has_room, put_read_chunk_head, put_read_head};
 use crate::holes::{has_blank, may_have_holes, put_holes};
 use crate::phase::{Course, Manner, Phase};
-use crate::request::{Verdict, is_look, judge_in};
+use crate::request::{Verdict, judge_in};
 use crate::session::Answered;
 use crate::status::{describe_shared, first_block, unit_of};
 use nbd_wire::{Frame, Kind, Request, read_frame, wanted};
@@ -196,7 +195,7 @@ pub fn take_read<V: Volumes, S: SharedReads<V>>(
     requires room { SHORT_ANSWER ≤ length out.old }
     ensures steps { IfSome result (λ a. Steps V.view.outline (PoolCall V.view) (state phase []) (S.of pool.now) piece.now a.taken (take a.sent out.new) a.ended (state phase []) (S.of pool.now)) }
     ensures idle { IfSome result (λ a. is_at_work phase ≡ false) }
-    ensures begins { IfSome result (λ a. BeginsWithLook piece.now) }
+    ensures begins { IfSome result (λ a. BeginsWith is_look piece.now) }
     ensures goes_on { IfSome result (λ a. (a.ended ≡ false) × (0 < a.taken) × (a.taken ≤ length piece.now)) }
     ensures fits { IfSome result (λ a. a.sent ≤ length out.new) }
     ensures len { length out.new ≡ length out.old }
@@ -230,26 +229,4 @@ pub fn take_read<V: Volumes, S: SharedReads<V>>(
         },
         _ => None,
     }
-}
-
-/// Whether a frame is a READ or a BLOCK_STATUS.
-fn is_look_frame(frame: Frame<'_>) -> bool
-    ensures { result ≡ is_look_message (message_of frame.entry) }
-{
-    match frame {
-        Frame::Command { request, .. } => is_look(&request),
-        _ => false,
-    }
-}
-
-/// Whether a READ or a BLOCK_STATUS stands whole at the front of a piece. None of its tests is made. Where it is false no session answers the piece by a shared read or
-/// walk.
-pub fn begins_with_look(piece: &[u8]) -> bool
-    ensures { MatchBool result (BeginsWithLook piece.now) (BeginsWithLook piece.now → ⊥) }
-{
-    let length = wanted(Kind::Requests, piece);
-    if length > piece.len() {
-        return false;
-    }
-    is_look_frame(read_frame(Kind::Requests, &piece[..length]))
 }
