@@ -19,3 +19,4 @@ mod Ordering
 pub mod Living
 mod Covering
 mod Wrote
+mod Fronts

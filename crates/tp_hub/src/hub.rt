@@ -287,6 +287,33 @@ impl<V: Managed> Hub<V> {
             bytes: took.bytes,
         }
     }
+
+    /// Takes one event as `take` does, and of the piece of a `Parted` no more than a batch
+    /// (`Session::batch_len`), so that others may have the hub before the rest of it.
+    pub fn take_batch(&mut self, alloc: Global, event: Event<'_>, out: &mut Answers) -> Ran
+        requires { session_of event < 64 }
+        ensures asked { IsAsked (λ took answers. RunsSo V.view (sessions_of self.old.slots) self.old.pool took answers (sessions_of self.new.slots) self.new.pool)
+            (incoming event.entry) result.events result.bytes out.old out.new }
+        ensures made { (n : ℕ) → is_parted_to n event.entry ≡ false → incoming event.entry ≡ Brings n [] → 0 < result.events → IsIdle (sessions_of self.new.slots) n }
+    {
+        match event {
+            Event::Parted(number, piece) => {
+                let count = batch_len(&self.sessions, number, piece);
+                let ran = self.take(alloc, Event::Parted(number, &piece[..count]), out);
+                if count >= piece.len() {
+                    return ran;
+                }
+                if ran.events == 0 {
+                    return ran;
+                }
+                Ran {
+                    events: 0,
+                    bytes: count,
+                }
+            }
+            other => self.take(alloc, other, out),
+        }
+    }
 }
 
 /// Whether a session is open under a number.
@@ -333,6 +360,19 @@ pub(crate) fn at_flush(sessions: &[Option<Session>; SESSIONS], number: u8, piece
     match &sessions[usize::from(number)] {
         None => false,
         Some(session) => session.begins_flush(piece),
+    }
+}
+
+/// How many bytes of a piece the session of a number takes before others may have the hub.
+fn batch_len(sessions: &[Option<Session>; SESSIONS], number: u8, piece: &[u8]) -> usize
+    requires count { length sessions.now ≡ 64 }
+    requires number { number < 64 }
+    ensures most { result ≤ length piece.now }
+    ensures some { 0 < length piece.now → 0 < result }
+{
+    match &sessions[usize::from(number)] {
+        None => piece.len(),
+        Some(session) => session.batch_len(piece),
     }
 }
 

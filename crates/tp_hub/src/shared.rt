@@ -11,8 +11,11 @@ use crate::hub::{Ran, SESSIONS};
 use nbd_session::Session;
 use tp_model::{SharedReads, Volumes};
 
-/// A session hears the READs and BLOCK_STATUSes with which a piece begins, as long as a shared read or walk answers each: how many bytes they have. Room is made
-/// before each.
+/// At most so many READs and BLOCK_STATUSes of a client are taken before others may have the hub alone.
+const MOST_LOOKS: u32 = 16;
+
+/// A session hears the READs and BLOCK_STATUSes with which a piece begins, as long as a shared read or walk answers each, 16 at most: how many bytes they
+/// have. Room is made before each.
 fn hear<V: Volumes, S: SharedReads<V>>(
     session: &Session,
     pool: &S,
@@ -27,7 +30,10 @@ fn hear<V: Volumes, S: SharedReads<V>>(
     ensures within { result ≤ length piece.now }
 {
     let mut at = 0;
-    while at < piece.len() {
+    for look in 0..MOST_LOOKS {
+        if at >= piece.len() {
+            return at;
+        }
         if out.make_room().is_err() {
             return at;
         }

@@ -2,6 +2,5 @@ mod Locking
 mod Going
 mod Keeping
 mod Ordering
-mod Ends
 mod Counting
 mod Seeing

@@ -1,4 +1,4 @@
--- Trusted reading: how the bytes of a client fall into frames, one byte after another, and how much of them is asked in a turn (own).
+-- Trusted reading: how the bytes of a client fall into frames, one byte after another (own).
 use Rattle.std.specs.Prelude.{ℕ, zero, suc, ◌+◌, ◌-◌, Bool, false, List, [], ◌∷◌, ◌++◌, length, take, drop, min, nat_lt, nat_eq, slice_index_or, ◌%◌, ◌==◌, ◌||◌, ◌&&◌, if◌then◌else◌}
 use Rattle.std.specs.Int.{w32, to_be_bytes}
 use Rattle.std.specs.List.{starts_with}
@@ -96,33 +96,6 @@ given_in (call ∷ calls) = bytes_of call ++ given_in calls
 -- of a client of whom nothing was read
 abbrev pub at_first : Framed
 at_first = framed Flags [] 0
-
--- ---- a turn
-
--- the end of the first request in some bytes, as far as they go
-abbrev pub first_end : List ℕ → ℕ
-first_end bytes = min (wanted Requests bytes) (length bytes)
-
--- A request may keep what was written where it is a FLUSH, or has the flag FUA: its flags stand behind the magic number, and its type behind them. Only turns are
--- cut by that.
-abbrev pub is_to_keep : List ℕ → Bool
-is_to_keep bytes = (slice_index_or bytes 5 0 % 2 == 1) || (slice_index_or bytes 6 0 == 0 && slice_index_or bytes 7 0 == 3)
-
--- the end of the next request of a turn, in the bytes behind those of the turn so far: of one that may keep what was written only where it is the first
-abbrev pub more_of : ℕ → List ℕ → ℕ
-more_of at rest = if nat_lt 0 at && is_to_keep rest then 0 else first_end rest
-
--- the end of so many of them
-unfoldable pub end_of : ℕ → List ℕ → ℕ
-end_of zero bytes = 0
-end_of (suc n) bytes = end_of n bytes + more_of (end_of n bytes) (drop (end_of n bytes) bytes)
-
-abbrev pub begins_as_request : List ℕ → Bool
-begins_as_request bytes = starts_with nat_eq bytes (to_be_bytes w32 REQUEST_MAGIC)
-
--- how many bytes are asked at once: up to the end of the sixteenth request, or to the next one that may keep what was written, or all where they begin with none
-abbrev pub turn_of : List ℕ → ℕ
-turn_of bytes = if begins_as_request bytes then end_of 16 bytes else length bytes
 
 -- ---- who was refused
 

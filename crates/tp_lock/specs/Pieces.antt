@@ -1,16 +1,12 @@
--- Internal: whose a piece is, what it begins with, and which events ask for a flush.
+-- Internal: whose a piece is, and which events ask for a flush.
 use Rattle.std.specs.Prelude.{◌≡◌, ℕ, Bool, true, false, ◌⊎◌, List, Option, None, Some, if◌then◌else◌}
 use Rattle.nbd_session.specs.Flushes.{IsAtFlush}
-use Rattle.nbd_session.specs.Requests.{BeginsWithLook}
 use Rattle.nbd_session.specs.Session.{is_to_flush}
 use Rattle.nbd_session.specs.Turns.{Sessions}
 use Rattle.tp_hub.specs.Runs.{AsksDeltaOf, AsksFlush, AsksLine, AsksLineOf, AsksMapOf, AsksSizeOf, Brings, Comes, Goes, Incoming, Orders}
 use Rattle.tp_hub.specs.Serving.{Slots, sessions_of}
 use Rattle.tp_lock.specs.declared.order.HubUse.{HubUse}
 use Rattle.tp_lock.specs.declared.order.HubUse.TheVariants as purposes
-use Rattle.tp_lock.specs.declared.turns.PieceKind.{PieceKind}
-use Rattle.tp_lock.specs.declared.turns.PieceKind.TheVariants.{Look, MayFlush, Other}
-use Rattle.tp_lock.specs.Framing.{is_to_keep}
 
 -- the session of an event that brings bytes
 abbrev pub hearer_in : Incoming → Option ℕ
@@ -29,14 +25,6 @@ hearer_in AsksFlush = None
 abbrev pub has_flush : Sessions → Option ℕ → Bool
 has_flush at None = false
 has_flush at (Some n) = is_to_flush (at n).phase
-
--- what a piece begins with that is no READ and no BLOCK_STATUS
-abbrev pub kind_but_look : List ℕ → PieceKind
-kind_but_look bytes = if is_to_keep bytes then MayFlush else Other
-
--- what it begins with
-abbrev pub IsKindOf : List ℕ → PieceKind → Type 0
-IsKindOf bytes kind = (BeginsWithLook bytes × (kind ≡ Look)) ⊎ ((BeginsWithLook bytes → ⊥) × (kind ≡ kind_but_look bytes))
 
 -- what is wanted of the hub alone by what asks for a flush, and by what does not
 abbrev pub purpose_if : Bool → HubUse

@@ -14,7 +14,6 @@ mod order;
 mod ordered;
 mod patience;
 mod since;
-mod turns;
 
 pub use census::{CENSUS, put_census};
 pub use locked::{Alarm, HubLock, LockedDesk};

@@ -22,8 +22,9 @@ ghost use Rattle.tp_lock.specs.Stages.{IsFlushedFrom, is_whole, slots_of};
 
 use crate::midway::{Guarded, Stage};
 use crate::order::{HubUse, Order};
+use crate::patience::now;
 use crate::since::{Since, Start};
-use crate::turns::{PieceKind, kind_of_piece, turn_len};
+use nbd_session::{PieceKind, kind_of_piece};
 use std::alloc::Global;
 use std::sync::atomic::{AtomicBool, AtomicU64, Ordering};
 use std::sync::{MutexGuard, RwLock, RwLockReadGuard, RwLockWriteGuard, Wait};
@@ -201,7 +202,9 @@ impl<'a, V: Staged, A: Alarm<V>, K: Start<V>> HubLock<'a, V, A, K> {
 impl<'a, V: Staged, A: Alarm<V>, K: Start<V>> HubLock<'a, V, A, K> {
     /// Brings to the device what was written so far, while READs go on. All others wait for their turn meanwhile, so nothing is written.
     fn sync_ahead<R: Wait>(&self, rt: &R, _turn: &MutexGuard<'_, ()>) {
+        let began = now();
         self.shared(rt).sync_ahead();
+        self.order.synced(now().saturating_sub(began));
     }
 }
 
@@ -477,7 +480,7 @@ fn purpose_if(is_flush: bool) -> HubUse
     }
 }
 
-/// What a piece of a session wants it for. Its session tells whether what may be a FLUSH is one.
+/// What a piece of a session wants it for. Its session tells whether a FLUSH passes its tests.
 fn purpose_of_piece<R: Wait, V: Staged, A: Alarm<V>, K: Start<V>>(
     rt: &R,
     hub: &HubLock<'_, V, A, K>,
@@ -490,7 +493,7 @@ fn purpose_of_piece<R: Wait, V: Staged, A: Alarm<V>, K: Start<V>>(
 {
     match kind {
         PieceKind::Look => HubUse::Change,
-        PieceKind::MayFlush => purpose_if(hub.begins_flush(rt, number, piece)),
+        PieceKind::Flush => purpose_if(hub.begins_flush(rt, number, piece)),
         PieceKind::Other => HubUse::Change,
     }
 }
@@ -652,16 +655,13 @@ fn ask_to_keep<R: Wait, V: Managed + Staged, A: Alarm<V>, K: Start<V>>(
     requires wants { WantsFlush (incoming event) }
     ensures { IsSeen V.view event.entry result out.old out.new }
 {
-    let turn = hub.order.turn(rt, HubUse::Keep);
-    let device = hub.order.begin(rt, &turn);
-    let (seen, cause) = if device.is_some() {
-        ask_flush(rt, alloc, hub, event, out, &turn)
+    let keeping = hub.order.keep(rt, hearer_of(&event));
+    let (seen, cause) = if keeping.leads {
+        ask_flush(rt, alloc, hub, event, out, &keeping.turn)
     } else {
-        ask_in_turn(rt, alloc, hub, event, out, &turn)
+        ask_in_turn(rt, alloc, hub, event, out, &keeping.turn)
     };
-    hub.order.end(HubUse::Keep, &turn);
-    drop(turn);
-    drop(device);
+    hub.order.kept(keeping, true);
     hub.sound(cause);
     seen
 }
@@ -678,10 +678,10 @@ fn ask_to_change<R: Wait, V: Managed + Staged, A: Alarm<V>, K: Start<V>>(
     requires { session_of event < 64 }
     ensures { IsSeen V.view event.entry result out.old out.new }
 {
-    let turn = hub.order.turn(rt, HubUse::Change);
+    let session = hearer_of(&event);
+    let turn = hub.order.change(rt);
     let (seen, cause) = ask_in_turn(rt, alloc, hub, event, out, &turn);
-    hub.order.end(HubUse::Change, &turn);
-    drop(turn);
+    hub.order.changed(session, turn);
     hub.sound(cause);
     seen
 }
@@ -754,13 +754,10 @@ fn order<R: Wait, V: Managed + Staged, A: Alarm<V>, K: Start<V>>(
     requires { (line : List ℕ) × (reading line ≡ Ok message.now) }
     ensures { IfSome result (λ answer. IsMessageTold V.view message.now answer) }
 {
-    let turn = hub.order.turn(rt, HubUse::Keep);
-    let device = hub.order.begin(rt, &turn);
-    let answer = hub.make_order(rt, message, &turn);
-    let cause = hub.failure(rt, &turn);
-    hub.order.end(purpose_if(is_done(&answer)), &turn);
-    drop(turn);
-    drop(device);
+    let keeping = hub.order.change_and_keep(rt);
+    let answer = hub.make_order(rt, message, &keeping.turn);
+    let cause = hub.failure(rt, &keeping.turn);
+    hub.order.kept(keeping, is_done(&answer));
     hub.sound(cause);
     answer
 }
@@ -926,19 +923,7 @@ where
     fn ask(&mut self, event: Event<'_>, out: &mut Answers) -> Ran {
         match event {
             Event::Bytes(number, piece) => {
-                let count = turn_len(piece);
-                if count >= piece.len() {
-                    return ask_once(self.rt, self.alloc, self.hub, number, piece, out);
-                }
-                let ran = ask_once(self.rt, self.alloc, self.hub, number, &piece[..count], out);
-                if ran.events == 0 {
-                    return ran;
-                }
-                // Its first requests were taken whole, and it goes on behind them.
-                Ran {
-                    events: 0,
-                    bytes: count,
-                }
+                ask_once(self.rt, self.alloc, self.hub, number, piece, out)
             }
             Event::Message(line) => ask_line(self.rt, self.alloc, self.hub, line, out),
             other => ask_alone(self.rt, self.alloc, self.hub, other, out).ran,

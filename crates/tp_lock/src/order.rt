@@ -1,14 +1,21 @@
-//! Who gets the hub alone next, of those who wait for it.
+//! Who has the hub alone next, of those who wait for it, and who makes the next commit.
 
-use crate::patience::Patience;
+ghost use Rattle.std.specs.Prelude.{◌<◌, IfSome};
+
+use crate::patience::{Patience, now};
 use std::sync::atomic::{AtomicBool, AtomicU64, Ordering};
-use std::sync::{Mutex, MutexGuard, RwLock, RwLockWriteGuard, Wait};
+use std::sync::{Condvar, Mutex, MutexGuard, Wait};
+use std::time::Duration;
 
-/// How many times a waiting thread tries to take the turn before it sleeps.
+/// How many times a waiting thread looks for its turn before it takes the next one that comes.
 const TRIES: u32 = 4000;
 
-/// How many of these tries a thread leaves to waiting threads that have priority.
-const COURTESY: u32 = 200;
+/// A thread that has not been told sleeps for no longer than this, in nanoseconds, before it looks
+/// again.
+const NAP: u64 = 10_000_000;
+
+/// Less than this, in nanoseconds, is not waited for the FLUSHes of others.
+const SHORTEST_GRACE: u64 = 20_000;
 
 /// What one wants the hub alone for.
 #[derive(Clone, Copy, PartialEq, Eq)]
@@ -19,21 +26,53 @@ pub(crate) enum HubUse {
     Change,
 }
 
+/// The turn of one who keeps what was written.
+pub(crate) struct Keeping<'a> {
+    pub(crate) turn: MutexGuard<'a, ()>,
+    /// It makes a commit. Else the last one kept all that was written.
+    pub(crate) leads: bool,
+}
+
 /// A lock with two kinds of waiters: one thread has the turn, and all others wait.
 ///
-/// Where nothing was written since what was written was kept, those go first who are to keep it: for them all is done already. Else all others go before them, so
-/// that one sync keeps what many wrote. Nobody lets others go first for long.
+/// Of those who are to keep what was written one leads: it makes a commit, and those who came before its end are told by it. Before the commit it
+/// lets those go first who wait to change something, and waits for the FLUSH of those whose change was answered, where they are known to flush, for no longer than
+/// an eighth of the last sync. Behind the commit those whom it told go first.
 #[derive(Drop)]
 pub(crate) struct Order {
     turn: Mutex<()>,
-    /// Held for writing while what was written is kept: threads that wait for that sleep here, and all wake when it is done.
-    device: RwLock<()>,
-    is_keeping: AtomicBool,
+    /// Whether there is one who leads, and whether its commit has begun.
+    has_leader: AtomicBool,
+    is_committing: AtomicBool,
+    /// Whether nothing was changed since the last commit began.
     is_kept: AtomicBool,
-    /// How many wait to keep what was written, and how many for anything else.
+    /// How many wait to keep what was written, and how many to change something.
     keepers: AtomicU64,
-    others: AtomicU64,
+    changers: AtomicU64,
+    /// How many turns were taken to change something.
+    changes: AtomicU64,
+    /// A bit for each session whose change was answered since the last commit began, and for each that has flushed of late.
+    unkept: AtomicU64,
+    flushers: AtomicU64,
+    /// In nanoseconds: the longest sync of the commit so far, that of the last commit, and when it ended.
+    sync_so_far: AtomicU64,
+    last_sync: AtomicU64,
+    ended_at: AtomicU64,
+    /// Told to those who keep when a commit has ended, to those who change when they may, and to the one who leads when anything has come.
+    ended: Condvar,
+    free: Condvar,
+    news: Condvar,
     patience: Patience,
+}
+
+/// The bit of a session, if there is one.
+fn bit_of(session: Option<u8>) -> u64
+    requires { IfSome session (λ number. number < 64) }
+{
+    match session {
+        None => 0,
+        Some(number) => 1 << number,
+    }
 }
 
 impl Order {
@@ -41,29 +80,21 @@ impl Order {
     pub(crate) fn new() -> Order {
         Order {
             turn: Mutex::new(()),
-            device: RwLock::new(()),
-            is_keeping: AtomicBool::new(false),
+            has_leader: AtomicBool::new(false),
+            is_committing: AtomicBool::new(false),
             is_kept: AtomicBool::new(true),
             keepers: AtomicU64::new(0),
-            others: AtomicU64::new(0),
+            changers: AtomicU64::new(0),
+            changes: AtomicU64::new(0),
+            unkept: AtomicU64::new(0),
+            flushers: AtomicU64::new(0),
+            sync_so_far: AtomicU64::new(0),
+            last_sync: AtomicU64::new(0),
+            ended_at: AtomicU64::new(0),
+            ended: Condvar::new(),
+            free: Condvar::new(),
+            news: Condvar::new(),
             patience: Patience::new(),
-        }
-    }
-
-    /// How many threads wait for this purpose.
-    fn line(&self, purpose: HubUse) -> &AtomicU64 {
-        match purpose {
-            HubUse::Keep => &self.keepers,
-            HubUse::Change => &self.others,
-        }
-    }
-
-    /// Whether no waiting thread has priority over one with this purpose.
-    fn is_first(&self, purpose: HubUse) -> bool {
-        let is_kept = self.is_kept.load(Ordering::SeqCst);
-        match purpose {
-            HubUse::Keep => is_kept || self.others.load(Ordering::SeqCst) == 0,
-            HubUse::Change => !is_kept || self.keepers.load(Ordering::SeqCst) == 0,
         }
     }
 
@@ -72,52 +103,196 @@ impl Order {
         &self.patience
     }
 
-    /// Waits for a turn: who waits tries again and again for a while, and sleeps behind that; but for the device it sleeps at once.
-    fn wait<R: Wait>(&self, rt: &R, purpose: HubUse) -> MutexGuard<'_, ()> {
+    /// The turn, for which one waits awake as long as that pays.
+    fn lock<R: Wait>(&self, rt: &R) -> MutexGuard<'_, ()> {
         let mut waiting = self.patience.begin();
-        for tried in 0..TRIES {
-            if tried >= COURTESY || self.is_first(purpose) {
-                if let Some(turn) = self.turn.try_lock() {
-                    return turn;
-                }
+        for _ in 0..TRIES {
+            if let Some(turn) = self.turn.try_lock() {
+                return turn;
             }
-            if self.is_keeping.load(Ordering::SeqCst) {
-                drop(self.device.read(rt));
-            } else if !waiting.goes_on() {
+            if !waiting.goes_on() {
                 break;
             }
         }
         self.turn.lock(rt)
     }
 
-    /// A turn, which ends when it is dropped.
-    pub(crate) fn turn<R: Wait>(&self, rt: &R, purpose: HubUse) -> MutexGuard<'_, ()> {
-        self.line(purpose).fetch_add(1, Ordering::SeqCst);
-        let turn = self.wait(rt, purpose);
-        self.line(purpose).fetch_sub(1, Ordering::SeqCst);
+    /// Whether those go first who keep what was written: a commit is on its way, or has told some who
+    /// have not had their turn yet, for which one waits no longer than for a sync.
+    fn is_to_wait(&self) -> bool {
+        if self.is_committing.load(Ordering::SeqCst) {
+            return true;
+        }
+        if self.keepers.load(Ordering::SeqCst) == 0 || !self.is_kept.load(Ordering::SeqCst) {
+            return false;
+        }
+        let since = now().saturating_sub(self.ended_at.load(Ordering::SeqCst));
+        since < self.last_sync.load(Ordering::SeqCst)
+    }
+
+    /// The turn, where nobody goes first: awake or asleep.
+    fn try_turn<R: Wait>(&self, rt: &R, is_asleep: bool) -> Option<MutexGuard<'_, ()>> {
+        let turn = if is_asleep {
+            self.turn.lock(rt)
+        } else {
+            self.turn.try_lock()?
+        };
+        if self.is_to_wait() {
+            return None;
+        }
+        Some(turn)
+    }
+
+    fn wait_to_change<R: Wait>(&self, rt: &R) -> MutexGuard<'_, ()> {
+        let mut waiting = self.patience.begin();
+        let mut is_asleep = false;
+        for _ in 0..TRIES {
+            let told = self.free.notifications();
+            if self.is_to_wait() {
+                self.free.sleep(rt, told, Duration::from_nanos(NAP));
+                continue;
+            }
+            if let Some(turn) = self.try_turn(rt, is_asleep) {
+                return turn;
+            }
+            is_asleep = !waiting.goes_on();
+        }
+        self.turn.lock(rt)
+    }
+
+    /// The turn of one who changes something.
+    pub(crate) fn change<R: Wait>(&self, rt: &R) -> MutexGuard<'_, ()> {
+        self.changers.fetch_add(1, Ordering::SeqCst);
+        let turn = self.wait_to_change(rt);
+        self.changers.fetch_sub(1, Ordering::SeqCst);
         turn
     }
 
-    /// Called by the thread that has the turn, before work that is to keep what was written. Where
-    /// anything was written since the last such work, the thread takes `device`, for which others wait
-    /// asleep.
-    pub(crate) fn begin<R: Wait>(
-        &self,
-        rt: &R,
-        _turn: &MutexGuard<'_, ()>,
-    ) -> Option<RwLockWriteGuard<'_, ()>> {
-        if self.is_kept.load(Ordering::SeqCst) {
-            return None;
-        }
-        let device = self.device.write(rt);
-        self.is_keeping.store(true, Ordering::SeqCst);
-        Some(device)
+    /// Ends that turn, of this session where it has one.
+    pub(crate) fn changed(&self, session: Option<u8>, turn: MutexGuard<'_, ()>)
+        requires { IfSome session (λ number. number < 64) }
+    {
+        self.is_kept.store(false, Ordering::SeqCst);
+        self.unkept.fetch_or(bit_of(session), Ordering::SeqCst);
+        self.changes.fetch_add(1, Ordering::SeqCst);
+        drop(turn);
+        self.news.notify_one();
     }
 
-    /// Called by the thread that has the turn, behind its work: `Keep` where that kept what was written.
-    pub(crate) fn end(&self, purpose: HubUse, _turn: &MutexGuard<'_, ()>) {
-        self.is_kept
-            .store(purpose == HubUse::Keep, Ordering::SeqCst);
-        self.is_keeping.store(false, Ordering::SeqCst);
+    /// Lets those go first who wait to change something, and waits for the FLUSHes of sessions that
+    /// have flushed of late, and whose change was answered. Those who do not come in time are not waited
+    /// for again before they flush.
+    fn wait_for_others<R: Wait>(&self, rt: &R) {
+        let began = now();
+        let most = self.last_sync.load(Ordering::SeqCst) / 8;
+        let waited_for = self.changers.load(Ordering::SeqCst);
+        let so_far = self.changes.load(Ordering::SeqCst);
+        for _ in 0..TRIES {
+            let told = self.news.notifications();
+            let late = self.unkept.load(Ordering::SeqCst) & self.flushers.load(Ordering::SeqCst);
+            let went = self.changes.load(Ordering::SeqCst).wrapping_sub(so_far);
+            if late == 0 && went >= waited_for {
+                return;
+            }
+            let left = most.saturating_sub(now().saturating_sub(began));
+            if left < SHORTEST_GRACE {
+                self.flushers.fetch_and(!late, Ordering::SeqCst);
+                return;
+            }
+            self.news.sleep(rt, told, Duration::from_nanos(left));
+        }
+    }
+
+    /// The turn of one who leads.
+    fn lead<R: Wait>(&self, rt: &R) -> Keeping<'_> {
+        self.wait_for_others(rt);
+        let turn = self.lock(rt);
+        self.is_committing.store(true, Ordering::SeqCst);
+        self.unkept.store(0, Ordering::SeqCst);
+        self.sync_so_far.store(0, Ordering::SeqCst);
+        Keeping { turn, leads: true }
+    }
+
+    /// The turn of one who is told by the last commit, where that kept all that was written.
+    fn follow<R: Wait>(&self, rt: &R) -> Option<Keeping<'_>> {
+        if !self.is_kept.load(Ordering::SeqCst) {
+            return None;
+        }
+        let turn = self.lock(rt);
+        if !self.is_kept.load(Ordering::SeqCst) {
+            return None;
+        }
+        Some(Keeping { turn, leads: false })
+    }
+
+    fn wait_to_keep<R: Wait>(&self, rt: &R) -> Keeping<'_> {
+        for _ in 0..TRIES {
+            let told = self.ended.notifications();
+            if let Some(keeping) = self.follow(rt) {
+                return keeping;
+            }
+            if !self.has_leader.swap(true, Ordering::SeqCst) {
+                return self.lead(rt);
+            }
+            self.ended.sleep(rt, told, Duration::from_nanos(NAP));
+        }
+        self.lead(rt)
+    }
+
+    /// The turn of one who keeps what was written, for a FLUSH of this session where it has one.
+    pub(crate) fn keep<R: Wait>(&self, rt: &R, session: Option<u8>) -> Keeping<'_>
+        requires { IfSome session (λ number. number < 64) }
+    {
+        let bit = bit_of(session);
+        self.unkept.fetch_and(!bit, Ordering::SeqCst);
+        self.flushers.fetch_or(bit, Ordering::SeqCst);
+        self.keepers.fetch_add(1, Ordering::SeqCst);
+        self.news.notify_one();
+        let keeping = self.wait_to_keep(rt);
+        self.keepers.fetch_sub(1, Ordering::SeqCst);
+        keeping
+    }
+
+    /// The turn of one who changes something and makes a commit behind it.
+    pub(crate) fn change_and_keep<R: Wait>(&self, rt: &R) -> Keeping<'_> {
+        for _ in 0..TRIES {
+            let told = self.ended.notifications();
+            if !self.has_leader.swap(true, Ordering::SeqCst) {
+                break;
+            }
+            self.ended.sleep(rt, told, Duration::from_nanos(NAP));
+        }
+        self.lead(rt)
+    }
+
+    /// How long a sync took of the commit that is on its way, in nanoseconds.
+    pub(crate) fn synced(&self, time: u64) {
+        let so_far = self.sync_so_far.load(Ordering::SeqCst);
+        self.sync_so_far.store(so_far.max(time), Ordering::SeqCst);
+    }
+
+    /// Ends the commit of one who led.
+    fn end_commit(&self) {
+        let sync = self.sync_so_far.load(Ordering::SeqCst);
+        self.last_sync.store(sync, Ordering::SeqCst);
+        self.ended_at.store(now(), Ordering::SeqCst);
+        self.is_committing.store(false, Ordering::SeqCst);
+        self.has_leader.store(false, Ordering::SeqCst);
+    }
+
+    /// Ends the turn of one who kept what was written, or has not.
+    pub(crate) fn kept(&self, keeping: Keeping<'_>, is_done: bool) {
+        let Keeping { turn, leads } = keeping;
+        self.is_kept.store(is_done, Ordering::SeqCst);
+        if leads {
+            self.end_commit();
+        }
+        drop(turn);
+        if leads {
+            self.ended.notify_all();
+        }
+        if self.keepers.load(Ordering::SeqCst) == 0 {
+            self.free.notify_all();
+        }
     }
 }

@@ -19,7 +19,7 @@ const LONGEST_PAUSE: u64 = 8192;
 const LOOKS: u32 = 300;
 
 /// Nanoseconds on a clock that only runs on, or 0 where there is none.
-fn now() -> u64 {
+pub(crate) fn now() -> u64 {
     let mut time = timespec {
         tv_sec: 0,
         tv_nsec: 0,

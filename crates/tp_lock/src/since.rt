@@ -161,13 +161,13 @@ impl<V: Managed, K: Start<V>> Since<V, K> {
     ghost use Rattle.tp_hub.specs.Serve.{HubRuns};
     ghost use Rattle.tp_hub.specs.Serving.{sessions_of};
 
-    /// Asks it once.
+    /// Asks it once, of a piece for a batch at most.
     pub(crate) fn ask(&mut self, alloc: Global, event: Event<'_>, out: &mut Answers) -> Ran
         requires { session_of event < 64 }
         ensures asked { IsAsked (λ took answers. HubRuns V.view self.old took answers self.new) (incoming event.entry) result.events result.bytes out.old out.new }
         ensures made { (n : ℕ) → is_parted_to n event.entry ≡ false → incoming event.entry ≡ Brings n [] → 0 < result.events → IsIdle (sessions_of self.new.slots) n }
     {
-        self.hub.take(alloc, event, out)
+        self.hub.take_batch(alloc, event, out)
     }
 }
 
