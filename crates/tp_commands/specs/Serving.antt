@@ -3,6 +3,7 @@ use Rattle.std.specs.Prelude.{◌≡◌, ◌⊎◌, ℕ, ◌≤◌, nat_lt, if�
 use Rattle.tp_model.specs.declared.refusal.Refusal.{Refusal}
 use Rattle.tp_model.specs.declared.refusal.Refusal.TheVariants.{Fault, Memory, SessionInUse}
 use Rattle.tp_model.specs.Disk.{DiskState}
+use Rattle.tp_hub.specs.declared.answers.TheConstants.{MOST_BYTES}
 use Rattle.tp_hub.specs.Told.{Told}
 use Rattle.tp_hub.specs.Desks.{Exchange}
 use Rattle.nbd_session.specs.declared.phase.Profile.{Profile}
@@ -38,10 +39,10 @@ told_behind (Err reason) told = Err reason
 
 -- ---- one client
 
--- There was no memory for what is read, and nothing was asked, read or written; or the client of the stream was carried by a hub as its session 0, and offered this.
+-- There was no memory for what is read, and nothing was asked, read or written; or the client of the stream was carried by a hub as its session 0, and offered this, over a buffer that takes the answers of a turn.
 abbrev pub IsFed : Profile → List Exchange → List StreamCall → List StreamCall → Carried → Type 0
 IsFed profile asks calls calls' ending =
-    ((asks ≡ []) × (calls' ≡ calls) × (ending ≡ NoMemory)) ⊎ ((out : Told) × Makes calls calls' (λ did. IsCarried 0 profile out asks did ending))
+    ((asks ≡ []) × (calls' ≡ calls) × (ending ≡ NoMemory)) ⊎ ((out : Told) × (out.most ≡ MOST_BYTES) × Makes calls calls' (λ did. IsCarried 0 profile out asks did ending))
 
 -- The pool of a disk was opened, one client was served by a hub of its own over it, and it was closed; or it was not opened, and nothing was read or written.
 abbrev pub FeedsOn : Profile → List StreamCall → List StreamCall → Result (Unit {0}) Refusal → DiskState → DiskState → Type 0

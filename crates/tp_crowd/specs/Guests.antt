@@ -2,6 +2,7 @@
 use Rattle.std.specs.Prelude.{◌≡◌, ℕ, Bool, true, false, List, [], ◌∷◌, ◌++◌, ◌⊎◌}
 use Rattle.tp_model.specs.Clauses.{View}
 use Rattle.nbd_session.specs.declared.phase.Profile.{Profile}
+use Rattle.tp_hub.specs.declared.answers.TheConstants.{MOST_BYTES}
 use Rattle.tp_hub.specs.Told.{Told}
 use Rattle.tp_hub.specs.Desks.{Exchange}
 use Rattle.tp_hub.specs.Streams.{Flushes, Gave, GaveAgain, GaveEnd, GaveNone, StreamCall, Took, TookAgain, TookNone}
@@ -37,9 +38,9 @@ has_memory EndOfInput = true
 has_memory InputFailed = true
 has_memory OutputFailed = true
 
--- A client was carried to its end; or there was no memory for the bytes that are read of it, and nothing was asked, read or written. carried: whether there was memory for it.
+-- A client was carried to its end over a buffer that takes the answers of a turn; or there was no memory for the bytes that are read of it, and nothing was asked, read or written. carried: whether there was memory for it.
 abbrev pub IsVisit : ℕ → Profile → List Exchange → List StreamCall → Bool → Type 0
-IsVisit n profile asks calls carried = ((asks ≡ []) × (calls ≡ []) × (carried ≡ false)) ⊎ ((out : Told) × (ending : Carried) × IsCarried n profile out asks calls ending × (carried ≡ has_memory ending))
+IsVisit n profile asks calls carried = ((asks ≡ []) × (calls ≡ []) × (carried ≡ false)) ⊎ ((out : Told) × (ending : Carried) × (out.most ≡ MOST_BYTES) × IsCarried n profile out asks calls ending × (carried ≡ has_memory ending))
 
 -- The same of a stream that may be told to be at its end: these calls were made of it, but for its ends.
 abbrev pub IsGuest : ℕ → Profile → List Exchange → List StreamCall → Type 0

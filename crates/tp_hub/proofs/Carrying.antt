@@ -3,7 +3,6 @@ use Rattle.std.proofs.Common.{◌≡◌, ℕ, zero, suc, ◌+◌, ◌<◌, ◌�
 use Rattle.std.specs.Prelude.{MatchBool, not, ◌||◌, ◌==◌}
 use Rattle.std.specs.List.{list_any}
 use Rattle.std.proofs.lemmas.List.{drop-drop, drop_all, take-append-drop}
-use Rattle.tp_hub.specs.declared.answers.TheConstants.{MOST_BYTES}
 use Rattle.tp_hub.specs.declared.answers.Mark.{Mark}
 use Rattle.tp_hub.specs.declared.answers.Mark.TheVariants.{Sent, End, Refused, Done, Line}
 use Rattle.tp_hub.specs.Told.{Answer, HasRoom, IsFull, KeepsRoom, Told, all_sent, told}
@@ -59,9 +58,9 @@ module _ {D : Type 0} (Did : D → List Incoming → List Answer → D → Type 
   asked_join a b c (x ∷ xs) ys p q = (p.0, p.1, asked_join p.0 b c xs ys p.2 q)
 
   -- one event was asked, and its answers written
-  pub exchanged : (n : ℕ) (event : Incoming) (old new : D) (events bytes : ℕ) (out after : Told) (sent : List ℕ) (told0 told1 : List StreamCall) (over said : Bool) → IsAsked (λ took answers. Did old took answers new) event events bytes out after
-      → out.list ≡ [] → HasRoom out → over ≡ closes_in n after.list → sent ≡ all_sent after.list → length sent ≤ MOST_BYTES → Makes told0 told1 (λ did. IsSaid sent did said) → Exchanges Did n event old new events bytes told0 told1 over said
-  exchanged n event old new events bytes out after sent told0 told1 over said a empty has over_is sent_is few makes =
+  pub exchanged : (most n : ℕ) (event : Incoming) (old new : D) (events bytes : ℕ) (out after : Told) (sent : List ℕ) (told0 told1 : List StreamCall) (over said : Bool) → IsAsked (λ took answers. Did old took answers new) event events bytes out after
+      → out.list ≡ [] → HasRoom out → over ≡ closes_in n after.list → sent ≡ all_sent after.list → length sent ≤ most → Makes told0 told1 (λ did. IsSaid sent did said) → Exchanges Did most n event old new events bytes told0 told1 over said
+  exchanged most n event old new events bytes out after sent told0 told1 over said a empty has over_is sent_is few makes =
       let all : after.list ≡ a.answers = a.adds.list ∙ ap (λ (l : List Answer). l ++ a.answers) empty in
       let same : sent ≡ all_sent a.answers = sent_is ∙ ap all_sent all in
       record {
@@ -70,7 +69,7 @@ module _ {D : Type 0} (Did : D → List Incoming → List Answer → D → Type 
         cut = a.cut;
         silent = a.silent;
         begun = a.begun has;
-        few = subst (λ (l : List ℕ). length l ≤ MOST_BYTES) same few;
+        few = subst (λ (l : List ℕ). length l ≤ most) same few;
         calls = makes.0;
         calls_are = makes.1;
         says = subst (λ (l : List ℕ). IsSaid l makes.0 said) same makes.2;
@@ -106,52 +105,55 @@ module _ {D : Type 0} (Did : D → List Incoming → List Answer → D → Type 
   took_some n rest (suc k) bytes cut long some = ([], took_whole n rest (suc k) bytes cut (omega arith) long)
 
   -- So far a piece was handed over up to a place, and whatever is done with the rest of it completes it.
-  pub record Handing (n : ℕ) (piece : List ℕ) (at : ℕ) (old new : D) (told0 told1 : List StreamCall) : Type 0 where
+  pub record Handing (most n : ℕ) (piece : List ℕ) (at : ℕ) (old new : D) (told0 told1 : List StreamCall) : Type 0 where
     pub asks : List Exchange
     pub calls : List StreamCall
     pub are : AreAsked Did old asks new
     pub calls_are : told1 ≡ told0 ++ calls
-    pub completes : (ys : List Exchange) (later : List StreamCall) (ending : Option Carried) → Hands n (drop at piece) ys later ending → Hands n piece (asks ++ ys) (calls ++ later) ending
+    pub completes : (ys : List Exchange) (later : List StreamCall) (ending : Option Carried) → Hands most n (drop at piece) ys later ending → Hands most n piece (asks ++ ys) (calls ++ later) ending
 
-  pub handing_none : (n : ℕ) (piece : List ℕ) (old : D) (told0 : List StreamCall) → Handing n piece 0 old old told0 told0
-  handing_none n piece old told0 = record { asks = []; calls = []; are = refl; calls_are = sym (append-nil told0); completes = λ ys later ending h. h }
+  pub handing_none : (most n : ℕ) (piece : List ℕ) (old : D) (told0 : List StreamCall) → Handing most n piece 0 old old told0 told0
+  handing_none most n piece old told0 = record { asks = []; calls = []; are = refl; calls_are = sym (append-nil told0); completes = λ ys later ending h. h }
 
-  abbrev pub HandsTo : ℕ → List ℕ → D → D → List StreamCall → List StreamCall → Option Carried → Type 0
-  HandsTo n piece old new told0 told1 ending = (xs : List Exchange) × AreAsked Did old xs new × Makes told0 told1 (λ did. Hands n piece xs did ending)
+  abbrev pub HandsTo : ℕ → ℕ → List ℕ → D → D → List StreamCall → List StreamCall → Option Carried → Type 0
+  HandsTo most n piece old new told0 told1 ending = (xs : List Exchange) × AreAsked Did old xs new × Makes told0 told1 (λ did. Hands most n piece xs did ending)
 
   -- the rest of it was dealt with
-  handed_by : (n : ℕ) (piece : List ℕ) (at : ℕ) (old mid new : D) (told0 told1 told2 : List StreamCall) (ending : Option Carried) → Handing n piece at old mid told0 told1 → HandsTo n (drop at piece) mid new told1 told2 ending → HandsTo n piece old new told0 told2 ending
-  handed_by n piece at old mid new told0 told1 told2 ending h r = (
+  handed_by : (most n : ℕ) (piece : List ℕ) (at : ℕ) (old mid new : D) (told0 told1 told2 : List StreamCall) (ending : Option Carried) → Handing most n piece at old mid told0 told1 → HandsTo most n (drop at piece) mid new told1 told2 ending → HandsTo most n piece old new told0 told2 ending
+  handed_by most n piece at old mid new told0 told1 told2 ending h r = (
     h.asks ++ r.0,
     asked_join old mid new h.asks r.0 h.are r.1,
     (h.calls ++ r.2.0, r.2.1 ∙ (ap (λ (l : List StreamCall). l ++ r.2.0) h.calls_are ∙ append_assoc told0 h.calls r.2.0), h.completes r.0 r.2.0 ending r.2.2),
   )
 
   -- all of it was
-  pub handed_all : (n : ℕ) (piece : List ℕ) (at : ℕ) (old new : D) (told0 told1 : List StreamCall) → Handing n piece at old new told0 told1 → length piece ≤ at → HandsTo n piece old new told0 told1 None
-  handed_all n piece at old new told0 told1 h over = handed_by n piece at old new new told0 told1 told1 None h ([], refl, ([], sym (append-nil told1), (drop_all at piece over, refl, refl)))
+  pub handed_all : (most n : ℕ) (piece : List ℕ) (at : ℕ) (old new : D) (told0 told1 : List StreamCall) → Handing most n piece at old new told0 told1 → length piece ≤ at → HandsTo most n piece old new told0 told1 None
+  handed_all most n piece at old new told0 told1 h over = handed_by most n piece at old new new told0 told1 told1 None h ([], refl, ([], sym (append-nil told1), (drop_all at piece over, refl, refl)))
 
-  module _ (n : ℕ) (piece rest : List ℕ) (at : ℕ) (old mid new : D) (told0 told1 told2 : List StreamCall) (events bytes : ℕ) (over said : Bool) (h : Handing n piece at old mid told0 told1) (rest_is : rest ≡ drop at piece) (e : Exchanges Did n (Brings n rest) mid new events bytes told1 told2 over said) where
+  module _ (most now n : ℕ) (piece rest : List ℕ) (at : ℕ) (old mid new : D) (told0 told1 told2 : List StreamCall) (events bytes : ℕ) (over said : Bool) (h : Handing most n piece at old mid told0 told1) (rest_is : rest ≡ drop at piece) (same : now ≡ most) (e : Exchanges Did now n (Brings n rest) mid new events bytes told1 told2 over said) where
     abbrev ask : Exchange
     ask = record { took = taken_of (Brings n rest ∷ []) events bytes; answers = e.answers }
 
-    last_ask : (ending : Option Carried) → Hands n rest (ask ∷ []) e.calls ending → HandsTo n piece old new told0 told2 ending
-    last_ask ending hands = handed_by n piece at old mid new told0 told1 told2 ending h (ask ∷ [], (new, e.did, refl), (e.calls, e.calls_are, subst (λ (l : List ℕ). Hands n l (ask ∷ []) e.calls ending) rest_is hands))
+    few : length (all_sent e.answers) ≤ most
+    few = subst (λ (m : ℕ). length (all_sent e.answers) ≤ m) same e.few
 
-    pub hand_over : 0 < length rest → over ≡ true → HandsTo n piece old new told0 told2 (Some (over_if said))
+    last_ask : (ending : Option Carried) → Hands most n rest (ask ∷ []) e.calls ending → HandsTo most n piece old new told0 told2 ending
+    last_ask ending hands = handed_by most n piece at old mid new told0 told1 told2 ending h (ask ∷ [], (new, e.did, refl), (e.calls, e.calls_are, subst (λ (l : List ℕ). Hands most n l (ask ∷ []) e.calls ending) rest_is hands))
+
+    pub hand_over : 0 < length rest → over ≡ true → HandsTo most n piece old new told0 told2 (Some (over_if said))
     hand_over long is_over =
         let t = took_some n rest events bytes e.cut long e.begun in
-        last_ask (Some (over_if said)) (t.1.0, t.0, e.calls, [], said, t.1.1, sym (append-nil e.calls), e.says, e.few, t.1.2, t.1.3, by_true (closes_in n e.answers) _ _ (sym e.over_is ∙ is_over) (refl, refl, refl))
+        last_ask (Some (over_if said)) (t.1.0, t.0, e.calls, [], said, t.1.1, sym (append-nil e.calls), e.says, few, t.1.2, t.1.3, by_true (closes_in n e.answers) _ _ (sym e.over_is ∙ is_over) (refl, refl, refl))
 
-    pub hand_lost : 0 < length rest → over ≡ false → said ≡ false → HandsTo n piece old new told0 told2 (Some OutputFailed)
+    pub hand_lost : 0 < length rest → over ≡ false → said ≡ false → HandsTo most n piece old new told0 told2 (Some OutputFailed)
     hand_lost long not_over is_lost =
         let t = took_some n rest events bytes e.cut long e.begun in
-        last_ask (Some OutputFailed) (t.1.0, t.0, e.calls, [], said, t.1.1, sym (append-nil e.calls), e.says, e.few, t.1.2, t.1.3, by_false (closes_in n e.answers) _ _ (sym e.over_is ∙ not_over) (by_false said _ _ is_lost (refl, refl, refl)))
+        last_ask (Some OutputFailed) (t.1.0, t.0, e.calls, [], said, t.1.1, sym (append-nil e.calls), e.says, few, t.1.2, t.1.3, by_false (closes_in n e.answers) _ _ (sym e.over_is ∙ not_over) (by_false said _ _ is_lost (refl, refl, refl)))
 
-    pub hand_on : 0 < length rest → over ≡ false → said ≡ true → 0 < events → HandsTo n piece old new told0 told2 None
+    pub hand_on : 0 < length rest → over ≡ false → said ≡ true → 0 < events → HandsTo most n piece old new told0 told2 None
     hand_on long not_over is_said some =
         let t = took_whole n rest events bytes e.cut some long in
-        last_ask None (t.0, [], e.calls, [], said, t.1, sym (append-nil e.calls), e.says, e.few, t.2, t.3, by_false (closes_in n e.answers) _ _ (sym e.over_is ∙ not_over) (by_true said _ _ is_said (refl, refl, refl)))
+        last_ask None (t.0, [], e.calls, [], said, t.1, sym (append-nil e.calls), e.says, few, t.2, t.3, by_false (closes_in n e.answers) _ _ (sym e.over_is ∙ not_over) (by_true said _ _ is_said (refl, refl, refl)))
 
     part_is : (b : ℕ) → b ≡ 0 → IsCut (Brings n rest) b bytes → 0 < bytes → TookFront n rest (taken_of (Brings n rest ∷ []) b bytes) (drop bytes rest)
     part_is zero x cut some = took_part n rest bytes cut some
@@ -168,7 +170,7 @@ module _ {D : Type 0} (Did : D → List Incoming → List Answer → D → Type 
     pub hand_inside : events ≡ 0 → bytes ≤ length rest
     hand_inside none = cut_inside events none e.cut
 
-    pub hand_more : over ≡ false → said ≡ true → events ≡ 0 → Handing n piece (at + bytes) old new told0 told2
+    pub hand_more : over ≡ false → said ≡ true → events ≡ 0 → Handing most n piece (at + bytes) old new told0 told2
     hand_more not_over is_said none =
         let t = part_is events none e.cut (hand_begun none) in
         let behind : drop bytes rest ≡ drop (at + bytes) piece = ap (drop bytes) rest_is ∙ drop-drop bytes at piece in
@@ -178,7 +180,7 @@ module _ {D : Type 0} (Did : D → List Incoming → List Answer → D → Type 
           are = asked_join old mid new h.asks (ask ∷ []) h.are (new, e.did, refl);
           calls_are = e.calls_are ∙ (ap (λ (l : List StreamCall). l ++ e.calls) h.calls_are ∙ append_assoc told0 h.calls e.calls);
           completes = λ ys later ending hands.
-              let there : Hands n rest (ask ∷ ys) (e.calls ++ later) ending = (
+              let there : Hands most n rest (ask ∷ ys) (e.calls ++ later) ending = (
                 t.0,
                 drop bytes rest,
                 e.calls,
@@ -187,55 +189,59 @@ module _ {D : Type 0} (Did : D → List Incoming → List Answer → D → Type 
                 t.1,
                 refl,
                 e.says,
-                e.few,
+                few,
                 t.2,
                 t.3,
-                by_false (closes_in n e.answers) _ _ (sym e.over_is ∙ not_over) (by_true said _ _ is_said (subst (λ (l : List ℕ). Hands n l ys later ending) (sym behind) hands)),
+                by_false (closes_in n e.answers) _ _ (sym e.over_is ∙ not_over) (by_true said _ _ is_said (subst (λ (l : List ℕ). Hands most n l ys later ending) (sym behind) hands)),
               ) in
-              let all : Hands n piece (h.asks ++ (ask ∷ ys)) (h.calls ++ (e.calls ++ later)) ending = h.completes (ask ∷ ys) (e.calls ++ later) ending (subst (λ (l : List ℕ). Hands n l (ask ∷ ys) (e.calls ++ later) ending) rest_is there) in
-              subst (λ (l : List StreamCall). Hands n piece ((h.asks ++ ask ∷ []) ++ ys) l ending) (sym (append_assoc h.calls e.calls later))
-              (subst (λ (l : List Exchange). Hands n piece l (h.calls ++ (e.calls ++ later)) ending) (sym (append_assoc h.asks (ask ∷ []) ys)) all);
+              let all : Hands most n piece (h.asks ++ (ask ∷ ys)) (h.calls ++ (e.calls ++ later)) ending = h.completes (ask ∷ ys) (e.calls ++ later) ending (subst (λ (l : List ℕ). Hands most n l (ask ∷ ys) (e.calls ++ later) ending) rest_is there) in
+              subst (λ (l : List StreamCall). Hands most n piece ((h.asks ++ ask ∷ []) ++ ys) l ending) (sym (append_assoc h.calls e.calls later))
+              (subst (λ (l : List Exchange). Hands most n piece l (h.calls ++ (e.calls ++ later)) ending) (sym (append_assoc h.asks (ask ∷ []) ys)) all);
         }
 
   -- ---- one read
 
-  abbrev ReadsTo : ℕ → D → D → List StreamCall → List StreamCall → Option Carried → Type 0
-  ReadsTo n old new told0 told1 result = (xs : List Exchange) × AreAsked Did old xs new × Makes told0 told1 (λ did. GoesOnOrEnds n xs did result)
+  abbrev ReadsTo : ℕ → ℕ → D → D → List StreamCall → List StreamCall → Option Carried → Type 0
+  ReadsTo most n old new told0 told1 result = (xs : List Exchange) × AreAsked Did old xs new × Makes told0 told1 (λ did. GoesOnOrEnds most n xs did result)
 
-  last_round : (n : ℕ) (xs : List Exchange) (calls : List StreamCall) (result : Option Carried) → IsLast n xs calls result → GoesOnOrEnds n xs calls result
-  last_round n xs calls None l = l
-  last_round n xs calls (Some ending) l = inl l
+  last_round : (most n : ℕ) (xs : List Exchange) (calls : List StreamCall) (result : Option Carried) → IsLast most n xs calls result → GoesOnOrEnds most n xs calls result
+  last_round most n xs calls None l = l
+  last_round most n xs calls (Some ending) l = inl l
 
-  pub read_some : (n : ℕ) (piece : List ℕ) (old new : D) (told0 told1 told2 : List StreamCall) (result : Option Carried) → told1 ≡ told0 ++ Gave piece ∷ [] → HandsTo n piece old new told1 told2 result → ReadsTo n old new told0 told2 result
-  read_some n piece old new told0 told1 told2 result read h =
+  pub read_some : (most n : ℕ) (piece : List ℕ) (old new : D) (told0 told1 told2 : List StreamCall) (result : Option Carried) → told1 ≡ told0 ++ Gave piece ∷ [] → HandsTo most n piece old new told1 told2 result → ReadsTo most n old new told0 told2 result
+  read_some most n piece old new told0 told1 told2 result read h =
       let r : Round = record { read = Gave piece; asks = h.0; calls = h.2.0 } in
-      (h.0, h.1, (Gave piece ∷ h.2.0, h.2.1 ∙ (ap (λ (l : List StreamCall). l ++ h.2.0) read ∙ append_assoc told0 (Gave piece ∷ []) h.2.0), last_round n h.0 (Gave piece ∷ h.2.0) result (r, inl (piece, refl, h.2.2), refl, refl)))
+      (h.0, h.1, (Gave piece ∷ h.2.0, h.2.1 ∙ (ap (λ (l : List StreamCall). l ++ h.2.0) read ∙ append_assoc told0 (Gave piece ∷ []) h.2.0), last_round most n h.0 (Gave piece ∷ h.2.0) result (r, inl (piece, refl, h.2.2), refl, refl)))
 
-  pub read_again : (n : ℕ) (old : D) (told0 told1 : List StreamCall) → told1 ≡ told0 ++ GaveAgain ∷ [] → ReadsTo n old old told0 told1 None
-  read_again n old told0 told1 read = ([], refl, (GaveAgain ∷ [], read, (record { read = GaveAgain; asks = []; calls = [] }, inr (refl, refl, refl, refl), refl, refl)))
+  pub read_again : (most n : ℕ) (old : D) (told0 told1 : List StreamCall) → told1 ≡ told0 ++ GaveAgain ∷ [] → ReadsTo most n old old told0 told1 None
+  read_again most n old told0 told1 read = ([], refl, (GaveAgain ∷ [], read, (record { read = GaveAgain; asks = []; calls = [] }, inr (refl, refl, refl, refl), refl, refl)))
 
-  pub read_end : (n : ℕ) (old : D) (told0 told1 : List StreamCall) → told1 ≡ told0 ++ GaveEnd ∷ [] → ReadsTo n old old told0 told1 (Some EndOfInput)
-  read_end n old told0 told1 read = ([], refl, (GaveEnd ∷ [], read, inr (refl, refl)))
+  pub read_end : (most n : ℕ) (old : D) (told0 told1 : List StreamCall) → told1 ≡ told0 ++ GaveEnd ∷ [] → ReadsTo most n old old told0 told1 (Some EndOfInput)
+  read_end most n old told0 told1 read = ([], refl, (GaveEnd ∷ [], read, inr (refl, refl)))
 
-  pub read_broken : (n : ℕ) (old : D) (told0 told1 : List StreamCall) → told1 ≡ told0 ++ GaveNone ∷ [] → ReadsTo n old old told0 told1 (Some InputFailed)
-  read_broken n old told0 told1 read = ([], refl, (GaveNone ∷ [], read, inr (refl, refl)))
+  pub read_broken : (most n : ℕ) (old : D) (told0 told1 : List StreamCall) → told1 ≡ told0 ++ GaveNone ∷ [] → ReadsTo most n old old told0 told1 (Some InputFailed)
+  read_broken most n old told0 told1 read = ([], refl, (GaveNone ∷ [], read, inr (refl, refl)))
+
+  -- the same read, where its bound and what it led to are known
+  read_same : (most now n : ℕ) (old new : D) (told0 told1 : List StreamCall) (result as_is : Option Carried) → result ≡ as_is → now ≡ most → ReadsTo now n old new told0 told1 result → ReadsTo most n old new told0 told1 as_is
+  read_same most now n old new told0 told1 result as_is is same reads = subst (λ (m : ℕ). ReadsTo m n old new told0 told1 as_is) same (subst (λ (o : Option Carried). ReadsTo now n old new told0 told1 o) is reads)
 
   -- ---- round after round
 
   -- Rounds, after each of which more is read.
-  pub record Listening (n : ℕ) (turns : ℕ) (old new : D) (told0 told1 : List StreamCall) : Type 0 where
+  pub record Listening (most n : ℕ) (turns : ℕ) (old new : D) (told0 told1 : List StreamCall) : Type 0 where
     pub rounds : List Round
-    pub are : AreRounds n rounds
+    pub are : AreRounds most n rounds
     pub asked : AreAsked Did old (asks_in rounds) new
     pub calls_are : told1 ≡ told0 ++ calls_in rounds
     pub count : length rounds ≡ turns
 
-  pub listening_none : (n : ℕ) (old : D) (told0 : List StreamCall) → Listening n 0 old old told0 told0
-  listening_none n old told0 = record { rounds = []; are = tt; asked = refl; calls_are = sym (append-nil told0); count = refl }
+  pub listening_none : (most n : ℕ) (old : D) (told0 : List StreamCall) → Listening most n 0 old old told0 told0
+  listening_none most n old told0 = record { rounds = []; are = tt; asked = refl; calls_are = sym (append-nil told0); count = refl }
 
-  rounds_more : (n : ℕ) (rs : List Round) (r : Round) → AreRounds n rs → IsRound n r None → AreRounds n (rs ++ r ∷ [])
-  rounds_more n [] r are is = (is, tt)
-  rounds_more n (x ∷ rs) r are is = (are.0, rounds_more n rs r are.1 is)
+  rounds_more : (most n : ℕ) (rs : List Round) (r : Round) → AreRounds most n rs → IsRound most n r None → AreRounds most n (rs ++ r ∷ [])
+  rounds_more most n [] r are is = (is, tt)
+  rounds_more most n (x ∷ rs) r are is = (are.0, rounds_more most n rs r are.1 is)
 
   asks_more : (rs : List Round) (r : Round) → asks_in (rs ++ r ∷ []) ≡ asks_in rs ++ r.asks
   asks_more [] r = append-nil r.asks
@@ -248,13 +254,13 @@ module _ {D : Type 0} (Did : D → List Incoming → List Answer → D → Type 
   length_more : (rs : List Round) (r : Round) (turns : ℕ) → length rs ≡ turns → length (rs ++ r ∷ []) ≡ turns + 1
   length_more rs r turns e = let l = length-append rs (r ∷ []) in omega (arith, l, e)
 
-  pub listening_more : (n turns : ℕ) (old mid new : D) (told0 told1 told2 : List StreamCall) (result : Option Carried) → Listening n turns old mid told0 told1 → result ≡ None → ReadsTo n mid new told1 told2 result → Listening n (turns + 1) old new told0 told2
-  listening_more n turns old mid new told0 told1 told2 result l none reads =
-      let x : ReadsTo n mid new told1 told2 None = subst (λ (o : Option Carried). ReadsTo n mid new told1 told2 o) none reads in
+  pub listening_more : (most now n turns : ℕ) (old mid new : D) (told0 told1 told2 : List StreamCall) (result : Option Carried) → Listening most n turns old mid told0 told1 → result ≡ None → now ≡ most → ReadsTo now n mid new told1 told2 result → Listening most n (turns + 1) old new told0 told2
+  listening_more most now n turns old mid new told0 told1 told2 result l none same reads =
+      let x : ReadsTo most n mid new told1 told2 None = read_same most now n mid new told1 told2 result None none same reads in
       let r : Round = x.2.2.0 in
       record {
         rounds = l.rounds ++ r ∷ [];
-        are = rounds_more n l.rounds r l.are x.2.2.1;
+        are = rounds_more most n l.rounds r l.are x.2.2.1;
         asked = subst (λ (a : List Exchange). AreAsked Did old a new) (sym (asks_more l.rounds r))
             (asked_join old mid new (asks_in l.rounds) r.asks l.asked (subst (λ (a : List Exchange). AreAsked Did mid a new) x.2.2.2 x.1));
         calls_are = x.2.1 ∙ (ap (λ (a : List StreamCall). a ++ x.2.0) l.calls_are ∙ (append_assoc told0 (calls_in l.rounds) x.2.0
@@ -262,13 +268,13 @@ module _ {D : Type 0} (Did : D → List Incoming → List Answer → D → Type 
         count = length_more l.rounds r turns l.count;
       }
 
-  abbrev Listened : ℕ → D → D → List StreamCall → List StreamCall → Carried → Type 0
-  Listened n old new told0 told1 ending = (rounds : List Round) × (last : List Exchange) × (end : List StreamCall) × AreAsked Did old (asks_in rounds ++ last) new
-      × (told1 ≡ told0 ++ (calls_in rounds ++ end)) × AreRounds n rounds × Stops n rounds last end ending
+  abbrev Listened : ℕ → ℕ → D → D → List StreamCall → List StreamCall → Carried → Type 0
+  Listened most n old new told0 told1 ending = (rounds : List Round) × (last : List Exchange) × (end : List StreamCall) × AreAsked Did old (asks_in rounds ++ last) new
+      × (told1 ≡ told0 ++ (calls_in rounds ++ end)) × AreRounds most n rounds × Stops most n rounds last end ending
 
-  pub listened_end : (n turns : ℕ) (old mid new : D) (told0 told1 told2 : List StreamCall) (result : Option Carried) (ending : Carried) → Listening n turns old mid told0 told1 → result ≡ Some ending → ReadsTo n mid new told1 told2 result → Listened n old new told0 told2 ending
-  listened_end n turns old mid new told0 told1 told2 result ending l some reads =
-      let x : ReadsTo n mid new told1 told2 (Some ending) = subst (λ (o : Option Carried). ReadsTo n mid new told1 told2 o) some reads in (
+  pub listened_end : (most now n turns : ℕ) (old mid new : D) (told0 told1 told2 : List StreamCall) (result : Option Carried) (ending : Carried) → Listening most n turns old mid told0 told1 → result ≡ Some ending → now ≡ most → ReadsTo now n mid new told1 told2 result → Listened most n old new told0 told2 ending
+  listened_end most now n turns old mid new told0 told1 told2 result ending l some same reads =
+      let x : ReadsTo most n mid new told1 told2 (Some ending) = read_same most now n mid new told1 told2 result (Some ending) some same reads in (
         l.rounds,
         x.0,
         x.2.0,
@@ -278,8 +284,8 @@ module _ {D : Type 0} (Did : D → List Incoming → List Answer → D → Type 
         inl x.2.2,
       )
 
-  pub listened_tired : (n turns : ℕ) (old new : D) (told0 told1 : List StreamCall) → Listening n turns old new told0 told1 → 2 ^ 64 - 1 ≤ turns → Listened n old new told0 told1 InputFailed
-  listened_tired n turns old new told0 told1 l many = (
+  pub listened_tired : (most n turns : ℕ) (old new : D) (told0 told1 : List StreamCall) → Listening most n turns old new told0 told1 → 2 ^ 64 - 1 ≤ turns → Listened most n old new told0 told1 InputFailed
+  listened_tired most n turns old new told0 told1 l many = (
     l.rounds,
     [],
     [],
@@ -288,6 +294,10 @@ module _ {D : Type 0} (Did : D → List Incoming → List Answer → D → Type 
     l.are,
     inr (refl, refl, refl, omega (arith, many, l.count)),
   )
+
+  -- the same under the bound of its buffer behind it
+  pub listened_same : (most now n : ℕ) (old new : D) (told0 told1 : List StreamCall) (ending : Carried) → now ≡ most → Listened now n old new told0 told1 ending → Listened most n old new told0 told1 ending
+  listened_same most now n old new told0 told1 ending same l = subst (λ (m : ℕ). Listened m n old new told0 told1 ending) same l
 
   -- ---- its coming and its end
 
@@ -323,7 +333,7 @@ module _ {D : Type 0} (Did : D → List Incoming → List Answer → D → Type 
   came_not n profile zero bytes e cut = (refl, cut)
   came_not n profile (suc k) bytes e cut = absurd (omega (arith, e))
 
-  module _ (n : ℕ) (profile : Profile) (out : Told) (old mid : D) (told0 told1 : List StreamCall) (events bytes : ℕ) (over said : Bool) (e : Exchanges Did n (Comes n profile) old mid events bytes told0 told1 over said) where
+  module _ (n : ℕ) (profile : Profile) (out : Told) (old mid : D) (told0 told1 : List StreamCall) (events bytes : ℕ) (over said : Bool) (most : ℕ) (e : Exchanges Did most n (Comes n profile) old mid events bytes told0 told1 over said) where
     abbrev opening_is : Exchange
     opening_is = record { took = taken_of (Comes n profile ∷ []) events bytes; answers = e.answers }
 
@@ -364,7 +374,7 @@ module _ {D : Type 0} (Did : D → List Incoming → List Answer → D → Type 
       ),
     )
 
-    pub carried_on : (between new : D) (told2 : List StreamCall) (ending : Carried) → 0 < events → over ≡ false → said ≡ true → Listened n mid between told1 told2 ending → LeavesTo n between new ending → CarriesTo n profile out old new told0 told2 ending
+    pub carried_on : (between new : D) (told2 : List StreamCall) (ending : Carried) → 0 < events → over ≡ false → said ≡ true → Listened out.most n mid between told1 told2 ending → LeavesTo n between new ending → CarriesTo n profile out old new told0 told2 ending
     carried_on between new told2 ending some not_over is_said (rounds, last, end, asked, calls, are, stops) left = (
       opening_is ∷ ((asks_in rounds ++ last) ++ left.0),
       (mid, e.did, asked_join mid between new (asks_in rounds ++ last) left.0 asked left.1),

@@ -1,6 +1,5 @@
 -- Trusted reading: one client over a desk and a stream, from its coming to its end (own).
 use Rattle.std.specs.Prelude.{◌≡◌, ℕ, ◌-◌, ◌^◌, ◌<◌, ◌≤◌, Bool, true, false, ◌||◌, ◌==◌, List, [], ◌∷◌, ◌++◌, length, ◌⊎◌, MatchBool, Option, None, Some}
-use Rattle.tp_hub.specs.declared.answers.TheConstants.{MOST_BYTES}
 use Rattle.tp_hub.specs.declared.answers.Mark.{Mark}
 use Rattle.tp_hub.specs.declared.answers.Mark.TheVariants.{Sent, End, Refused, Done, Line}
 use Rattle.nbd_session.specs.declared.phase.Profile.{Profile}
@@ -35,14 +34,14 @@ is_close n (Refused reason) = true
 is_close n Done = false
 is_close n (Line len) = false
 
--- One event of a session was asked, where something of it was taken but of a client that comes, and its answers were written: no more than 4 MiB of them.
-pub record Exchanges {D : Type 0} (Did : D → List Incoming → List Answer → D → Type 0) (n : ℕ) (event : Incoming) (old new : D) (events bytes : ℕ) (before after : List StreamCall) (over said : Bool) : Type 0 where
+-- One event of a session was asked, where something of it was taken but of a client that comes, and its answers were written: no more bytes of them than their buffer may have (most).
+pub record Exchanges {D : Type 0} (Did : D → List Incoming → List Answer → D → Type 0) (most n : ℕ) (event : Incoming) (old new : D) (events bytes : ℕ) (before after : List StreamCall) (over said : Bool) : Type 0 where
   pub answers : List Answer
   pub did : Did old (taken_of (event ∷ []) events bytes) answers new
   pub cut : IsCut event events bytes
   pub silent : events ≡ 0 → bytes ≡ 0 → answers ≡ []
   pub begun : IsBegun event events bytes
-  pub few : length (all_sent answers) ≤ MOST_BYTES
+  pub few : length (all_sent answers) ≤ most
   pub calls : List StreamCall
   pub calls_are : after ≡ before ++ calls
   pub says : IsSaid (all_sent answers) calls said
@@ -55,15 +54,15 @@ abbrev pub over_if : Bool → Carried
 over_if true = SessionOver
 over_if false = LastLost
 
--- The asks for a piece: each takes a front of what is left, in order and once, and its answers, which are few, are written before the next ask.
+-- The asks for a piece: each takes a front of what is left, in order and once, and its answers, which are no more than their buffer may have (most), are written before the next ask.
 -- No ask comes after the session's end, or after a failure of the stream. The client goes on (None), or has ended so.
-abbrev pub Hands : ℕ → List ℕ → List Exchange → List StreamCall → Option Carried → Type 0
-Hands n piece [] calls ending = (piece ≡ []) × (calls ≡ []) × (ending ≡ None)
-Hands n piece (x ∷ xs) calls ending = (front : List ℕ) × (behind : List ℕ) × (first : List StreamCall) × (later : List StreamCall) × (all : Bool)
-    × (piece ≡ front ++ behind) × (calls ≡ first ++ later) × IsSaid (all_sent x.answers) first all × (length (all_sent x.answers) ≤ MOST_BYTES)
+abbrev pub Hands : ℕ → ℕ → List ℕ → List Exchange → List StreamCall → Option Carried → Type 0
+Hands most n piece [] calls ending = (piece ≡ []) × (calls ≡ []) × (ending ≡ None)
+Hands most n piece (x ∷ xs) calls ending = (front : List ℕ) × (behind : List ℕ) × (first : List StreamCall) × (later : List StreamCall) × (all : Bool)
+    × (piece ≡ front ++ behind) × (calls ≡ first ++ later) × IsSaid (all_sent x.answers) first all × (length (all_sent x.answers) ≤ most)
     × (x.took ≡ Brings n front ∷ []) × (0 < length front)
     × MatchBool (closes_in n x.answers) ((xs ≡ []) × (later ≡ []) × (ending ≡ Some (over_if all)))
-    (MatchBool all (Hands n behind xs later ending) ((xs ≡ []) × (later ≡ []) × (ending ≡ Some OutputFailed)))
+    (MatchBool all (Hands most n behind xs later ending) ((xs ≡ []) × (later ≡ []) × (ending ≡ Some OutputFailed)))
 
 -- ---- one client
 
@@ -82,16 +81,16 @@ asks_in [] = []
 asks_in (r ∷ rs) = r.asks ++ asks_in rs
 
 -- What one read led to.
-abbrev pub IsRound : ℕ → Round → Option Carried → Type 0
-IsRound n r ending = ((piece : List ℕ) × (r.read ≡ Gave piece) × Hands n piece r.asks r.calls ending) ⊎ ((r.read ≡ GaveAgain) × (r.asks ≡ []) × (r.calls ≡ []) × (ending ≡ None))
+abbrev pub IsRound : ℕ → ℕ → Round → Option Carried → Type 0
+IsRound most n r ending = ((piece : List ℕ) × (r.read ≡ Gave piece) × Hands most n piece r.asks r.calls ending) ⊎ ((r.read ≡ GaveAgain) × (r.asks ≡ []) × (r.calls ≡ []) × (ending ≡ None))
 
-abbrev pub AreRounds : ℕ → List Round → Type 0
-AreRounds n [] = Unit {0}
-AreRounds n (r ∷ rs) = IsRound n r None × AreRounds n rs
+abbrev pub AreRounds : ℕ → ℕ → List Round → Type 0
+AreRounds most n [] = Unit {0}
+AreRounds most n (r ∷ rs) = IsRound most n r None × AreRounds most n rs
 
 -- these asks and calls are a round
-abbrev pub IsLast : ℕ → List Exchange → List StreamCall → Option Carried → Type 0
-IsLast n asks calls ending = (r : Round) × IsRound n r ending × (asks ≡ r.asks) × (calls ≡ r.read ∷ r.calls)
+abbrev pub IsLast : ℕ → ℕ → List Exchange → List StreamCall → Option Carried → Type 0
+IsLast most n asks calls ending = (r : Round) × IsRound most n r ending × (asks ≡ r.asks) × (calls ≡ r.read ∷ r.calls)
 
 -- the last read gave nothing
 abbrev pub IsReadOut : List Exchange → List StreamCall → Carried → Type 0
@@ -100,17 +99,17 @@ IsReadOut asks calls InputFailed = (asks ≡ []) × (calls ≡ GaveNone ∷ [])
 IsReadOut asks calls _ = ⊥
 
 -- Each ending has its cause in what the last read led to, or in that read.
-abbrev pub Ends : ℕ → List Exchange → List StreamCall → Carried → Type 0
-Ends n asks calls ending = IsLast n asks calls (Some ending) ⊎ IsReadOut asks calls ending
+abbrev pub Ends : ℕ → ℕ → List Exchange → List StreamCall → Carried → Type 0
+Ends most n asks calls ending = IsLast most n asks calls (Some ending) ⊎ IsReadOut asks calls ending
 
 -- After these rounds it ended: with a last read, or since 2^64 - 1 reads were made. Nothing is read after it.
-abbrev pub Stops : ℕ → List Round → List Exchange → List StreamCall → Carried → Type 0
-Stops n rounds asks calls ending = Ends n asks calls ending ⊎ ((ending ≡ InputFailed) × (asks ≡ []) × (calls ≡ []) × (2 ^ 64 - 1 ≤ length rounds))
+abbrev pub Stops : ℕ → ℕ → List Round → List Exchange → List StreamCall → Carried → Type 0
+Stops most n rounds asks calls ending = Ends most n asks calls ending ⊎ ((ending ≡ InputFailed) × (asks ≡ []) × (calls ≡ []) × (2 ^ 64 - 1 ≤ length rounds))
 
 -- A read led to a round behind which more is read, or to an ending.
-abbrev pub GoesOnOrEnds : ℕ → List Exchange → List StreamCall → Option Carried → Type 0
-GoesOnOrEnds n asks calls None = IsLast n asks calls None
-GoesOnOrEnds n asks calls (Some ending) = Ends n asks calls ending
+abbrev pub GoesOnOrEnds : ℕ → ℕ → List Exchange → List StreamCall → Option Carried → Type 0
+GoesOnOrEnds most n asks calls None = IsLast most n asks calls None
+GoesOnOrEnds most n asks calls (Some ending) = Ends most n asks calls ending
 
 -- the session was over before its client was gone: its number may be another client's
 abbrev pub is_over : Carried → Bool
@@ -129,7 +128,7 @@ IsTurnedAway n profile out asks calls InUse = (x : Exchange) × (all : Bool) × 
 IsTurnedAway n profile out asks calls _ = ⊥
 
 -- A session was opened with this profile, its greeting written, then round after round, up to its end.
-pub record IsServed (n : ℕ) (profile : Profile) (asks : List Exchange) (calls : List StreamCall) (ending : Carried) : Type 0 where
+pub record IsServed (most n : ℕ) (profile : Profile) (asks : List Exchange) (calls : List StreamCall) (ending : Carried) : Type 0 where
   pub opening : Exchange
   pub opened : opening.took ≡ Comes n profile ∷ []
   pub is_open : closes_in n opening.answers ≡ false
@@ -137,10 +136,10 @@ pub record IsServed (n : ℕ) (profile : Profile) (asks : List Exchange) (calls 
   pub all : Bool
   pub greets : IsSaid (all_sent opening.answers) greeting all
   pub rounds : List Round
-  pub are : AreRounds n rounds
+  pub are : AreRounds most n rounds
   pub last : List Exchange
   pub end : List StreamCall
-  pub stops : MatchBool all (Stops n rounds last end ending) ((rounds ≡ []) × (last ≡ []) × (end ≡ []) × (ending ≡ OutputFailed))
+  pub stops : MatchBool all (Stops most n rounds last end ending) ((rounds ≡ []) × (last ≡ []) × (end ≡ []) × (ending ≡ OutputFailed))
   pub left : List Exchange
   pub leaves : IsLeft n left ending
   pub asks_are : asks ≡ opening ∷ ((asks_in rounds ++ last) ++ left)
@@ -148,4 +147,4 @@ pub record IsServed (n : ℕ) (profile : Profile) (asks : List Exchange) (calls 
 
 -- One client: its coming, what was read and answered, and its end.
 abbrev pub IsCarried : ℕ → Profile → Told → List Exchange → List StreamCall → Carried → Type 0
-IsCarried n profile out asks calls ending = IsTurnedAway n profile out asks calls ending ⊎ IsServed n profile asks calls ending
+IsCarried n profile out asks calls ending = IsTurnedAway n profile out asks calls ending ⊎ IsServed out.most n profile asks calls ending

@@ -7,7 +7,7 @@ ghost use Rattle.tp_hub.specs.Runs.{Incoming, incoming, session_of};
 ghost use Rattle.tp_hub.specs.Desks.{IsAsked};
 ghost use Rattle.tp_hub.specs.Serve.{HubRuns, IsServedAs, IsServedBy, PlainRuns, with_pool};
 
-use crate::answers::{Answers, MOST_BYTES};
+use crate::answers::Answers;
 use crate::client::{Carried, carry};
 use crate::desk::Desk;
 use crate::event::Event;
@@ -47,7 +47,6 @@ fn serve_as<V: Managed, S: Stream>(
     requires number { number < 64 }
     requires room { 0 < length buffer.old.items }
     requires empty { out.old.list ≡ [] }
-    requires bound { out.old.most ≤ MOST_BYTES }
     ensures served { IsServedAs (HubRuns V.view) number profile hub result.0 (S.calls stream.old) (S.calls stream.new) out.new result.1 }
     ensures empty { out.new.list ≡ [] }
     ensures wide { KeepsRoom out.old out.new }
@@ -71,7 +70,6 @@ pub fn serve<V: Managed, S: Stream>(
 ) -> (Hub<V>, Carried)
     requires room { 0 < length buffer.old.items }
     requires empty { out.old.list ≡ [] }
-    requires bound { out.old.most ≤ MOST_BYTES }
     ensures served { IsServedBy (HubRuns V.view) profile hub result.0 (S.calls stream.old) (S.calls stream.new) out.new result.1 }
     ensures traced { GoesWithTrace V.view hub.pool result.0.pool (λ t t'. IsServedBy (PlainRuns V.view) profile (with_pool hub t) (with_pool result.0 t')
         (S.calls stream.old) (S.calls stream.new) out.new result.1) }

@@ -75,7 +75,8 @@ impl Drop for Answers {
 impl Answers {
     /// No answers yet. It takes no memory. There is room for answers until memory is refused.
     pub fn new(alloc: Global) -> Answers
-        ensures { result.list ≡ [] }
+        ensures list { result.list ≡ [] }
+        ensures most { result.most ≡ 2 ^ 64 - 1 }
     {
         empty(alloc, usize::MAX)
     }

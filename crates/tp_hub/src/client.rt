@@ -7,7 +7,7 @@ ghost use Rattle.tp_hub.specs.Runs.{incoming, session_of};
 ghost use Rattle.tp_hub.specs.Streams.{Makes, StreamCall};
 ghost use Rattle.tp_hub.specs.Carrying.{AreRounds, Exchanges, GoesOnOrEnds, Hands, IsCarried, IsLeft, IsSaid, Round, Stops, asks_in, calls_in, is_over, over_if};
 
-use crate::answers::{Answers, MOST_BYTES};
+use crate::answers::Answers;
 use crate::desk::Desk;
 use crate::event::Event;
 use crate::hub::Ran;
@@ -63,8 +63,7 @@ fn exchange<D: Desk, S: Stream>(
     requires own { session_of event ≡ number }
     requires empty { out.old.list ≡ [] }
     requires fits { HasRoom out.old }
-    requires bound { out.old.most ≤ MOST_BYTES }
-    ensures did { Exchanges D.asks number (incoming event.entry) desk.old desk.new result.ran.events result.ran.bytes
+    ensures did { Exchanges D.asks out.old.most number (incoming event.entry) desk.old desk.new result.ran.events result.ran.bytes
         (S.calls stream.old) (S.calls stream.new) result.is_over result.is_said }
     ensures empty { out.new.list ≡ [] }
     ensures fits { HasRoom out.new }
@@ -105,8 +104,7 @@ fn hand<D: Desk, S: Stream>(
     requires number { number < 64 }
     requires empty { out.old.list ≡ [] }
     requires fits { HasRoom out.old }
-    requires bound { out.old.most ≤ MOST_BYTES }
-    ensures handed { (xs : List Exchange) × AreAsked D.asks desk.old xs desk.new × Makes (S.calls stream.old) (S.calls stream.new) (λ did. Hands number piece.now xs did result) }
+    ensures handed { (xs : List Exchange) × AreAsked D.asks desk.old xs desk.new × Makes (S.calls stream.old) (S.calls stream.new) (λ did. Hands out.old.most number piece.now xs did result) }
     ensures empty { out.new.list ≡ [] }
     ensures fits { HasRoom out.new }
     ensures wide { KeepsRoom out.old out.new }
@@ -158,8 +156,7 @@ fn read_once<D: Desk, S: Stream>(
     requires room { 0 < length buffer.old.items }
     requires empty { out.old.list ≡ [] }
     requires fits { HasRoom out.old }
-    requires bound { out.old.most ≤ MOST_BYTES }
-    ensures went { (xs : List Exchange) × AreAsked D.asks desk.old xs desk.new × Makes (S.calls stream.old) (S.calls stream.new) (λ did. GoesOnOrEnds number xs did result) }
+    ensures went { (xs : List Exchange) × AreAsked D.asks desk.old xs desk.new × Makes (S.calls stream.old) (S.calls stream.new) (λ did. GoesOnOrEnds out.old.most number xs did result) }
     ensures room { 0 < length buffer.new.items }
     ensures empty { out.new.list ≡ [] }
     ensures fits { HasRoom out.new }
@@ -190,9 +187,8 @@ fn listen<D: Desk, S: Stream>(
     requires room { 0 < length buffer.old.items }
     requires empty { out.old.list ≡ [] }
     requires fits { HasRoom out.old }
-    requires bound { out.old.most ≤ MOST_BYTES }
     ensures listened { (rounds : List Round) × (last : List Exchange) × (end : List StreamCall) × AreAsked D.asks desk.old (asks_in rounds ++ last) desk.new
-        × (S.calls stream.new ≡ S.calls stream.old ++ (calls_in rounds ++ end)) × AreRounds number rounds × Stops number rounds last end result }
+        × (S.calls stream.new ≡ S.calls stream.old ++ (calls_in rounds ++ end)) × AreRounds out.old.most number rounds × Stops out.old.most number rounds last end result }
     ensures empty { out.new.list ≡ [] }
     ensures fits { HasRoom out.new }
     ensures wide { KeepsRoom out.old out.new }
@@ -247,7 +243,6 @@ pub fn carry<D: Desk, S: Stream>(
     requires number { number < 64 }
     requires room { 0 < length buffer.old.items }
     requires empty { out.old.list ≡ [] }
-    requires bound { out.old.most ≤ MOST_BYTES }
     ensures carried { (xs : List Exchange) × AreAsked D.asks desk.old xs desk.new × Makes (S.calls stream.old) (S.calls stream.new) (λ did. IsCarried number profile out.new xs did result) }
     ensures empty { out.new.list ≡ [] }
     ensures wide { KeepsRoom out.old out.new }

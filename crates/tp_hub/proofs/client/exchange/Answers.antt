@@ -3,7 +3,7 @@ use Rattle.tp_hub.proofs.Carrying.{exchanged, room_left}
 use Rattle.tp_hub.proofs.client.exchange.Goals as goal
 
 pub returns-clause-did : goal.returns-clause-did
-returns-clause-did g c = exchanged g.D.Desk.asks c.args.number _ _ _ _ _ c.args.out.now c.ask-ran.new.out c.bytes.result.now _ _ _ _ c.ask-ran.ensures c.requires.empty c.requires.fits c.closes-is_over.ensures c.bytes.ensures.all (let a = c.ask-ran.ensures.adds in omega (arith, c.bytes.ensures.few, a.room.most, c.requires.bound)) c.say-is_said.ensures
+returns-clause-did g c = exchanged g.D.Desk.asks c.args.out.now.most c.args.number _ _ _ _ _ c.args.out.now c.ask-ran.new.out c.bytes.result.now _ _ _ _ c.ask-ran.ensures c.requires.empty c.requires.fits c.closes-is_over.ensures c.bytes.ensures.all (let a = c.ask-ran.ensures.adds in omega (arith, c.bytes.ensures.few, a.room.most)) c.say-is_said.ensures
 
 pub returns-clause-fits : goal.returns-clause-fits
 returns-clause-fits g c = let a = c.ask-ran.ensures.adds in room_left c.args.out.now c.ask-ran.new.out c.clear.new.self c.requires.fits a.room a.marks c.clear.ensures.list c.clear.ensures.room c.clear.ensures.marks

@@ -10,7 +10,7 @@ invariant-loop-at g l = record {
   fits : HasRoom l.out;
   wide : KeepsRoom l.initial.out l.out;
   long : l.initial.out.marks ≤ l.out.marks;
-  handing : Handing g.D.Desk.asks l.fn.number l.piece l.at l.initial.desk l.desk (g.S.Stream.calls l.initial.stream) (g.S.Stream.calls l.stream);
+  handing : Handing g.D.Desk.asks l.initial.out.most l.fn.number l.piece l.at l.initial.desk l.desk (g.S.Stream.calls l.initial.stream) (g.S.Stream.calls l.stream);
 }
 
 abbrev pub decreases-loop-at : goal.decreases-loop-at

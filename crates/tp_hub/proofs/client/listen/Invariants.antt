@@ -10,5 +10,5 @@ invariant-loop-turn g l = record {
   fits : HasRoom l.out;
   wide : KeepsRoom l.initial.out l.out;
   long : l.initial.out.marks ≤ l.out.marks;
-  listening : Listening g.D.Desk.asks l.fn.number l.turn l.initial.desk l.desk (g.S.Stream.calls l.initial.stream) (g.S.Stream.calls l.stream);
+  listening : Listening g.D.Desk.asks l.initial.out.most l.fn.number l.turn l.initial.desk l.desk (g.S.Stream.calls l.initial.stream) (g.S.Stream.calls l.stream);
 }
