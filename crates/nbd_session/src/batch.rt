@@ -63,13 +63,12 @@ struct Front {
     is_alone: bool,
 }
 
-/// Whether a frame is taken alone: client flags, behind which frames are of another kind; LIST, which tells of all volumes; and FLUSH, which waits for the disk.
+/// Whether a frame is taken alone: LIST, which tells of all volumes, and FLUSH, which waits for the disk.
 fn is_alone(frame: Frame<'_>) -> bool {
     match frame {
-        Frame::ClientFlags { .. } => true,
         Frame::ClientOption { option, .. } => option == OPTION_LIST,
         Frame::Command { request, .. } => request.kind == COMMAND_FLUSH,
-        Frame::Malformed => false,
+        Frame::ClientFlags { .. } | Frame::Malformed => false,
     }
 }
 
