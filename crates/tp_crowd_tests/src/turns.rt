@@ -1,6 +1,6 @@
 //! How much of what a client sent is asked in one turn of it.
 
-use crate::talk::{FLUSH, GO, READ, joined};
+use crate::talk::{FLUSH, GO, LETTERS, READ, WRITE_HEAD, joined};
 use crate::waiting::Seen;
 use nbd_session::Profile;
 use std::alloc::{AllocError, Global};
@@ -12,21 +12,28 @@ use tp_hub::{Answers, Desk, Event, Hub, Ran};
 use tp_model::Refusal;
 use tp_shelf::{Shelf, blank_shelf};
 
-/// Bytes of 16 requests.
-const TURN: usize = 16 * 28;
+/// How many bytes a READ, a FLUSH and an option without data have, and a WRITE of a sector.
+const SHORT: usize = 28;
 
-/// Forty reads.
-fn reads(alloc: Global) -> Result<Vec<u8>, AllocError> {
+const OPTION: usize = 16;
+
+const LONG: usize = 28 + 512;
+
+/// The client flags.
+const FLAGS: &[u8] = b"\0\0\0\x03";
+
+const LIST: &[u8] = b"IHAVEOPT\0\0\0\x03\0\0\0\0";
+
+/// An option that the server does not know.
+const UNKNOWN: &[u8] = b"IHAVEOPT\0\0\0\x63\0\0\0\0";
+
+/// These parts, forty times.
+fn forty(alloc: Global, parts: &[&[u8]]) -> Result<Vec<u8>, AllocError> {
     let mut text = Vec::new(alloc);
     for _ in 0..40 {
-        text.extend_from_slice(READ)?;
+        text.append(&mut joined(alloc, parts)?)?;
     }
     Ok(text)
-}
-
-/// Two flushes, each behind a read.
-fn reads_and_flushes(alloc: Global) -> Result<Vec<u8>, AllocError> {
-    joined(alloc, &[READ, FLUSH, READ, FLUSH])
 }
 
 /// Asks a piece from this byte on.
@@ -34,8 +41,9 @@ fn ask_from<D: Desk>(desk: &mut D, piece: &[u8], from: usize, out: &mut Answers)
     desk.ask(Event::Bytes(0, piece.get(from..).unwrap_or(&[])), out)
 }
 
-/// What a client that sends this is asked in each of three turns, which begin at these bytes.
-fn turns_of<H>(rt: &H, text: &[u8], from: [usize; 3]) -> Result<[Ran; 3], Refusal>
+/// What a client that sent something before and sends this is asked in each of three turns, which begin
+/// at these bytes.
+fn turns_of<H>(rt: &H, before: &[u8], text: &[u8], from: [usize; 3]) -> Result<[Ran; 3], Refusal>
 where
     H: Wait + Sync + Alloc<A = Global>,
 {
@@ -48,7 +56,7 @@ where
         hub: &hub,
     };
     desk.ask(Event::Open(0, Profile::Strict), &mut out);
-    desk.ask(Event::Bytes(0, GO), &mut out);
+    desk.ask(Event::Bytes(0, before), &mut out);
     Ok([
         ask_from(&mut desk, text, from[0], &mut out),
         ask_from(&mut desk, text, from[1], &mut out),
@@ -59,6 +67,7 @@ where
 /// The same, where there was memory for what it sends.
 fn turns_of_text<H>(
     rt: &H,
+    before: &[u8],
     text: Result<Vec<u8>, AllocError>,
     from: [usize; 3],
 ) -> Result<[Ran; 3], Refusal>
@@ -66,7 +75,7 @@ where
     H: Wait + Sync + Alloc<A = Global>,
 {
     match text {
-        Ok(text) => turns_of(rt, &text, from),
+        Ok(text) => turns_of(rt, before, &text, from),
         Err(_) => Err(Refusal::Memory),
     }
 }
@@ -82,19 +91,53 @@ const REST: Ran = Ran {
     bytes: 0,
 };
 
-/// A client that sends many requests at once has the hub for 16 of them, and then others may have it.
+/// Where the second and the third turn begin, if each of these has so many bytes.
+fn turns_by(bytes: usize) -> [usize; 3] {
+    [0, bytes, 2 * bytes]
+}
+
+/// A client that sends many READs at once has the hub for 16 of them, and then others may have it.
 #[test]
-fn sixteen_requests_a_turn(rt: HostRuntime) -> Result<(), Fail> {
-    let took = turns_of_text(&rt, reads(rt.alloc()), [0, TURN, 2 * TURN])?;
-    assert_eq!(rt; took, [part(TURN), part(TURN), REST]);
+fn sixteen_reads_a_turn(rt: HostRuntime) -> Result<(), Fail> {
+    let reads = forty(rt.alloc(), &[READ]);
+    let took = turns_of_text(&rt, GO, reads, turns_by(16 * SHORT))?;
+    assert_eq!(rt; took, [part(16 * SHORT), part(16 * SHORT), REST]);
     Ok(())
 }
 
-/// A flush has a turn of its own: it begins one, so that a sync of the earlier writes can run without
-/// the lock, and ends it, since a flush in parts is answered alone.
+/// The same of WRITEs.
+#[test]
+fn sixteen_writes_a_turn(rt: HostRuntime) -> Result<(), Fail> {
+    let writes = forty(rt.alloc(), &[WRITE_HEAD, LETTERS]);
+    let took = turns_of_text(&rt, GO, writes, turns_by(16 * LONG))?;
+    assert_eq!(rt; took, [part(16 * LONG), part(16 * LONG), REST]);
+    Ok(())
+}
+
+/// The same of options.
+#[test]
+fn sixteen_options_a_turn(rt: HostRuntime) -> Result<(), Fail> {
+    let options = forty(rt.alloc(), &[UNKNOWN]);
+    let took = turns_of_text(&rt, FLAGS, options, turns_by(16 * OPTION))?;
+    assert_eq!(rt; took, [part(16 * OPTION), part(16 * OPTION), REST]);
+    Ok(())
+}
+
+/// A LIST, which tells of all volumes, has a turn of its own.
+#[test]
+fn a_list_has_a_turn_of_its_own(rt: HostRuntime) -> Result<(), Fail> {
+    let lists = joined(rt.alloc(), &[UNKNOWN, LIST, LIST]);
+    let took = turns_of_text(&rt, FLAGS, lists, turns_by(OPTION))?;
+    assert_eq!(rt; took, [part(OPTION), part(OPTION), REST]);
+    Ok(())
+}
+
+/// A flush has a turn of its own: one begins with it, so that others read while the device syncs, and ends
+/// with it, also if there is nothing to sync.
 #[test]
 fn a_flush_has_a_turn_of_its_own(rt: HostRuntime) -> Result<(), Fail> {
-    let took = turns_of_text(&rt, reads_and_flushes(rt.alloc()), [0, 28, 2 * 28])?;
-    assert_eq!(rt; took, [part(28), part(28), part(28)]);
+    let text = joined(rt.alloc(), &[WRITE_HEAD, LETTERS, FLUSH, FLUSH, READ]);
+    let took = turns_of_text(&rt, GO, text, [0, LONG, LONG + SHORT])?;
+    assert_eq!(rt; took, [part(LONG), part(SHORT), part(SHORT)]);
     Ok(())
 }
