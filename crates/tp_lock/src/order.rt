@@ -117,17 +117,17 @@ impl Order {
         self.turn.lock(rt)
     }
 
-    /// Whether those go first who keep what was written: a commit is on its way, or has told some who
-    /// have not had their turn yet, for which one waits no longer than for a sync.
-    fn is_to_wait(&self) -> bool {
+    /// For how many nanoseconds those go first who keep what was written: while a commit is on its way, and
+    /// then until those whom it told have had their turn, for no longer than a sync. 0 if they do not.
+    fn left_to_wait(&self) -> u64 {
         if self.is_committing.load(Ordering::SeqCst) {
-            return true;
+            return NAP;
         }
         if self.keepers.load(Ordering::SeqCst) == 0 || !self.is_kept.load(Ordering::SeqCst) {
-            return false;
+            return 0;
         }
         let since = now().saturating_sub(self.ended_at.load(Ordering::SeqCst));
-        since < self.last_sync.load(Ordering::SeqCst)
+        self.last_sync.load(Ordering::SeqCst).saturating_sub(since)
     }
 
     /// The turn, where nobody goes first: awake or asleep.
@@ -137,7 +137,7 @@ impl Order {
         } else {
             self.turn.try_lock()?
         };
-        if self.is_to_wait() {
+        if self.left_to_wait() > 0 {
             return None;
         }
         Some(turn)
@@ -148,8 +148,9 @@ impl Order {
         let mut is_asleep = false;
         for _ in 0..TRIES {
             let told = self.free.notifications();
-            if self.is_to_wait() {
-                self.free.sleep(rt, told, Duration::from_nanos(NAP));
+            let left = self.left_to_wait();
+            if left > 0 {
+                self.free.sleep(rt, told, Duration::from_nanos(left));
                 continue;
             }
             if let Some(turn) = self.try_turn(rt, is_asleep) {
@@ -177,6 +178,7 @@ impl Order {
         self.changes.fetch_add(1, Ordering::SeqCst);
         drop(turn);
         self.news.notify_one();
+        self.free.notify_all();
     }
 
     /// Lets those go first who wait to change something, and waits for the FLUSHes of sessions that
@@ -291,7 +293,7 @@ impl Order {
         if leads {
             self.ended.notify_all();
         }
-        if self.keepers.load(Ordering::SeqCst) == 0 {
+        if self.left_to_wait() == 0 {
             self.free.notify_all();
         }
     }
