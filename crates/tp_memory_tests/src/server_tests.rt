@@ -206,8 +206,9 @@ where
     match told {
         (Ending::Done, (Visit::Untouched, Visit::Answered, 1)) => Outcome::refused(is_kept, true),
         (Ending::Done, (Visit::Answered, _, 2)) => Outcome::refused(is_kept, true),
+        (_, (Visit::Wrong, _, _)) => Outcome::Wrong,
         // It listens before it has all its threads, so its end may cut a client's answers.
-        (Ending::Memory, _) => { Outcome::refused(is_kept, stayed(rt, images) == Some(ALL_WELL)) }
+        (Ending::Memory, _) => Outcome::refused(is_kept, stayed(rt, images) == Some(ALL_WELL)),
         _ => Outcome::Wrong,
     }
 }

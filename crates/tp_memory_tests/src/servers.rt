@@ -161,8 +161,10 @@ pub(crate) enum Visit {
     Untouched,
     /// All answers were sent.
     Answered,
-    /// A part of them.
+    /// A part of them, as far as their count tells.
     Part,
+    /// More than that, or sectors that nobody wrote.
+    Wrong,
 }
 
 /// How many bytes come until a connection ends, and how many of them are the letter `a`.
@@ -186,13 +188,20 @@ fn talk(client: &mut TcpStream) -> Visit {
     let _ = client.write_all(GO);
     let _ = client.write_all(READ);
     let _ = client.shutdown(Shutdown::Write);
-    let heard = heard(client);
+    visit_of(heard(client))
+}
+
+/// What a client came to that was sent so many bytes, so many of which are letters.
+fn visit_of(heard: (u64, u64)) -> Visit {
+    let (bytes, letters) = ANSWERED_BLANK;
     if heard == ANSWERED_BLANK {
         Visit::Answered
     } else if heard == (0, 0) {
         Visit::Untouched
-    } else {
+    } else if heard.0 < bytes && heard.1 <= letters {
         Visit::Part
+    } else {
+        Visit::Wrong
     }
 }
 
