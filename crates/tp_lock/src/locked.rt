@@ -77,11 +77,12 @@ pub struct HubLock<'a, V: Staged, A: Alarm<V>, K: Start<V>> {
 
 impl<'a, V: Staged, A: Alarm<V>, K: Start<V>> HubLock<'a, V, A, K> {
     ghost use Rattle.std.specs.Prelude.{◌≡◌, ◌<◌, IfSome, true};
-    ghost use Rattle.nbd_session.specs.Flushes.{IsAtFlush};
+    ghost use Rattle.tp_hub.specs.Runs.{incoming, session_of};
     ghost use Rattle.tp_hub.specs.Seats.{seat_at};
-    ghost use Rattle.tp_hub.specs.Serving.{Slots, sessions_of};
+    ghost use Rattle.tp_hub.specs.Serving.{Slots};
     ghost use Rattle.tp_lock.specs.Census.{AreSeats};
     ghost use Rattle.tp_lock.specs.Locked.{IsFrom};
+    ghost use Rattle.tp_lock.specs.Pieces.{WantsFlush};
 
     /// A lock that nobody has.
     pub fn new(hub: Hub<V>, alarm: &'a A) -> HubLock<'a, V, A, K>
@@ -160,13 +161,15 @@ impl<'a, V: Staged, A: Alarm<V>, K: Start<V>> HubLock<'a, V, A, K> {
         seats_of(&hub)
     }
 
-    /// Whether the next frame of a session is a FLUSH that passes its tests and stands whole at the
-    /// front of a piece.
-    fn begins_flush<R: Wait>(&self, rt: &R, number: u8, piece: &[u8]) -> bool
-        requires { number < 64 }
-        ensures { result ≡ true → (slots : Slots) × IsAtFlush (sessions_of slots number) piece.now }
+    /// Whether an event brings a session a piece that begins with a whole FLUSH, which passes its tests.
+    fn is_flush<R: Wait>(&self, rt: &R, event: &Event<'_>) -> bool
+        requires { session_of event.now < 64 }
+        ensures { result ≡ true → WantsFlush (incoming event.now) }
     {
-        self.shared(rt).begins_flush(number, piece)
+        match *event {
+            Event::Parted(number, piece) => self.shared(rt).begins_flush(number, piece),
+            _ => false,
+        }
     }
 
     /// Lets READs that wait go first, as long as it takes to wake them.
@@ -480,21 +483,13 @@ fn purpose_if(is_flush: bool) -> HubUse
     }
 }
 
-/// What a piece of a session wants it for. Its session tells whether a FLUSH passes its tests.
-fn purpose_of_piece<R: Wait, V: Staged, A: Alarm<V>, K: Start<V>>(
-    rt: &R,
-    hub: &HubLock<'_, V, A, K>,
-    number: u8,
-    kind: PieceKind,
-    piece: &[u8],
-) -> HubUse
-    requires { number < 64 }
-    ensures { result ≡ Keep → WantsFlush (Brings number piece.now) }
+/// What a piece of this kind wants it for.
+fn purpose_of_piece(kind: PieceKind) -> HubUse
+    ensures { result ≡ Keep → ⊥ }
 {
     match kind {
-        PieceKind::Look => HubUse::Change,
-        PieceKind::Flush => purpose_if(hub.begins_flush(rt, number, piece)),
-        PieceKind::Other => HubUse::Change,
+        PieceKind::Flush => HubUse::MayKeep,
+        PieceKind::Look | PieceKind::Other => HubUse::Change,
     }
 }
 
@@ -640,28 +635,30 @@ fn ask_flush<R: Wait, V: Managed + Staged, A: Alarm<V>, K: Start<V>>(
     }
 }
 
-/// Asks a hub behind a lock alone, for an event that asks for a flush. Where nothing was written since
-/// the last one, it has nothing to wait for, and is asked as any other. The alarm sounds when the lock
-/// is let go.
+/// Asks a hub behind a lock alone, for an event that asks for a flush, or may do so. Where nothing was
+/// changed since the last commit, it has nothing to wait for, and is asked as any other. The alarm
+/// sounds when the lock is let go.
 fn ask_to_keep<R: Wait, V: Managed + Staged, A: Alarm<V>, K: Start<V>>(
     rt: &R,
     alloc: Global,
     hub: &HubLock<'_, V, A, K>,
+    is_certain: bool,
     event: Event<'_>,
     out: &mut Answers,
 ) -> Seen
     requires session { session_of event < 64 }
     requires room { HasRoom out.old }
-    requires wants { WantsFlush (incoming event) }
+    requires wants { is_certain ≡ true → WantsFlush (incoming event) }
     ensures { IsSeen V.view event.entry result out.old out.new }
 {
     let keeping = hub.order.keep(rt, hearer_of(&event));
-    let (seen, cause) = if keeping.leads {
+    let is_flush = is_certain || hub.is_flush(rt, &event);
+    let (seen, cause) = if keeping.leads && is_flush {
         ask_flush(rt, alloc, hub, event, out, &keeping.turn)
     } else {
         ask_in_turn(rt, alloc, hub, event, out, &keeping.turn)
     };
-    hub.order.kept(keeping, true);
+    hub.order.kept(keeping, is_flush);
     hub.sound(cause);
     seen
 }
@@ -701,11 +698,11 @@ fn ask_for<R: Wait, V: Managed + Staged, A: Alarm<V>, K: Start<V>>(
 {
     match purpose {
         HubUse::Change => ask_to_change(rt, alloc, hub, event, out),
-        HubUse::Keep => {
+        HubUse::Keep | HubUse::MayKeep => {
             if out.make_room().is_err() {
                 return ask_to_change(rt, alloc, hub, event, out);
             }
-            ask_to_keep(rt, alloc, hub, event, out)
+            ask_to_keep(rt, alloc, hub, purpose == HubUse::Keep, event, out)
         }
     }
 }
@@ -880,7 +877,7 @@ fn ask_parts<R: Wait, V: Managed + Staged, A: Alarm<V>, K: Start<V>>(
     ensures asked { IsAsked (λ took answers. SomeRuns V.view took answers) (Brings number piece.now) result.events result.bytes out.old out.new }
     ensures parts { AsksInParts V.view number piece.now result.events result.bytes out.old out.new }
 {
-    let purpose = purpose_of_piece(rt, hub, number, kind, piece);
+    let purpose = purpose_of_piece(kind);
     let seen = ask_for(rt, alloc, hub, purpose, Event::Parted(number, piece), out);
     let ran = seen.ran;
     if ran.events == 0 && ran.bytes == 0 {

@@ -14,6 +14,9 @@ const TRIES: u32 = 4000;
 /// again.
 const NAP: u64 = 10_000_000;
 
+/// At most so many threads are awake for the turn.
+const MOST_AWAKE: u64 = 2;
+
 /// Less than this, in nanoseconds, is not waited for the FLUSHes of others.
 const SHORTEST_GRACE: u64 = 20_000;
 
@@ -22,6 +25,8 @@ const SHORTEST_GRACE: u64 = 20_000;
 pub(crate) enum HubUse {
     /// To keep what was written, which takes as long as the device does.
     Keep,
+    /// The same, where the session takes what comes for a FLUSH.
+    MayKeep,
     /// Anything else.
     Change,
 }
@@ -51,6 +56,8 @@ pub(crate) struct Order {
     changers: AtomicU64,
     /// How many turns were taken to change something.
     changes: AtomicU64,
+    /// How many wait awake for the turn.
+    awake: AtomicU64,
     /// A bit for each session whose change was answered since the last commit began, and for each that has flushed of late.
     unkept: AtomicU64,
     flushers: AtomicU64,
@@ -86,6 +93,7 @@ impl Order {
             keepers: AtomicU64::new(0),
             changers: AtomicU64::new(0),
             changes: AtomicU64::new(0),
+            awake: AtomicU64::new(0),
             unkept: AtomicU64::new(0),
             flushers: AtomicU64::new(0),
             sync_so_far: AtomicU64::new(0),
@@ -103,18 +111,33 @@ impl Order {
         &self.patience
     }
 
-    /// The turn, for which one waits awake as long as that pays.
-    fn lock<R: Wait>(&self, rt: &R) -> MutexGuard<'_, ()> {
+    /// The turn, if one has it soon, for which one waits awake as long as that pays.
+    fn lock_awake(&self) -> Option<MutexGuard<'_, ()>> {
         let mut waiting = self.patience.begin();
         for _ in 0..TRIES {
             if let Some(turn) = self.turn.try_lock() {
-                return turn;
+                return Some(turn);
             }
             if !waiting.goes_on() {
                 break;
             }
         }
-        self.turn.lock(rt)
+        None
+    }
+
+    /// The turn, for which few wait awake.
+    fn lock<R: Wait>(&self, rt: &R) -> MutexGuard<'_, ()> {
+        let others = self.awake.fetch_add(1, Ordering::SeqCst);
+        let turn = if others < MOST_AWAKE {
+            self.lock_awake()
+        } else {
+            None
+        };
+        self.awake.fetch_sub(1, Ordering::SeqCst);
+        match turn {
+            Some(turn) => turn,
+            None => self.turn.lock(rt),
+        }
     }
 
     /// For how many nanoseconds those go first who keep what was written: while a commit is on its way, and
@@ -130,22 +153,7 @@ impl Order {
         self.last_sync.load(Ordering::SeqCst).saturating_sub(since)
     }
 
-    /// The turn, where nobody goes first: awake or asleep.
-    fn try_turn<R: Wait>(&self, rt: &R, is_asleep: bool) -> Option<MutexGuard<'_, ()>> {
-        let turn = if is_asleep {
-            self.turn.lock(rt)
-        } else {
-            self.turn.try_lock()?
-        };
-        if self.left_to_wait() > 0 {
-            return None;
-        }
-        Some(turn)
-    }
-
     fn wait_to_change<R: Wait>(&self, rt: &R) -> MutexGuard<'_, ()> {
-        let mut waiting = self.patience.begin();
-        let mut is_asleep = false;
         for _ in 0..TRIES {
             let told = self.free.notifications();
             let left = self.left_to_wait();
@@ -153,10 +161,10 @@ impl Order {
                 self.free.sleep(rt, told, Duration::from_nanos(left));
                 continue;
             }
-            if let Some(turn) = self.try_turn(rt, is_asleep) {
+            let turn = self.lock(rt);
+            if self.left_to_wait() == 0 {
                 return turn;
             }
-            is_asleep = !waiting.goes_on();
         }
         self.turn.lock(rt)
     }
