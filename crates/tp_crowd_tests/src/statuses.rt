@@ -22,6 +22,18 @@ const STATUS: &[u8] = b"\x25\x60\x95\x13\0\0\0\x07\0\0\0\0\0\0\0\x05\0\0\0\0\0\0
 const TOLD: &[u8] =
     b"\x66\x8e\x33\xef\0\x01\0\x05\0\0\0\0\0\0\0\x05\0\0\0\x0c\0\0\0\x01\0\x10\0\0\0\0\0\0";
 
+/// A client sends what takes a few turns.
+fn enter<D: Desk>(desk: &mut D, out: &mut Answers) {
+    let mut at = 0usize;
+    for _ in 0..4 {
+        let ran = desk.ask(Event::Bytes(0, ENTER.get(at..).unwrap_or(&[])), out);
+        if ran.events > 0 {
+            return;
+        }
+        at = at.saturating_add(ran.bytes);
+    }
+}
+
 /// Whether a client that asks where there is data is answered so.
 fn is_told<H>(rt: &H, hub: &HubLock<'_, Shelf, Seen, Brand>) -> bool
 where
@@ -34,7 +46,7 @@ where
         hub,
     };
     desk.ask(Event::Open(0, Profile::Extended), &mut out);
-    desk.ask(Event::Bytes(0, ENTER), &mut out);
+    enter(&mut desk, &mut out);
     out.clear();
     desk.ask(Event::Bytes(0, STATUS), &mut out);
     out.bytes() == TOLD
