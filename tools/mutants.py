@@ -106,7 +106,8 @@ def harmless(edit):
 
 
 def beside(lines, places):
-    """The lines of a file with mutants, of which each is a body with its number, by the lines of the original one. Also the new lines of each number."""
+    """The lines of a file with other bodies, each behind its number. `places`: by the lines of the original body, the
+    numbers and the bodies. Returns also the new lines of each number."""
     text, marks, last = [], [], 0
     for (begin, end), others in sorted(places.items()):
         text += lines[last:begin]
@@ -127,7 +128,7 @@ def refused_in(failure, marks):
 
 
 class Programs:
-    """The programs of a crate, or its tests, with these edits. A number of an edit is its place in the list, from 1 on."""
+    """The programs of a crate, or its tests, with these edits. The number of an edit is its place in the list, from 1."""
 
     def __init__(self, crate, every):
         self.crate, self.every = crate, every
@@ -170,7 +171,7 @@ class Programs:
         return marks
 
     def together(self):
-        """Builds the program of many edits. Returns their numbers: a body that is refused beside the original is left out."""
+        """Builds the program of many edits, except those that are refused beside the original. Returns their numbers."""
         path = f"{self.out}/numbers"
         if scripts.is_built(self.program, self.sum):
             return set(map(int, text_lines(path)[0].split()))
