@@ -1,9 +1,11 @@
-"""Programs with mutants: one in which a variable chooses among the edits of functions, and one for each other edit."""
+"""Programs with mutants: one in which a variable chooses among the edits of functions, and one for each other edit.
+
+Their sources are put together outside of the checkout: rt refuses a checkout with sources that no check reads."""
 import os
 import re
 import shutil
 import sys
-import threading
+import tempfile
 
 import scripts
 
@@ -119,6 +121,22 @@ def beside(lines, places):
     return [*text, *lines[last:]], marks
 
 
+def with_mutants(numbered):
+    """The texts of files in which edited bodies are beside the original ones, and the lines of each number, by path."""
+    files, texts, marks = {}, {}, {}
+    for edit in numbered.values():
+        for (path, at), line in harmless(edit).items():
+            files.setdefault(path, (text_lines(path), {}))[0][at] = line
+    for number, edit in numbered.items():
+        for (path, *place), body in bodies(edit).items():
+            places = files.setdefault(path, (text_lines(path), {}))[1]
+            places.setdefault(tuple(place), []).append((number, body))
+    for path, (lines, places) in files.items():
+        text, marks[path] = beside(lines, places)
+        texts[path] = "\n".join(text)
+    return texts, marks
+
+
 def refused_in(failure, marks):
     """The mutants whose lines a failed build names."""
     for crate, file, line in ERROR.findall(failure):
@@ -133,42 +151,28 @@ class Programs:
     def __init__(self, crate, every):
         self.crate, self.every = crate, every
         self.out = f"crates/{crate}/out/mutants"
-        self.copy = f"{self.out}/copy"
         self.program = os.path.abspath(f"{self.out}/program")
         self.sum = scripts.sum_of(scripts.sources(crate), [title(it) + it.body for it in every])
-        self.lock = threading.Lock()
 
-    def make_copy(self):
-        """Copies what the program is built of, and adds the crate that chooses the mutant."""
-        shutil.rmtree(self.copy, ignore_errors=True)
+    def put_sources(self, top):
+        """Copies what the program is built of to a folder, and adds the crate that chooses the mutant."""
         uses, lines = scripts.uses(), [f"{CHOOSER}:"]
         for it in scripts.crates_below(self.crate):
-            shutil.copytree(f"crates/{it}/src", f"{self.copy}/crates/{it}/src")
+            shutil.copytree(f"crates/{it}/src", f"{top}/crates/{it}/src")
             lines.append(f"{it}: {' '.join([CHOOSER, *uses[it]])}")
-        write(f"{self.copy}/crates.txt", "\n".join(lines) + "\n")
-        shutil.copy("HANDLES", self.copy)
-        write(f"{self.copy}/crates/{CHOOSER}/src/lib.rt", RATTLE)
-        write(f"{self.copy}/crates/{CHOOSER}/c/{CHOOSER}.c", C)
+        write(f"{top}/crates.txt", "\n".join(lines) + "\n")
+        shutil.copy("HANDLES", top)
+        write(f"{top}/crates/{CHOOSER}/src/lib.rt", RATTLE)
+        write(f"{top}/crates/{CHOOSER}/c/{CHOOSER}.c", C)
 
-    def build(self, program):
-        """Builds the copy. Returns what the build printed if it failed."""
+    def build(self, program, texts):
+        """Builds a program with these texts of files. Returns what the build printed if it failed."""
         os.environ["RT_ALLOW_C"] = CHOOSER
-        return scripts.build(self.crate, program, self.sum, self.copy)
-
-    def put_mutants(self, numbered):
-        """Puts edited bodies beside the original ones in the copy. Returns the lines of each number, by path."""
-        files, marks = {}, {}
-        for edit in numbered.values():
-            for (path, at), line in harmless(edit).items():
-                files.setdefault(path, (text_lines(path), {}))[0][at] = line
-        for number, edit in numbered.items():
-            for (path, *place), body in bodies(edit).items():
-                places = files.setdefault(path, (text_lines(path), {}))[1]
-                places.setdefault(tuple(place), []).append((number, body))
-        for path, (lines, places) in files.items():
-            text, marks[path] = beside(lines, places)
-            write(f"{self.copy}/{path}", "\n".join(text))
-        return marks
+        with tempfile.TemporaryDirectory(prefix="mutants-") as top:
+            self.put_sources(top)
+            for path, text in texts.items():
+                write(f"{top}/{path}", text)
+            return scripts.build(self.crate, program, self.sum, top)
 
     def together(self):
         """Builds the program of many edits, except those that are refused beside the original. Returns their numbers."""
@@ -177,9 +181,8 @@ class Programs:
             return set(map(int, text_lines(path)[0].split()))
         numbered = {number: it for number, it in enumerate(self.every, 1) if bodies(it)}
         while True:
-            self.make_copy()
-            marks = self.put_mutants(numbered)
-            failure = self.build(self.program)
+            texts, marks = with_mutants(numbered)
+            failure = self.build(self.program, texts)
             if not failure:
                 write(path, " ".join(map(str, numbered)))
                 return set(numbered)
@@ -192,11 +195,7 @@ class Programs:
     def alone(self, edit):
         """Builds the program of one edit. Returns its path, or None."""
         program = os.path.abspath(f"{self.out}/alone/{edit.crate}.{edit.name}")
-        with self.lock:
-            if not scripts.is_built(program, self.sum):
-                self.make_copy()
-                for path, (_, after) in edit.applied().items():
-                    write(f"{self.copy}/{path}", after)
-                if self.build(program):
-                    return None
+        if not scripts.is_built(program, self.sum):
+            if self.build(program, {path: after for path, (_, after) in edit.applied().items()}):
+                return None
         return program
