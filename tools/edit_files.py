@@ -1,4 +1,4 @@
-"""The edits under edits/, which CI does not try: their headers, their index, and their faults.
+"""The edits under edits/, which CI does not try: their headers, their index, and their faults; and those of CI.
 
 An edit begins with two header lines. `# turns:` states what the edit changes in meaning. `# test:`
 names the tests that fail with that body, as CRATE::MODULE::TEST or CRATE::SCRIPT::CASE, or is
@@ -15,7 +15,7 @@ TEST = re.compile(r"\b(tp_\w+|nbd_\w+|play_\w+)((?:::\w+)*)::(\w+)\b")
 
 
 class Edit:
-    """One file edits/CRATE/NAME.edit."""
+    """One file edits/CRATE/NAME.edit, or crates/CRATE/must-fail/NAME.edit."""
 
     def __init__(self, path):
         self.path = path
@@ -43,19 +43,34 @@ class Edit:
                 yield f"there is no test {crate}{modules}::{test}"
         yield from self.lost_texts()
 
-    def lost_texts(self):
-        """Each reason why rt could not apply this edit: a text that its file does not have once."""
-        text, path, old, pairs = "", None, None, 0
+    def changes(self):
+        """The file, the old text and the new text of each pair, in the order in which rt applies them."""
+        path = old = None
         for line in self.body.split("\n"):
             word, _, rest = line.partition(": ")
             if word == "file":
-                path, text = rest, text_of(f"crates/{self.crate}/{rest}")
+                path = f"crates/{self.crate}/{rest}"
             elif word == "old":
                 old = rest
-                if text.count(old) != 1:
-                    yield f"{path} has the text {text.count(old)} times, not once: {old.strip()}"
             elif word.rstrip(":") == "new" and old is not None:
-                text, pairs = text.replace(old, rest), pairs + 1
+                yield path, old, rest
+
+    def applied(self):
+        """The text of each file that this edit changes, before and after."""
+        texts = {}
+        for path, old, new in self.changes():
+            before, now = texts.get(path) or (text_of(path), text_of(path))
+            texts[path] = before, now.replace(old, new)
+        return texts
+
+    def lost_texts(self):
+        """Each reason why rt could not apply this edit: a text that its file does not have once."""
+        texts, pairs = {}, 0
+        for path, old, new in self.changes():
+            text = texts.get(path) or text_of(path)
+            if text.count(old) != 1:
+                yield f"{path} has the text {text.count(old)} times, not once: {old.strip()}"
+            texts[path], pairs = text.replace(old, new), pairs + 1
         if not pairs:
             yield "no pair of lines 'old:' and 'new:'"
 
@@ -79,6 +94,10 @@ def is_test(crate, modules, test):
 
 def edits():
     return [Edit(path) for path in sorted(glob.glob("edits/*/*.edit"))]
+
+
+def edits_of_ci():
+    return [Edit(path) for path in sorted(glob.glob("crates/*/must-fail/*.edit"))]
 
 
 def index():

@@ -7,7 +7,7 @@ from functools import partial
 
 from edge_cases.commands import FAULT, commands
 from running import BLOCK, FLUSH, FUA, READ, TRIM, WRITE, ZEROES
-from running import Client, Failed, Ground, Skipped, calls_in, end_of, held, kill, start, strace, want
+from running import Client, Failed, Ground, Skipped, calls_in, end_of, go, held, kill, request, start, strace, want
 
 SYNCS = ("fsync", "fdatasync")
 # What drops the cached pages.
@@ -57,6 +57,7 @@ def syncs(ground):
     yield "feed: a FLUSH is answered 5 where a sync fails", partial(fails_to_flush, ground)
     yield "message 'set_transaction_id 0 0' writes nothing and syncs nothing", partial(sets_the_same, ground)
     yield "check --clear-needs-check-flag of an image without the flag writes nothing", partial(clears_nothing, ground)
+    yield "play syncs nothing behind a write where the next line is bad", partial(plays_a_bad_line, ground)
 
 
 def first(calls, names, path):
@@ -212,3 +213,17 @@ def clears_nothing(ground):
     ran, calls = ground.traced(TRACED, "check", image, "--clear-needs-check-flag")
     writes = sum(name in WRITES and path == image for name, _, path, _ in calls)
     want((ran.status == 0, ran.told()), (writes == 0, f"{writes} writes"), (held(image) == before, "the image changed"))
+
+
+def plays_a_bad_line(ground):
+    """A bad line ends the script without closing the pool: what is not durable stays so."""
+    image, script = ground.copy("bad.img"), ground.path("bad.script")
+    lines = ["open 0", f"bytes 0 {go().hex()}", f"bytes 0 {request(WRITE, data=b'a' * 512).hex()}", "no line"]
+    with open(script, "w", encoding="ascii") as it:
+        it.write("\n".join(lines) + "\n")
+    ran, calls = ground.traced(TRACED, "play", image, script)
+    names = [name for name, _, on, _ in calls if on == image]
+    writes = [at for at, name in enumerate(names) if name in WRITES]
+    want((ran.status == 2, ran.told()), (len(writes) == 1, f"{len(writes)} writes"))
+    behind = sum(name in SYNCS for name in names[writes[0]:])
+    want((behind == 0, f"{behind} syncs behind the write"))
