@@ -1,5 +1,5 @@
 -- An ask of a hub, where others may have asked it before.
-use Rattle.std.proofs.Common.{◌≡◌, ◌+◌, ◌<◌, ◌≤◌, ◌⊎◌, ◌++◌, ◌∙◌, ap, append_assoc, append-nil, inl, inr, ℕ, ⊎_elim, zero, suc, Bool, true, false, Option, Some, List, [], ◌∷◌, length, take, take-take, length-take-le, refl, sym, subst, arith}
+use Rattle.std.proofs.Common.{◌≡◌, ◌+◌, ◌<◌, ◌≤◌, ◌⊎◌, ◌++◌, ◌∙◌, ap, append_assoc, append-nil, inl, inr, ℕ, ⊎_elim, zero, suc, Bool, true, false, Option, Some, List, [], ◌∷◌, length, take, refl, sym, subst, arith}
 use Rattle.std.specs.Prelude.{not}
 use Rattle.std.proofs.lemmas.Bool.{cases_lt}
 use Rattle.tp_model.specs.Clauses.{View}

@@ -1,5 +1,5 @@
 -- A hub behind a lock in the middle of a message, and behind it.
-use Rattle.std.proofs.Common.{◌≡◌, ◌∙◌, ℕ, ◌+◌, ◌≤◌, zero, suc, [], ◌∷◌, ◌++◌, List, length, refl, sym, ap, subst, arith}
+use Rattle.std.proofs.Common.{◌≡◌, ◌∙◌, ℕ, ◌≤◌, zero, suc, [], ◌∷◌, ◌++◌, List, length, refl, sym, ap, subst, arith}
 use Rattle.std.specs.Prelude.{Ok, Result}
 use Rattle.tp_model.specs.declared.refusal.Refusal.{Refusal}
 use Rattle.tp_model.specs.declared.volumes.Flushing.{Flushing}

@@ -1,10 +1,7 @@
 -- Trusted reading: how the bytes of a client fall into frames, one byte after another (own).
-use Rattle.std.specs.Prelude.{ℕ, zero, suc, ◌+◌, ◌-◌, Bool, false, List, [], ◌∷◌, ◌++◌, length, take, drop, min, nat_lt, nat_eq, slice_index_or, ◌%◌, ◌==◌, ◌||◌, ◌&&◌, if◌then◌else◌}
-use Rattle.std.specs.Int.{w32, to_be_bytes}
-use Rattle.std.specs.List.{starts_with}
+use Rattle.std.specs.Prelude.{ℕ, zero, suc, ◌+◌, ◌-◌, Bool, false, List, [], ◌∷◌, ◌++◌, length, take, nat_lt, ◌==◌, ◌||◌, if◌then◌else◌}
 use Rattle.nbd_wire.specs.declared.Kind.{Kind}
 use Rattle.nbd_wire.specs.declared.Kind.TheVariants.{Flags, Options, Requests}
-use Rattle.nbd_wire.specs.declared.TheConstants.{REQUEST_MAGIC}
 use Rattle.nbd_wire.specs.Reading.{fixed_len, wanted}
 use Rattle.tp_hub.specs.declared.stream.Received.{Received}
 use Rattle.tp_hub.specs.declared.stream.Received.TheVariants.{Got, NotNow, End, Broken}

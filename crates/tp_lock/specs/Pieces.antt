@@ -1,5 +1,5 @@
 -- Internal: whose a piece is, and which events ask for a flush.
-use Rattle.std.specs.Prelude.{◌≡◌, ℕ, Bool, true, false, ◌⊎◌, List, Option, None, Some, if◌then◌else◌}
+use Rattle.std.specs.Prelude.{◌≡◌, ℕ, Bool, true, false, ◌⊎◌, Option, None, Some, if◌then◌else◌}
 use Rattle.nbd_session.specs.Flushes.{IsAtFlush}
 use Rattle.nbd_session.specs.Session.{is_to_flush}
 use Rattle.nbd_session.specs.Turns.{Sessions}

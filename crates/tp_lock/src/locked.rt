@@ -483,6 +483,13 @@ fn purpose_if(is_flush: bool) -> HubUse
     }
 }
 
+/// Whether one is certain to keep what was written.
+fn is_certain(purpose: HubUse) -> bool
+    ensures { result ≡ true → purpose ≡ Keep }
+{
+    matches!(purpose, HubUse::Keep)
+}
+
 /// What a piece of this kind wants it for.
 fn purpose_of_piece(kind: PieceKind) -> HubUse
     ensures { result ≡ Keep → ⊥ }
@@ -702,7 +709,7 @@ fn ask_for<R: Wait, V: Managed + Staged, A: Alarm<V>, K: Start<V>>(
             if out.make_room().is_err() {
                 return ask_to_change(rt, alloc, hub, event, out);
             }
-            ask_to_keep(rt, alloc, hub, purpose == HubUse::Keep, event, out)
+            ask_to_keep(rt, alloc, hub, is_certain(purpose), event, out)
         }
     }
 }

@@ -2,7 +2,7 @@ use Rattle.tp_lock.proofs.Seeing.{seen_wider}
 use Rattle.tp_lock.proofs.locked.ask_for.Goals as goal
 
 pub ask_to_keep-requires-clause-wants : goal.ask_to_keep-requires-clause-wants
-ask_to_keep-requires-clause-wants g c = c.requires.wants c.in-Keep.is
+ask_to_keep-requires-clause-wants g c = λ certain. c.requires.wants (c.is_certain.ensures certain)
 
 pub returns-then-is_err : goal.returns-then-is_err
 returns-then-is_err g c =

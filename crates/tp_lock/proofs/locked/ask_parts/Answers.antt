@@ -5,7 +5,7 @@ use Rattle.tp_lock.proofs.locked.ask_parts.Goals as goal
 use Rattle.tp_lock.proofs.Seeing.{wants_left}
 
 pub ask_for-seen-requires-clause-wants : goal.ask_for-seen-requires-clause-wants
-ask_for-seen-requires-clause-wants g c = c.purpose_of_piece-purpose.ensures
+ask_for-seen-requires-clause-wants g c = λ keep. absurd (c.purpose_of_piece-purpose.ensures keep)
 
 pub make_parts-requires-clause-wants : goal.make_parts-requires-clause-wants
 make_parts-requires-clause-wants g c = wants_left c.args.number c.ask_for-seen.result.is_to_flush c.ask_for-seen.ensures.flush
