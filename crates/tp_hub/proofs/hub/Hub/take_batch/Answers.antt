@@ -1,4 +1,4 @@
-use Rattle.std.proofs.Common.{List, sym, subst, arith}
+use Rattle.std.proofs.Common.{ℕ, List, take, sym, ap, subst, ◌≡◌, arith}
 use Rattle.tp_hub.specs.declared.event.Event.{Event}
 use Rattle.tp_hub.specs.Told.{Answer}
 use Rattle.tp_hub.specs.Runs.{Incoming, incoming}
