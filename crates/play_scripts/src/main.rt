@@ -1,4 +1,4 @@
-//! Plays scripts of pools.
+//! Plays the given scripts.
 #![tactic(auto)]
 
 use std::io;
