@@ -46,30 +46,47 @@ pub(crate) struct Keeping<'a> {
 #[derive(Drop)]
 pub(crate) struct Order {
     turn: Mutex<()>,
-    /// Whether there is one who leads, and whether its commit has begun.
-    has_leader: AtomicBool,
-    is_committing: AtomicBool,
-    /// Whether nothing was changed since the last commit began.
-    is_kept: AtomicBool,
-    /// How many wait to keep what was written, and how many to change something.
-    keepers: AtomicU64,
-    changers: AtomicU64,
-    /// How many turns were taken to change something.
-    changes: AtomicU64,
-    /// How many wait awake for the turn.
-    awake: AtomicU64,
-    /// A bit for each session whose change was answered since the last commit began, and for each that has flushed of late.
-    unkept: AtomicU64,
-    flushers: AtomicU64,
-    /// In nanoseconds: the longest sync of the commit so far, that of the last commit, and when it ended.
-    sync_so_far: AtomicU64,
-    last_sync: AtomicU64,
-    ended_at: AtomicU64,
-    /// Told to those who keep when a commit has ended, to those who change when they may, and to the one who leads when anything has come.
+    flags: [AtomicBool; 3],
+    numbers: [AtomicU64; 9],
+    /// Told to those who keep when a commit has ended, and to those who change when they may.
     ended: Condvar,
     free: Condvar,
-    news: Condvar,
     patience: Patience,
+}
+
+// The flags: whether there is one who leads, whether its commit has begun, and whether nothing was
+// changed since the last commit began.
+const HAS_LEADER: usize = 0;
+
+const IS_COMMITTING: usize = 1;
+
+const IS_KEPT: usize = 2;
+
+// The numbers. How many wait to keep what was written, how many to change something, and how many of
+// both are awake; how many turns were taken to change something.
+const KEEPERS: usize = 0;
+
+const CHANGERS: usize = 1;
+
+const AWAKE: usize = 2;
+
+const CHANGES: usize = 3;
+
+// A bit for each session whose change was answered since the last commit began, and for each that has
+// flushed of late.
+const UNKEPT: usize = 4;
+
+const FLUSHERS: usize = 5;
+
+// In nanoseconds: the longest sync of the commit so far, that of the last commit, and when it ended.
+const SYNC_SO_FAR: usize = 6;
+
+const LAST_SYNC: usize = 7;
+
+const ENDED_AT: usize = 8;
+
+fn zero(_at: usize) -> AtomicU64 {
+    AtomicU64::new(0)
 }
 
 /// The bit of a session, if there is one.
@@ -87,21 +104,14 @@ impl Order {
     pub(crate) fn new() -> Order {
         Order {
             turn: Mutex::new(()),
-            has_leader: AtomicBool::new(false),
-            is_committing: AtomicBool::new(false),
-            is_kept: AtomicBool::new(true),
-            keepers: AtomicU64::new(0),
-            changers: AtomicU64::new(0),
-            changes: AtomicU64::new(0),
-            awake: AtomicU64::new(0),
-            unkept: AtomicU64::new(0),
-            flushers: AtomicU64::new(0),
-            sync_so_far: AtomicU64::new(0),
-            last_sync: AtomicU64::new(0),
-            ended_at: AtomicU64::new(0),
+            flags: [
+                AtomicBool::new(false),
+                AtomicBool::new(false),
+                AtomicBool::new(true),
+            ],
+            numbers: std::array::from_fn(zero),
             ended: Condvar::new(),
             free: Condvar::new(),
-            news: Condvar::new(),
             patience: Patience::new(),
         }
     }
@@ -127,13 +137,13 @@ impl Order {
 
     /// The turn, for which few wait awake.
     fn lock<R: Wait>(&self, rt: &R) -> MutexGuard<'_, ()> {
-        let others = self.awake.fetch_add(1, Ordering::SeqCst);
+        let others = self.numbers[AWAKE].fetch_add(1, Ordering::SeqCst);
         let turn = if others < MOST_AWAKE {
             self.lock_awake()
         } else {
             None
         };
-        self.awake.fetch_sub(1, Ordering::SeqCst);
+        self.numbers[AWAKE].fetch_sub(1, Ordering::SeqCst);
         match turn {
             Some(turn) => turn,
             None => self.turn.lock(rt),
@@ -143,14 +153,18 @@ impl Order {
     /// For how many nanoseconds those go first who keep what was written: while a commit is on its way, and
     /// then until those whom it told have had their turn, for no longer than a sync. 0 if they do not.
     fn left_to_wait(&self) -> u64 {
-        if self.is_committing.load(Ordering::SeqCst) {
+        if self.flags[IS_COMMITTING].load(Ordering::SeqCst) {
             return NAP;
         }
-        if self.keepers.load(Ordering::SeqCst) == 0 || !self.is_kept.load(Ordering::SeqCst) {
+        if self.numbers[KEEPERS].load(Ordering::SeqCst) == 0
+            || !self.flags[IS_KEPT].load(Ordering::SeqCst)
+        {
             return 0;
         }
-        let since = now().saturating_sub(self.ended_at.load(Ordering::SeqCst));
-        self.last_sync.load(Ordering::SeqCst).saturating_sub(since)
+        let since = now().saturating_sub(self.numbers[ENDED_AT].load(Ordering::SeqCst));
+        self.numbers[LAST_SYNC]
+            .load(Ordering::SeqCst)
+            .saturating_sub(since)
     }
 
     fn wait_to_change<R: Wait>(&self, rt: &R) -> MutexGuard<'_, ()> {
@@ -171,9 +185,9 @@ impl Order {
 
     /// The turn of one who changes something.
     pub(crate) fn change<R: Wait>(&self, rt: &R) -> MutexGuard<'_, ()> {
-        self.changers.fetch_add(1, Ordering::SeqCst);
+        self.numbers[CHANGERS].fetch_add(1, Ordering::SeqCst);
         let turn = self.wait_to_change(rt);
-        self.changers.fetch_sub(1, Ordering::SeqCst);
+        self.numbers[CHANGERS].fetch_sub(1, Ordering::SeqCst);
         turn
     }
 
@@ -181,11 +195,10 @@ impl Order {
     pub(crate) fn changed(&self, session: Option<u8>, turn: MutexGuard<'_, ()>)
         requires { IfSome session (λ number. number < 64) }
     {
-        self.is_kept.store(false, Ordering::SeqCst);
-        self.unkept.fetch_or(bit_of(session), Ordering::SeqCst);
-        self.changes.fetch_add(1, Ordering::SeqCst);
+        self.flags[IS_KEPT].store(false, Ordering::SeqCst);
+        self.numbers[UNKEPT].fetch_or(bit_of(session), Ordering::SeqCst);
+        self.numbers[CHANGES].fetch_add(1, Ordering::SeqCst);
         drop(turn);
-        self.news.notify_one();
         self.free.notify_all();
     }
 
@@ -194,22 +207,26 @@ impl Order {
     /// for again before they flush.
     fn wait_for_others<R: Wait>(&self, rt: &R) {
         let began = now();
-        let most = self.last_sync.load(Ordering::SeqCst) / 8;
-        let waited_for = self.changers.load(Ordering::SeqCst);
-        let so_far = self.changes.load(Ordering::SeqCst);
+        let most = self.numbers[LAST_SYNC].load(Ordering::SeqCst) / 8;
+        let waited_for = self.numbers[CHANGERS].load(Ordering::SeqCst);
+        let so_far = self.numbers[CHANGES].load(Ordering::SeqCst);
         for _ in 0..TRIES {
-            let told = self.news.notifications();
-            let late = self.unkept.load(Ordering::SeqCst) & self.flushers.load(Ordering::SeqCst);
-            let went = self.changes.load(Ordering::SeqCst).wrapping_sub(so_far);
+            let late = self.numbers[UNKEPT].load(Ordering::SeqCst)
+                & self.numbers[FLUSHERS].load(Ordering::SeqCst);
+            let went = self.numbers[CHANGES]
+                .load(Ordering::SeqCst)
+                .wrapping_sub(so_far);
             if late == 0 && went >= waited_for {
                 return;
             }
             let left = most.saturating_sub(now().saturating_sub(began));
             if left < SHORTEST_GRACE {
-                self.flushers.fetch_and(!late, Ordering::SeqCst);
+                self.numbers[FLUSHERS].fetch_and(!late, Ordering::SeqCst);
                 return;
             }
-            self.news.sleep(rt, told, Duration::from_nanos(left));
+            let told = self.ended.notifications();
+            self.ended
+                .sleep(rt, told, Duration::from_nanos(left.min(SHORTEST_GRACE)));
         }
     }
 
@@ -217,19 +234,19 @@ impl Order {
     fn lead<R: Wait>(&self, rt: &R) -> Keeping<'_> {
         self.wait_for_others(rt);
         let turn = self.lock(rt);
-        self.is_committing.store(true, Ordering::SeqCst);
-        self.unkept.store(0, Ordering::SeqCst);
-        self.sync_so_far.store(0, Ordering::SeqCst);
+        self.flags[IS_COMMITTING].store(true, Ordering::SeqCst);
+        self.numbers[UNKEPT].store(0, Ordering::SeqCst);
+        self.numbers[SYNC_SO_FAR].store(0, Ordering::SeqCst);
         Keeping { turn, leads: true }
     }
 
     /// The turn of one who is told by the last commit, where that kept all that was written.
     fn follow<R: Wait>(&self, rt: &R) -> Option<Keeping<'_>> {
-        if !self.is_kept.load(Ordering::SeqCst) {
+        if !self.flags[IS_KEPT].load(Ordering::SeqCst) {
             return None;
         }
         let turn = self.lock(rt);
-        if !self.is_kept.load(Ordering::SeqCst) {
+        if !self.flags[IS_KEPT].load(Ordering::SeqCst) {
             return None;
         }
         Some(Keeping { turn, leads: false })
@@ -241,7 +258,7 @@ impl Order {
             if let Some(keeping) = self.follow(rt) {
                 return keeping;
             }
-            if !self.has_leader.swap(true, Ordering::SeqCst) {
+            if !self.flags[HAS_LEADER].swap(true, Ordering::SeqCst) {
                 return self.lead(rt);
             }
             self.ended.sleep(rt, told, Duration::from_nanos(NAP));
@@ -254,12 +271,11 @@ impl Order {
         requires { IfSome session (λ number. number < 64) }
     {
         let bit = bit_of(session);
-        self.unkept.fetch_and(!bit, Ordering::SeqCst);
-        self.flushers.fetch_or(bit, Ordering::SeqCst);
-        self.keepers.fetch_add(1, Ordering::SeqCst);
-        self.news.notify_one();
+        self.numbers[UNKEPT].fetch_and(!bit, Ordering::SeqCst);
+        self.numbers[FLUSHERS].fetch_or(bit, Ordering::SeqCst);
+        self.numbers[KEEPERS].fetch_add(1, Ordering::SeqCst);
         let keeping = self.wait_to_keep(rt);
-        self.keepers.fetch_sub(1, Ordering::SeqCst);
+        self.numbers[KEEPERS].fetch_sub(1, Ordering::SeqCst);
         keeping
     }
 
@@ -267,7 +283,7 @@ impl Order {
     pub(crate) fn change_and_keep<R: Wait>(&self, rt: &R) -> Keeping<'_> {
         for _ in 0..TRIES {
             let told = self.ended.notifications();
-            if !self.has_leader.swap(true, Ordering::SeqCst) {
+            if !self.flags[HAS_LEADER].swap(true, Ordering::SeqCst) {
                 break;
             }
             self.ended.sleep(rt, told, Duration::from_nanos(NAP));
@@ -277,23 +293,23 @@ impl Order {
 
     /// How long a sync took of the commit that is on its way, in nanoseconds.
     pub(crate) fn synced(&self, time: u64) {
-        let so_far = self.sync_so_far.load(Ordering::SeqCst);
-        self.sync_so_far.store(so_far.max(time), Ordering::SeqCst);
+        let so_far = self.numbers[SYNC_SO_FAR].load(Ordering::SeqCst);
+        self.numbers[SYNC_SO_FAR].store(so_far.max(time), Ordering::SeqCst);
     }
 
     /// Ends the commit of one who led.
     fn end_commit(&self) {
-        let sync = self.sync_so_far.load(Ordering::SeqCst);
-        self.last_sync.store(sync, Ordering::SeqCst);
-        self.ended_at.store(now(), Ordering::SeqCst);
-        self.is_committing.store(false, Ordering::SeqCst);
-        self.has_leader.store(false, Ordering::SeqCst);
+        let sync = self.numbers[SYNC_SO_FAR].load(Ordering::SeqCst);
+        self.numbers[LAST_SYNC].store(sync, Ordering::SeqCst);
+        self.numbers[ENDED_AT].store(now(), Ordering::SeqCst);
+        self.flags[IS_COMMITTING].store(false, Ordering::SeqCst);
+        self.flags[HAS_LEADER].store(false, Ordering::SeqCst);
     }
 
     /// Ends the turn of one who kept what was written, or has not.
     pub(crate) fn kept(&self, keeping: Keeping<'_>, is_done: bool) {
         let Keeping { turn, leads } = keeping;
-        self.is_kept.store(is_done, Ordering::SeqCst);
+        self.flags[IS_KEPT].store(is_done, Ordering::SeqCst);
         if leads {
             self.end_commit();
         }
