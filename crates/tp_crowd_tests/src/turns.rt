@@ -93,7 +93,7 @@ const REST: Ran = Ran {
 
 /// Where the second and the third turn begin, if each of these has so many bytes.
 fn turns_by(bytes: usize) -> [usize; 3] {
-    [0, bytes, 2 * bytes]
+    [0, bytes, bytes.saturating_add(bytes)]
 }
 
 /// A client that sends many READs at once has the hub for 16 of them, and then others may have it.
