@@ -1,8 +1,8 @@
 //! How much of what a client sends is taken before others may have the pool, and what it begins with.
 
-ghost use Rattle.std.specs.Prelude.{◌≡◌, ◌<◌, ◌≤◌, length};
+ghost use Rattle.std.specs.Prelude.{◌≡◌, ◌<◌, ◌≤◌, false, length};
 ghost use Rattle.nbd_wire.specs.Reading.{message_of, wanted};
-ghost use Rattle.nbd_session.specs.Batches.{IsBatch, IsNext, front_len};
+ghost use Rattle.nbd_session.specs.Batches.{BeginsAlone, IsBatch, IsNext, front_len, is_alone};
 ghost use Rattle.nbd_session.specs.Requests.{IsKindOf, kind_of_message, kind_of_request};
 
 use crate::request::is_look;
@@ -64,7 +64,9 @@ struct Front {
 }
 
 /// Whether a frame is taken alone: LIST, which tells of all volumes, and FLUSH, which waits for the disk.
-fn is_alone(frame: Frame<'_>) -> bool {
+fn is_alone(frame: Frame<'_>) -> bool
+    ensures { result ≡ is_alone (message_of frame.entry) }
+{
     match frame {
         Frame::ClientOption { option, .. } => option == OPTION_LIST,
         Frame::Command { request, .. } => request.kind == COMMAND_FLUSH,
@@ -75,6 +77,7 @@ fn is_alone(frame: Frame<'_>) -> bool {
 /// The first frame of a piece of frames of this kind.
 fn front_of(kind: Kind, piece: &[u8]) -> Front
     ensures len { result.len ≡ front_len kind piece.now }
+    ensures joined { result.is_alone ≡ false → BeginsAlone kind piece.now → ⊥ }
     ensures most { result.len ≤ length piece.now }
     ensures some { 0 < length piece.now → 0 < result.len }
 {

@@ -80,7 +80,7 @@ impl Session {
     ghost use Rattle.tp_model.specs.Flushing.{IsFlushed};
     ghost use Rattle.nbd_session.specs.Flushes.{IsAtFlush};
     ghost use Rattle.nbd_session.specs.Requests.{BeginsWith, is_look};
-    ghost use Rattle.nbd_session.specs.Batches.{IsNext};
+    ghost use Rattle.nbd_session.specs.Batches.{IsBatchOf};
     ghost use Rattle.nbd_session.specs.Session.{has_older, is_at_work, is_to_flush, kind_of, left_in, state};
     ghost use Rattle.nbd_session.specs.Clauses.{Advances, IsCalm, IsReady, Leaves};
     ghost use Rattle.nbd_session.specs.contracts.session.Session.{the_row};
@@ -147,7 +147,7 @@ impl Session {
     /// of which it holds a part, and else of its first 16 frames at most, or up to a FLUSH or a LIST,
     /// and of one of these alone.
     pub fn batch_len(&self, piece: &[u8]) -> usize
-        ensures few { IfSome (kind_of self.now.phase) (λ kind. IsNext kind self.now.held piece.now result) }
+        ensures few { IsBatchOf self.now piece.now result }
         ensures most { result ≤ length piece.now }
         ensures some { 0 < length piece.now → 0 < result }
     {

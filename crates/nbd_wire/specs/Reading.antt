@@ -1,4 +1,4 @@
--- Internal: reading a frame from its front.
+-- Trusted reading: how a frame is read from its front (own).
 use Rattle.std.specs.Borrow.{Bor}
 use Rattle.std.specs.Option.{option_map}
 use Rattle.std.specs.Prelude.{◌≡◌, ℕ, zero, suc, ◌+◌, ◌*◌, ◌≤◌, Option, Some, None, Bool, true, false, List, take, drop, length, nat_le, nat_lt, ◌==◌, ◌&&◌, ◌||◌, bytes_eq, if◌then◌else◌}

@@ -4,6 +4,7 @@ use Rattle.std.proofs.lemmas.List.{take_all}
 use Rattle.tp_hub.specs.Told.{Answer, Told}
 use Rattle.tp_hub.specs.Runs.{Brings, Incoming}
 use Rattle.tp_hub.specs.Desks.{IsAsked}
+use Rattle.tp_hub.specs.Parts.{taken_len}
 
 module _ (Did : List Incoming → List Answer → Type 0) (session : ℕ) (piece : List ℕ) (before after : Told) where
   abbrev Asked : List ℕ → ℕ → ℕ → Type 0
@@ -53,3 +54,11 @@ module _ (Did : List Incoming → List Answer → Type 0) (session : ℕ) (piece
   -- The front that was asked is the piece.
   pub all_front : (count events bytes : ℕ) → length piece ≤ count → Asked (take count piece) events bytes → Asked piece events bytes
   all_front count events bytes all asked = subst (λ (p : List ℕ). Asked p events bytes) (take_all count piece all) asked
+
+  -- No more was taken than the front, of which all is the piece where all was taken.
+  pub front_few : (count events bytes : ℕ) → count ≤ length piece → (0 < events → length piece ≤ count) → Asked (take count piece) events bytes → taken_len piece events bytes ≤ count
+  front_few count zero bytes within all asked = elim asked.cut [
+    | inl none ↦ omega (arith, none)
+    | inr less ↦ omega (arith, less, length-take-le count piece within)
+  ]
+  front_few count (suc n) bytes within all asked = all (omega arith)

@@ -1,5 +1,5 @@
 -- Trusted reading: that all parts of a long request are made (own).
-use Rattle.std.specs.Prelude.{◌≡◌, ◌==◌, ◌<◌, ◌⊎◌, ℕ, Bool, false, List, [], ◌∷◌, ◌++◌, All, map}
+use Rattle.std.specs.Prelude.{◌≡◌, ◌==◌, ◌<◌, ◌≤◌, ◌⊎◌, ℕ, zero, suc, Bool, false, List, [], ◌∷◌, ◌++◌, All, length, map, ⊤}
 use Rattle.tp_model.specs.Pool.{Outline}
 use Rattle.tp_model.specs.Calls.{Call}
 use Rattle.tp_model.specs.Calls as calls
@@ -7,6 +7,7 @@ use Rattle.nbd_wire.specs.declared.Request.{Request}
 use Rattle.nbd_session.specs.declared.phase.Course.TheVariants.{Listens, Works}
 use Rattle.nbd_session.specs.declared.phase.Manner.{Manner}
 use Rattle.nbd_session.specs.declared.phase.Phase.TheVariants.{Transmission}
+use Rattle.nbd_session.specs.Batches.{IsBatchOf}
 use Rattle.nbd_session.specs.Requests.{rest_of}
 use Rattle.nbd_session.specs.Session.{MakesPart, is_at_work}
 use Rattle.nbd_session.specs.Turns.{Happened, Hears, Sessions, pool_after}
@@ -27,6 +28,28 @@ is_parted_to n (kinds.Size volume) = false
 is_parted_to n (kinds.Map volume from) = false
 is_parted_to n (kinds.Delta old new from) = false
 is_parted_to n kinds.Flush = false
+
+-- how many bytes of a piece were taken, with so many events and so many bytes of the next
+abbrev pub taken_len : List ℕ → ℕ → ℕ → ℕ
+taken_len piece zero bytes = bytes
+taken_len piece (suc n) bytes = length piece
+
+-- of a piece that came to this session and may be parted, no more than a batch was taken
+abbrev pub TakesBatch : Sessions → ℕ → List ℕ → ℕ → ℕ → Type 0
+TakesBatch at n piece events bytes = (len : ℕ) × IsBatchOf (at n) piece len × (taken_len piece events bytes ≤ len)
+
+abbrev pub IsInBatch : Sessions → Event → ℕ → ℕ → Type 0
+IsInBatch at (kinds.Parted session piece) events bytes = TakesBatch at session piece.now events bytes
+IsInBatch at (kinds.Open session profile) events bytes = ⊤
+IsInBatch at (kinds.Bytes session piece) events bytes = ⊤
+IsInBatch at (kinds.Hangup session) events bytes = ⊤
+IsInBatch at (kinds.Message line) events bytes = ⊤
+IsInBatch at kinds.Status events bytes = ⊤
+IsInBatch at (kinds.ThinStatus volume) events bytes = ⊤
+IsInBatch at (kinds.Size volume) events bytes = ⊤
+IsInBatch at (kinds.Map volume from) events bytes = ⊤
+IsInBatch at (kinds.Delta old new from) events bytes = ⊤
+IsInBatch at kinds.Flush events bytes = ⊤
 
 -- no part of a request of this session is left
 abbrev pub IsIdle : Sessions → ℕ → Type 0

@@ -6,6 +6,7 @@ ghost use Rattle.tp_model.specs.Clauses.{PoolCall};
 ghost use Rattle.tp_hub.specs.Runs.{Brings, IsPartOfNext, IsShortOfNext, Runs, incoming, session_of, taken_of};
 ghost use Rattle.tp_hub.specs.Parts.{BringIdle, IsIdle, StayIdle, is_parted_to};
 ghost use Rattle.tp_hub.specs.Places.{TakesEvent, one_if};
+ghost use Rattle.nbd_session.specs.Batches.{IsBatchOf};
 ghost use Rattle.nbd_session.specs.Flushes.{IsAtFlush};
 ghost use Rattle.nbd_session.specs.Session.{has_older, is_at_work, is_to_flush};
 ghost use Rattle.tp_hub.specs.Serve.{AreAllOpen, IsLeastFree};
@@ -233,7 +234,7 @@ impl<V: Managed> Hub<V> {
     ghost use Rattle.nbd_session.specs.Clauses.{GoesWithTrace};
     ghost use Rattle.tp_hub.specs.Desks.{IsAsked, RanSo, RunsSo};
     ghost use Rattle.tp_hub.specs.Runs.{Brings, IsPartOfNext, IsShortOfNext, Runs, incoming, session_of, taken_of};
-    ghost use Rattle.tp_hub.specs.Parts.{BringIdle, IsIdle, StayIdle, is_parted_to};
+    ghost use Rattle.tp_hub.specs.Parts.{BringIdle, IsIdle, IsInBatch, StayIdle, is_parted_to};
     ghost use Rattle.tp_hub.specs.Serving.{sessions_of};
 
     /// Takes events one after another, and adds their answers. What is sent is that of the sessions' turns, in the order of the events.
@@ -288,12 +289,17 @@ impl<V: Managed> Hub<V> {
         }
     }
 
-    /// Takes one event as `take` does, and of the piece of a `Parted` no more than a batch
-    /// (`Session::batch_len`), so that others may have the hub before the rest of it.
+    /// Takes one event as `take` does, and of the piece of a `Parted` no more than a batch of its
+    /// session (`Session::batch_len`), so that others may have the hub before the rest of it.
     pub fn take_batch(&mut self, alloc: Global, event: Event<'_>, out: &mut Answers) -> Ran
         requires { session_of event < 64 }
         ensures asked { IsAsked (λ took answers. RunsSo V.view (sessions_of self.old.slots) self.old.pool took answers (sessions_of self.new.slots) self.new.pool)
             (incoming event.entry) result.events result.bytes out.old out.new }
+        ensures traced { GoesWithTrace V.view self.old.pool self.new.pool (λ t t'. IsAsked
+            (λ took answers. RanSo outline_of_traced (TracedCall V.view.has_use) (sessions_of self.old.slots) t took answers (sessions_of self.new.slots) t')
+            (incoming event.entry) result.events result.bytes out.old out.new) }
+        ensures few { IsInBatch (sessions_of self.old.slots) event.entry result.events result.bytes }
+        ensures idle { (n : ℕ) → is_parted_to n event.entry ≡ false → IsIdle (sessions_of self.old.slots) n → IsIdle (sessions_of self.new.slots) n }
         ensures made { (n : ℕ) → is_parted_to n event.entry ≡ false → incoming event.entry ≡ Brings n [] → 0 < result.events → IsIdle (sessions_of self.new.slots) n }
     {
         match event {
@@ -367,6 +373,7 @@ pub(crate) fn at_flush(sessions: &[Option<Session>; SESSIONS], number: u8, piece
 fn batch_len(sessions: &[Option<Session>; SESSIONS], number: u8, piece: &[u8]) -> usize
     requires count { length sessions.now ≡ 64 }
     requires number { number < 64 }
+    ensures few { IsBatchOf (sessions_of sessions.now number) piece.now result }
     ensures most { result ≤ length piece.now }
     ensures some { 0 < length piece.now → 0 < result }
 {
