@@ -22,7 +22,6 @@ pub some_on : (at rest total count : ℕ) → (0 < rest → 0 < count) → rest 
 some_on zero rest total count some is most any = let more = some (omega (arith, is, any)) in omega (arith, more)
 some_on (suc at) rest total count some is most any = omega arith
 
-
 pub front_joins : (kind : Kind) (m : Message) (text frame rest : List ℕ) → IsFrame kind m frame → text ≡ frame ++ rest → is_alone m ≡ false → BeginsAlone kind text → ⊥
 front_joins kind m text frame rest h e not b =
     let same : m ≡ b.message = (one_frame kind m b.message frame b.frame rest b.rest h b.is_frame (sym e ∙ b.text_is)).1 in

@@ -20,6 +20,9 @@ const MOST_AWAKE: u64 = 2;
 /// Less than this, in nanoseconds, is not waited for the FLUSHes of others.
 const SHORTEST_GRACE: u64 = 20_000;
 
+/// A call that takes less, in nanoseconds, had nothing to sync.
+const SHORTEST_SYNC: u64 = 20_000;
+
 /// What one wants the hub alone for.
 #[derive(Clone, Copy, PartialEq, Eq)]
 pub(crate) enum HubUse {
@@ -297,10 +300,12 @@ impl Order {
         self.numbers[SYNC_SO_FAR].store(so_far.max(time), Ordering::SeqCst);
     }
 
-    /// Ends the commit of one who led.
+    /// Ends the commit of one who led. Of one that had nothing to sync nothing is learned about the device.
     fn end_commit(&self) {
         let sync = self.numbers[SYNC_SO_FAR].load(Ordering::SeqCst);
-        self.numbers[LAST_SYNC].store(sync, Ordering::SeqCst);
+        if sync >= SHORTEST_SYNC {
+            self.numbers[LAST_SYNC].store(sync, Ordering::SeqCst);
+        }
         self.numbers[ENDED_AT].store(now(), Ordering::SeqCst);
         self.flags[IS_COMMITTING].store(false, Ordering::SeqCst);
         self.flags[HAS_LEADER].store(false, Ordering::SeqCst);

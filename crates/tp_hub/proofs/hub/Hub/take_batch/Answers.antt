@@ -26,9 +26,11 @@ pub returns-then-count-piece-clause-few : goal.returns-then-count-piece-clause-f
 returns-then-count-piece-clause-few g c =
     let did = c.take-ran in
     let Did = λ (took : List Incoming) (answers : List Answer). RunsSo g.V.Volumes.view (sessions_of c.args.self.now.slots) c.args.self.now.pool took answers (sessions_of did.new.self.slots) did.new.self.pool in
-    subst (λ (e : Event). IsInBatch (sessions_of c.args.self.now.slots) e did.result.events did.result.bytes) (sym c.in-Parted.is)
-    (c.batch_len-count.result, c.batch_len-count.ensures.few,
-      front_few Did c.in-Parted.number c.in-Parted.piece.now c.args.out.now did.new.out c.batch_len-count.result did.result.events did.result.bytes c.batch_len-count.ensures.most (λ some. c.if-count-piece.true) did.ensures.asked)
+    subst (λ (e : Event). IsInBatch (sessions_of c.args.self.now.slots) e did.result.events did.result.bytes) (sym c.in-Parted.is) (
+      c.batch_len-count.result,
+      c.batch_len-count.ensures.few,
+      front_few Did c.in-Parted.number c.in-Parted.piece.now c.args.out.now did.new.out c.batch_len-count.result did.result.events did.result.bytes c.batch_len-count.ensures.most (λ some. c.if-count-piece.true) did.ensures.asked,
+    )
 
 pub returns-then-ran-eq0-clause-asked : goal.returns-then-ran-eq0-clause-asked
 returns-then-ran-eq0-clause-asked g c =
@@ -47,9 +49,11 @@ pub returns-then-ran-eq0-clause-few : goal.returns-then-ran-eq0-clause-few
 returns-then-ran-eq0-clause-few g c =
     let did = c.take-ran in
     let Did = λ (took : List Incoming) (answers : List Answer). RunsSo g.V.Volumes.view (sessions_of c.args.self.now.slots) c.args.self.now.pool took answers (sessions_of did.new.self.slots) did.new.self.pool in
-    subst (λ (e : Event). IsInBatch (sessions_of c.args.self.now.slots) e did.result.events did.result.bytes) (sym c.in-Parted.is)
-    (c.batch_len-count.result, c.batch_len-count.ensures.few,
-      front_few Did c.in-Parted.number c.in-Parted.piece.now c.args.out.now did.new.out c.batch_len-count.result did.result.events did.result.bytes c.batch_len-count.ensures.most (λ some. absurd (omega (arith, some, c.if-ran-eq0.true))) did.ensures.asked)
+    subst (λ (e : Event). IsInBatch (sessions_of c.args.self.now.slots) e did.result.events did.result.bytes) (sym c.in-Parted.is) (
+      c.batch_len-count.result,
+      c.batch_len-count.ensures.few,
+      front_few Did c.in-Parted.number c.in-Parted.piece.now c.args.out.now did.new.out c.batch_len-count.result did.result.events did.result.bytes c.batch_len-count.ensures.most (λ some. absurd (omega (arith, some, c.if-ran-eq0.true))) did.ensures.asked,
+    )
 
 pub returns-else-ran-eq0-clause-asked : goal.returns-else-ran-eq0-clause-asked
 returns-else-ran-eq0-clause-asked g c =
