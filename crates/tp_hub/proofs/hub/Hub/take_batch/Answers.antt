@@ -6,6 +6,7 @@ use Rattle.tp_hub.specs.Desks.{IsAsked, RunsSo}
 use Rattle.tp_hub.specs.Parts.{IsInBatch}
 use Rattle.tp_hub.specs.Serving.{sessions_of}
 use Rattle.tp_hub.proofs.Fronts.{all_front, front_few, part_of_front, whole_front}
+use Rattle.tp_hub.proofs.Idling.{batch_shown}
 use Rattle.tp_hub.proofs.Tracing.{asked_goes}
 use Rattle.tp_hub.proofs.hub.Hub.take_batch.Goals as goal
 
@@ -28,7 +29,7 @@ returns-then-count-piece-clause-few g c =
     let Did = λ (took : List Incoming) (answers : List Answer). RunsSo g.V.Volumes.view (sessions_of c.args.self.now.slots) c.args.self.now.pool took answers (sessions_of did.new.self.slots) did.new.self.pool in
     subst (λ (e : Event). IsInBatch (sessions_of c.args.self.now.slots) e did.result.events did.result.bytes) (sym c.in-Parted.is) (
       c.batch_len-count.result,
-      c.batch_len-count.ensures.few,
+      batch_shown _ c.args.self.now c.in-Parted.number c.in-Parted.piece.now c.batch_len-count.result c.self.view_is c.batch_len-count.ensures.few,
       front_few Did c.in-Parted.number c.in-Parted.piece.now c.args.out.now did.new.out c.batch_len-count.result did.result.events did.result.bytes c.batch_len-count.ensures.most (λ some. c.if-count-piece.true) did.ensures.asked,
     )
 
@@ -51,7 +52,7 @@ returns-then-ran-eq0-clause-few g c =
     let Did = λ (took : List Incoming) (answers : List Answer). RunsSo g.V.Volumes.view (sessions_of c.args.self.now.slots) c.args.self.now.pool took answers (sessions_of did.new.self.slots) did.new.self.pool in
     subst (λ (e : Event). IsInBatch (sessions_of c.args.self.now.slots) e did.result.events did.result.bytes) (sym c.in-Parted.is) (
       c.batch_len-count.result,
-      c.batch_len-count.ensures.few,
+      batch_shown _ c.args.self.now c.in-Parted.number c.in-Parted.piece.now c.batch_len-count.result c.self.view_is c.batch_len-count.ensures.few,
       front_few Did c.in-Parted.number c.in-Parted.piece.now c.args.out.now did.new.out c.batch_len-count.result did.result.events did.result.bytes c.batch_len-count.ensures.most (λ some. absurd (omega (arith, some, c.if-ran-eq0.true))) did.ensures.asked,
     )
 
@@ -72,4 +73,4 @@ returns-else-ran-eq0-clause-traced g c =
 pub returns-else-ran-eq0-clause-few : goal.returns-else-ran-eq0-clause-few
 returns-else-ran-eq0-clause-few g c =
     subst (λ (e : Event). IsInBatch (sessions_of c.args.self.now.slots) e zero c.batch_len-count.result) (sym c.in-Parted.is)
-    (c.batch_len-count.result, c.batch_len-count.ensures.few, omega arith)
+    (c.batch_len-count.result, batch_shown _ c.args.self.now c.in-Parted.number c.in-Parted.piece.now c.batch_len-count.result c.self.view_is c.batch_len-count.ensures.few, omega arith)
