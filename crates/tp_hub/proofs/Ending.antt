@@ -1,7 +1,6 @@
 -- An event that is answered by a flush which was made for it.
-use Rattle.std.proofs.Common.{◌≡◌, ℕ, zero, suc, ◌+◌, ◌<◌, ◌≤◌, Bool, true, false, true≢false, List, [], ◌∷◌, ◌++◌, length, length-take, take, Option, Some, None, get_or, inl, inr, refl, sym, ap, subst, ◌∙◌, arith}
-use Rattle.std.specs.Prelude.{◌==◌, Err, IfSome, Ok, Result, slice_set}
-use Rattle.std.proofs.lemmas.Bool.{eq-eqb}
+use Rattle.std.proofs.Common.{◌≡◌, ℕ, zero, suc, ◌+◌, ◌<◌, ◌≤◌, Bool, true, false, true≢false, List, [], ◌∷◌, ◌++◌, drop, length, length-append, length-drop, length-take, take, Option, Some, None, get_or, inl, inr, refl, sym, ap, subst, ◌∙◌, arith}
+use Rattle.std.specs.Prelude.{Err, IfSome, Ok, Result, slice_set}
 use Rattle.std.proofs.lemmas.List.{get_or_read, take_all}
 use Rattle.tp_model.specs.declared.refusal.Refusal.{Refusal}
 use Rattle.tp_model.specs.Geometry.{Geometry}
@@ -9,45 +8,61 @@ use Rattle.tp_model.specs.Clauses.{PoolCall, View}
 use Rattle.tp_model.specs.Flushing.{IsFlushed}
 use Rattle.nbd_session.specs.declared.session.Answered.{Answered}
 use Rattle.nbd_session.specs.declared.phase.Phase.{Phase}
-use Rattle.nbd_session.specs.Session.{State, has_ended, is_at_work}
+use Rattle.nbd_session.specs.declared.phase.Phase.TheVariants.{Ended}
+use Rattle.nbd_session.specs.Flushes.{IsAtFlush}
+use Rattle.nbd_session.specs.Session.{State, state, has_ended, is_at_work, is_to_flush}
 use Rattle.nbd_session.specs.Clauses.{Advances, IsReady}
 use Rattle.nbd_session.specs.Turns.{Sessions}
-use Rattle.tp_hub.specs.declared.hub.Ran.{Ran}
 use Rattle.tp_hub.specs.Told.{Grows, Told}
-use Rattle.tp_hub.specs.Runs.{AsksFlush, Brings, Incoming, Runs, answered_in, closed_if, is_busy, said, session_in, taken_of}
+use Rattle.tp_hub.specs.Runs.{AsksFlush, Brings, Incoming, Runs, answered_in, closed_if, is_busy, said, taken_of}
 use Rattle.tp_hub.specs.Desks.{IsAsked, IsCut, RunsSo}
 use Rattle.tp_hub.specs.Flushed.{EndsFlush, TakesFlushed}
-use Rattle.tp_hub.specs.Flushes.{IsHubFlushed, flush_told}
+use Rattle.tp_hub.specs.Flushes.{flush_told}
 use Rattle.tp_hub.specs.Places.{HearsAnywhere, IsRan, IsReadySlot, put}
-use Rattle.tp_hub.specs.Serve.{HubRuns}
-use Rattle.tp_hub.specs.Serving.{HubState, Serves, Slots, sessions_of, shown, slot_at}
+use Rattle.tp_hub.specs.Serving.{Serves, Slots, sessions_of, shown, slot_at}
+use Rattle.tp_hub.specs.Staged.{MakesFlush}
 use Rattle.tp_hub.proofs.Flushing.{flush_taken, one_told, told_to}
-use Rattle.tp_hub.proofs.Placing.{sessions_set, serves_kept, set_same}
+use Rattle.tp_hub.proofs.Placing.{sessions_set, serves_kept}
 use Rattle.tp_hub.proofs.Telling.{put_there}
 use Rattle.tp_hub.proofs.Hearing.{hears_more, hears_none, hears_part, keeps_more, keeps_none, told_end}
-use Rattle.tp_hub.proofs.Taking.{brings_all, idle_is_free, no_bytes, no_text_is_free, ready_slot, some_bytes}
+use Rattle.tp_hub.proofs.Taking.{brings_all, idle_is_free, no_text_is_free, ready_slot}
 
 -- a session that has parts of a request left takes no text
 busy_none : (phase : Phase) (piece : List ℕ) → is_busy phase piece ≡ false → is_at_work phase ≡ true → piece ≡ []
 busy_none phase [] free work = refl
 busy_none phase (byte ∷ bytes) free work = absurd (true≢false (sym work ∙ free))
 
--- `Parted` to a session is no event of another kind
-pub parted_never : (session n : ℕ) (piece : List ℕ) → (session == n) ≡ false → Brings session piece ≡ Brings n [] → ⊥
-parted_never session n piece other is =
-    let same : session ≡ n = ap session_in is in
-    absurd (true≢false (sym (eq-eqb session n same) ∙ other))
+-- ---- a session that makes a FLUSH next
 
-pub option_so : (o : Option Ran) (P : Type 0) → P → IfSome o (λ r. P)
-option_so None P p = tt
-option_so (Some r) P p = p
+pub makes_none : (s : State) (piece : List ℕ) → (IsAtFlush s piece → ⊥) → is_to_flush s.phase ≡ false → MakesFlush s piece → ⊥
+makes_none s piece at left (inl is) = at is
+makes_none s piece at left (inr is) = true≢false (sym is.1 ∙ left)
 
-pub free_of_none : (phase : Phase) (piece : List ℕ) → (length piece == 0) ≡ true → false ≡ is_busy phase piece
-free_of_none phase piece none = sym (no_text_is_free phase piece (no_bytes piece none))
+pub makes_free : (s : State) (piece : List ℕ) → MakesFlush s piece → is_busy s.phase piece ≡ false
+makes_free s piece (inl is) = idle_is_free s.phase piece (ap is_at_work is.phase_is)
+makes_free s piece (inr is) = no_text_is_free s.phase piece is.0
 
-pub busy_by : (phase : Phase) (piece : List ℕ) (b : Bool) → (length piece == 0) ≡ false → b ≡ is_at_work phase → b ≡ is_busy phase piece
-busy_by phase [] b some is = let any = some_bytes [] some in absurd (omega (arith, any))
-busy_by phase (byte ∷ bytes) b some is = is
+-- so there is one
+pub makes_some : (slot : Option State) (piece : List ℕ) → slot ≡ None → MakesFlush (shown slot) piece → ⊥
+makes_some slot piece none makes = by_none (subst (λ (o : Option State). MakesFlush (shown o) piece) none makes)
+  where
+    by_none : MakesFlush (state Ended []) piece → ⊥
+    by_none (inl is) = let phase = is.phase_is in absurd cc
+    by_none (inr is) = let left = is.1 in absurd cc
+
+-- ---- a buffer that is written over
+
+take_short : (n : ℕ) (xs : List ℕ) → length (take n xs) ≤ length xs
+take_short zero xs = omega arith
+take_short (suc n) [] = omega arith
+take_short (suc n) (x ∷ xs) = let few = take_short n xs in omega (arith, few)
+
+pub still_few : (n : ℕ) (new old : List ℕ) (most : ℕ) → length new ≡ length old → length old ≤ most → length (take n (new ++ drop (length new) old)) ≤ most
+still_few n new old most same few =
+    let all = length-append new (drop (length new) old) in
+    let behind = length-drop (length new) old in
+    let short = take_short n (new ++ drop (length new) old) in
+    omega (arith, all, behind, short, same, few)
 
 ran_some : (work : Bool) (piece : List ℕ) (taken events bytes : ℕ) → (work ≡ false → 0 < taken) → (work ≡ true → piece ≡ []) → IsRan taken (length piece) events bytes → 0 < events + bytes
 ran_some true piece taken events bytes some none (inl (lt, e, b)) = let len : length piece ≡ 0 = ap length (none refl) in absurd (omega (arith, len, lt))
@@ -191,20 +206,6 @@ module _ {D : Type 0} (view : View D) where
     event_serves p met =
         subst (λ j. Serves (view.outline p') (view.more p') (slice_set slots j new)) (sym i_is) ((ended_by p met).keeps slots inside here (serves_before p p' slots answer met serves))
 
-  -- nothing was done
-  pub event_none : (n i : ℕ) (slots : Slots) (d old new : Option State) (p' : D) → i ≡ n → n < 64 → length slots ≡ 64 → d ≡ get_or slots i d → old ≡ d → new ≡ old → slice_set slots i new ≡ slots
-  event_none n i slots d old new p' i_is lt count d_is old_is same =
-      let here : slot_at slots i ≡ old = sym (get_or_read slots i d (omega (arith, i_is, lt, count)) d_is None) ∙ sym old_is in
-      ap (slice_set slots i) (same ∙ sym here) ∙ set_same slots i
-
-  pub option_serves : (o : Option Ran) (n i : ℕ) (slots : Slots) (d old new : Option State) (p' : D) (piece : List ℕ) (answer : Result (Unit {0}) Refusal) (before after : Told) → i ≡ n → n < 64 → Serves (view.outline p') (view.more p') slots
-      → d ≡ get_or slots i d → old ≡ d → IfSome o (λ r. SlotEnds n piece old p' answer r.events r.bytes before after new) → (o ≡ None → new ≡ old)
-      → (p : D) × IsFlushed view p p' answer → Serves (view.outline p') (view.more p') (slice_set slots i new)
-  option_serves None n i slots d old new p' piece answer before after i_is lt serves d_is old_is ends none was =
-      subst (Serves (view.outline p') (view.more p')) (sym (event_none n i slots d old new p' i_is lt serves.count d_is old_is (none refl))) serves
-  option_serves (Some r) n i slots d old new p' piece answer before after i_is lt serves d_is old_is ends none was =
-      event_serves n i slots d old new p' piece answer r.events r.bytes before after i_is lt serves d_is old_is ends was.0 was.1
-
   -- the event `Flush`, which its own flush answers
   pub flush_asked : (at : Sessions) (p p' : D) (answer : Result (Unit {0}) Refusal) (before after : Told) → IsFlushed view p p' answer → Grows before after (flush_told answer ∷ [])
       → IsAsked (λ took answers. RunsSo view at p took answers at p') AsksFlush 1 0 before after
@@ -217,17 +218,6 @@ module _ {D : Type 0} (view : View D) where
     begun = λ room. omega arith;
   }
 
-  -- the same of a hub
-  pub hub_asked : (o : Option Ran) (h was : HubState D) (event : Incoming) (slots : Slots) (answer : Result (Unit {0}) Refusal) (before after : Told) → h ≡ was
-      → IfSome o (λ r. (p : D) → IsFlushed view p h.pool answer → IsAsked (λ took answers. RunsSo view (sessions_of h.slots) p took answers (sessions_of slots) h.pool) event r.events r.bytes before after)
-      → IfSome o (λ r. (old : HubState D) → IsHubFlushed view old was answer → IsAsked (λ took answers. HubRuns view old took answers (record { pool = h.pool; slots = slots })) event r.events r.bytes before after)
-  hub_asked None h was event slots answer before after same asked = tt
-  hub_asked (Some r) h was event slots answer before after same asked = λ old flushed.
-      let pool_is : was.pool ≡ h.pool = ap (λ (x : HubState D). x.pool) (sym same) in
-      let slots_are : h.slots ≡ old.slots = ap (λ (x : HubState D). x.slots) same ∙ flushed.slots in
-      subst (λ (l : Slots). IsAsked (λ took answers. RunsSo view (sessions_of l) old.pool took answers (sessions_of slots) h.pool) event r.events r.bytes before after) slots_are
-      (asked old.pool (subst (λ (q : D). IsFlushed view old.pool q answer) pool_is flushed.pool))
-
   -- the session of a slot was answered so, where it has one
   pub session_ends : (n : ℕ) (s new : State) (p' : D) (sizes : Geometry) (piece : List ℕ) (answer : Result (Unit {0}) Refusal) (taken : ℕ) (before after : Told) → sizes ≡ (view.outline p').geometry → is_busy s.phase piece ≡ false
       → (is_at_work s.phase ≡ false → 0 < taken) → (sent : List ℕ) × EndsFlush view sizes answer s piece taken sent new × Grows before after (said n sent ++ closed_if n false)
@@ -235,6 +225,3 @@ module _ {D : Type 0} (view : View D) where
       → (p : D) → IsReady s.phase (view.outline p) (view.more p) → has_ended s.phase ≡ false → IsFlushed view p p' answer → TakesFlushed view n piece (Some s) p events bytes before after (Some new) p'
   session_ends n s new p' sizes piece answer taken before after sizes_are free some did events bytes ran p ready is_open met =
       takes_flushed n s new p p' piece did.0 taken before after is_open (did.1 p p' (same_sizes p p' sizes answer sizes_are met) ready met) did.2 events bytes free some ran
-
-  pub pool_flushed : (h was : HubState D) (answer : Result (Unit {0}) Refusal) → h ≡ was → (old : HubState D) × IsHubFlushed view old was answer → (p : D) × IsFlushed view p h.pool answer
-  pool_flushed h was answer same x = (x.0.pool, subst (λ (q : D). IsFlushed view x.0.pool q answer) (ap (λ (k : HubState D). k.pool) (sym same)) x.1.pool)

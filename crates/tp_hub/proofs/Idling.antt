@@ -6,7 +6,6 @@ use Rattle.std.proofs.lemmas.List.{get_or-set_other, get_or-set_same, get_or_rea
 use Rattle.std.proofs.lemmas.List.Elements.{All-get_or}
 use Rattle.nbd_session.specs.declared.phase.Phase.{Phase}
 use Rattle.nbd_session.specs.declared.phase.Phase.TheVariants.{Flags, Options, Transmission, Ended}
-use Rattle.nbd_session.specs.Batches.{IsBatchOf}
 use Rattle.nbd_session.specs.Session.{State, has_ended, is_at_work}
 use Rattle.nbd_session.specs.Turns.{Sessions}
 use Rattle.tp_hub.specs.declared.event.Event.{Event}
@@ -95,9 +94,6 @@ made_on events (suc i) d whole at at' lt goes made keep makes n later is all som
 -- a hub's sessions are those at its places
 pub idle_shown : {D : Type 0} (h k : HubState D) (n : ℕ) → h ≡ k → IsIdle (sessions_of k.slots) n → IsIdle (sessions_of h.slots) n
 idle_shown {D} h k n is idle = subst (λ (x : HubState D). IsIdle (sessions_of x.slots) n) (sym is) idle
-
-pub batch_shown : {D : Type 0} (h k : HubState D) (n : ℕ) (text : List ℕ) (len : ℕ) → h ≡ k → IsBatchOf (sessions_of h.slots n) text len → IsBatchOf (sessions_of k.slots n) text len
-batch_shown {D} h k n text len is batch = subst (λ (x : HubState D). IsBatchOf (sessions_of x.slots n) text len) is batch
 
 pub stay_shown : {D : Type 0} (h k : HubState D) (events : List Event) (at' : Sessions) → h ≡ k → StayIdle (sessions_of h.slots) events at' → StayIdle (sessions_of k.slots) events at'
 stay_shown {D} h k events at' is stay = subst (λ (x : HubState D). StayIdle (sessions_of x.slots) events at') is stay

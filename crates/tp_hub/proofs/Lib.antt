@@ -20,3 +20,4 @@ pub mod Living
 mod Covering
 mod Wrote
 mod Fronts
+pub mod Staging

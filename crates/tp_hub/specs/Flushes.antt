@@ -1,8 +1,6 @@
 -- Trusted reading: a flush that a hub makes in parts (own).
 use Rattle.std.specs.Prelude.{◌≡◌, [], ◌∷◌, Err, Ok, Result}
 use Rattle.tp_model.specs.declared.refusal.Refusal.{Refusal}
-use Rattle.tp_model.specs.declared.volumes.Flushing.{Flushing}
-use Rattle.tp_model.specs.declared.volumes.Flushing.TheVariants as flushing
 use Rattle.tp_model.specs.Clauses.{View}
 use Rattle.tp_model.specs.Flushing.{IsFlushed}
 use Rattle.tp_hub.specs.Told.{Accepts, Answer, Refuses}
@@ -21,8 +19,3 @@ module _ {D : Type 0} (view : View D) where
     pub run : HubRuns view old (AsksFlush ∷ []) (flush_told result ∷ []) new
     pub pool : IsFlushed view old.pool new.pool result
     pub slots : new.slots ≡ old.slots
-
-  -- It is done; or parts of it are left, and then the hub is, for its READs, still the one before it.
-  abbrev pub IsHubFlushing : HubState D → Flushing (HubState D) (HubState D) → Type 0
-  IsHubFlushing old (flushing.Done new result) = IsHubFlushed old new result
-  IsHubFlushing old (flushing.Midway mid) = mid ≡ old

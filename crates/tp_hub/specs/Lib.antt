@@ -15,3 +15,5 @@ pub mod Seats
 pub mod Flushes
 pub mod Flushed
 pub mod Unkept
+pub mod Staged
+pub mod Stages

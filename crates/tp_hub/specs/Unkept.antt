@@ -1,8 +1,6 @@
 -- Trusted reading: a message that a hub keeps in parts (own).
 use Rattle.std.specs.Prelude.{◌≡◌, ℕ, List, [], ◌∷◌, Ok, Result}
 use Rattle.tp_model.specs.declared.refusal.Refusal.{Refusal}
-use Rattle.tp_model.specs.declared.volumes.Flushing.{Flushing}
-use Rattle.tp_model.specs.declared.volumes.Flushing.TheVariants as flushing
 use Rattle.tp_model.specs.Clauses.{Unkept, View}
 use Rattle.tp_msg.specs.declared.message.Message.{Message}
 use Rattle.tp_msg.specs.Asked.{call_of}
@@ -21,8 +19,3 @@ module _ {D : Type 0} (view : View D) where
   pub record IsUnkept (old : HubState D) (message : Message) (now : HubState D) : Type 0 where
     pub pool : Unkept view old.pool now.pool (call_of message)
     pub slots : now.slots ≡ old.slots
-
-  -- It is done; or parts are left of the flush that keeps it.
-  abbrev pub IsOrdering : HubState D → Message → Flushing (HubState D) (HubState D) → Type 0
-  IsOrdering old message (flushing.Done new result) = IsHubOrdered old message new result
-  IsOrdering old message (flushing.Midway mid) = IsUnkept old message mid

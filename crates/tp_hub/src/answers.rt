@@ -6,6 +6,7 @@ ghost use Rattle.nbd_session.specs.Session.{is_at_work};
 ghost use Rattle.tp_hub.specs.Flushed.{EndsFlush};
 ghost use Rattle.tp_hub.specs.Places.{IsRead};
 ghost use Rattle.tp_hub.specs.Runs.{closed_if, said};
+ghost use Rattle.tp_hub.specs.Staged.{MakesFlush};
 ghost use Rattle.std.specs.List.{list_any};
 ghost use Rattle.tp_hub.specs.Carrying.{closes_in, is_close};
 ghost use Rattle.tp_hub.specs.Told.{Grows, HasRoom, IsFull, KeepsRoom, Lines, Says, all_sent, end_mark, len_of, sent_mark, told, total};
@@ -185,8 +186,8 @@ impl Answers {
     }
 
     /// Answers the FLUSH that a session would make next by a piece, as a flush was answered that was
-    /// made for it, of a pool of these sizes: how many bytes of the piece that took. None where its
-    /// next step makes no FLUSH, and then nothing changes.
+    /// made for it, of a pool of these sizes: how many bytes of the piece that took. None if its next
+    /// step makes no FLUSH.
     pub(crate) fn end_flush<V: Volumes>(
         &mut self,
         session: &mut Session,
@@ -199,7 +200,7 @@ impl Answers {
         ensures ended { IfSome result (λ taken. (sent : List ℕ) × EndsFlush V.view geometry.now answer session.old piece.now taken sent session.new
             × Grows self.old self.new (said number sent ++ closed_if number false)) }
         ensures inside { IfSome result (λ taken. (taken ≤ length piece.now) × (is_at_work session.old.phase ≡ false → 0 < taken)) }
-        ensures none { result ≡ None → (self.new ≡ self.old) × (session.new ≡ session.old) }
+        ensures none { result ≡ None → MakesFlush session.old piece.now → ⊥ }
     {
         let at = self.used;
         match end_in::<V>(session, geometry, piece, answer, &mut self.bytes, at) {
@@ -489,7 +490,7 @@ fn end_at<V: Volumes>(
     ensures inside { IfSome result (λ a. (a.taken ≤ length piece.now) × (is_at_work session.old.phase ≡ false → 0 < a.taken)) }
     ensures fits { IfSome result (λ a. at + a.sent ≤ length bytes.new) }
     ensures kept { take at bytes.new ≡ take at bytes.old }
-    ensures none { result ≡ None → session.new ≡ session.old }
+    ensures none { result ≡ None → MakesFlush session.old piece.now → ⊥ }
     ensures len { length bytes.new ≡ length bytes.old }
 {
     session.end_flush::<V>(geometry, piece, answer, &mut bytes[at..])
@@ -513,7 +514,7 @@ fn end_in<V: Volumes>(
     ensures kept { take at bytes.new.items ≡ take at bytes.old.items }
     ensures inside { at ≤ length bytes.new.items }
     ensures most { (most : ℕ) → length bytes.old.items ≤ most → at + SHORT_ANSWER ≤ most → length bytes.new.items ≤ most }
-    ensures none { result ≡ None → session.new ≡ session.old }
+    ensures none { result ≡ None → MakesFlush session.old piece.now → ⊥ }
     ensures capacity { vec_capacity bytes.old ≤ vec_capacity bytes.new }
 {
     widen(bytes, at + SHORT_ANSWER);

@@ -4,7 +4,8 @@ ghost use Rattle.std.specs.Prelude.{◌≡◌, ◌<◌, ◌≤◌, ℕ, [], true
 ghost use Rattle.std.specs.FinMap.{empty};
 ghost use Rattle.tp_model.specs.Clauses.{PoolCall};
 ghost use Rattle.tp_hub.specs.Runs.{Brings, IsPartOfNext, IsShortOfNext, Runs, incoming, session_of, taken_of};
-ghost use Rattle.tp_hub.specs.Parts.{BringIdle, IsIdle, StayIdle, is_parted_to};
+ghost use Rattle.tp_hub.specs.Desks.{IsAsked, RunsSo};
+ghost use Rattle.tp_hub.specs.Parts.{BringIdle, IsIdle, IsInBatch, StayIdle, is_parted_to};
 ghost use Rattle.tp_hub.specs.Places.{TakesEvent, one_if};
 ghost use Rattle.nbd_session.specs.Batches.{IsBatchOf};
 ghost use Rattle.nbd_session.specs.Flushes.{IsAtFlush};
@@ -14,7 +15,6 @@ ghost use Rattle.tp_hub.specs.Serving.{AllLeave, Serves, sessions_of, slot_at};
 
 use crate::answers::Answers;
 use crate::event::Event;
-use crate::flushed::take_flushed;
 use crate::orders::{
     take_delta, take_flush, take_map, take_message, take_size, take_status, take_thin_status,
 };
@@ -24,7 +24,7 @@ use crate::slot::{Took, hear_slot, leave_place, leave_slot, open_slot};
 use nbd_session::Session;
 use std::alloc::Global;
 use std::marker::Model;
-use tp_model::{Cloned, Mode, Refusal, SharedVolumes, Volumes};
+use tp_model::{Cloned, SharedVolumes, Volumes};
 use tp_msg::Managed;
 
 /// A hub has at most this many sessions.
@@ -55,15 +55,9 @@ impl<V: Volumes> Model for Hub<V> {
 }
 
 impl<V: Volumes> Hub<V> {
-    ghost use Rattle.std.specs.Prelude.{◌≡◌, ◌<◌, ℕ, [], None, IfSome, false, true};
-    ghost use Rattle.nbd_session.specs.Flushes.{IsAtFlush};
+    ghost use Rattle.std.specs.Prelude.{◌≡◌, ◌<◌, None, IfSome};
     ghost use Rattle.nbd_session.specs.Session.{is_at_work, is_to_flush};
-    ghost use Rattle.tp_hub.specs.Desks.{IsAsked};
-    ghost use Rattle.tp_hub.specs.Flushes.{IsHubFlushed};
-    ghost use Rattle.tp_hub.specs.Parts.{is_parted_to};
-    ghost use Rattle.tp_hub.specs.Runs.{Brings, incoming, session_of};
-    ghost use Rattle.tp_hub.specs.Told.{HasRoom};
-    ghost use Rattle.tp_hub.specs.Serve.{AreAllOpen, HubRuns, IsLeastFree};
+    ghost use Rattle.tp_hub.specs.Serve.{AreAllOpen, IsLeastFree};
     ghost use Rattle.std.specs.FinMap.{empty};
     ghost use Rattle.nbd_session.specs.Turns.{closed};
     ghost use Rattle.tp_hub.specs.Seats.{seat_at};
@@ -105,23 +99,6 @@ impl<V: Volumes> Hub<V> {
         to_flush(&self.sessions, number)
     }
 
-    /// Whether the next frame of a session is a FLUSH that passes its tests and stands whole at the
-    /// front of a piece.
-    pub fn begins_flush(&self, number: u8, piece: &[u8]) -> bool
-        requires { number < 64 }
-        ensures at { result ≡ true → IsAtFlush (sessions_of self.now.slots number) piece.now }
-        ensures not_at { result ≡ false → IsAtFlush (sessions_of self.now.slots number) piece.now → ⊥ }
-    {
-        at_flush(&self.sessions, number, piece)
-    }
-
-    /// The mode of its pool.
-    pub fn mode(&self) -> Mode
-        ensures { result ≡ (V.view.outline self.now.pool).mode }
-    {
-        self.pool.mode()
-    }
-
     /// Who is at a number.
     pub fn seat(&self, number: u8) -> Seat
         requires { number < 64 }
@@ -135,27 +112,6 @@ impl<V: Volumes> Hub<V> {
         ensures { result.now ≡ self.now.pool }
     {
         &self.pool
-    }
-
-    /// Takes an event that asks for a flush, where one was made for it, and answers it as that flush
-    /// was answered: `Flush`, or `Parted` with a FLUSH of the session at the front of its piece, or
-    /// with no bytes where nothing but a FLUSH is left of the session's request. None where the event
-    /// asks for anything else, and then nothing was done.
-    pub fn take_flushed(
-        &mut self,
-        event: &Event<'_>,
-        answer: Result<(), Refusal>,
-        out: &mut Answers,
-    ) -> Option<Ran>
-        requires number { session_of event.now < 64 }
-        requires room { HasRoom out.old }
-        requires flushed { (old : HubState V) × IsHubFlushed V.view old self.old answer }
-        ensures asked { IfSome result (λ ran. (old : HubState V) → IsHubFlushed V.view old self.old answer
-            → IsAsked (λ took answers. HubRuns V.view old took answers self.new) (incoming event.now) ran.events ran.bytes out.old out.new) }
-        ensures parted { IfSome result (λ ran. (n : ℕ) → is_parted_to n event.now ≡ false → incoming event.now ≡ Brings n [] → ⊥) }
-        ensures none { result ≡ None → (out.new ≡ out.old) × (self.new ≡ self.old) }
-    {
-        take_flushed(&mut self.sessions, &self.pool, event, answer, out)
     }
 
     /// Its pool and its sessions, which go on. Inlined, its moves of all sessions cost LLVM minutes.
@@ -220,12 +176,6 @@ impl<V: SharedVolumes> Hub<V> {
     {
         ask_place(&self.sessions, &self.pool, number, piece, out)
     }
-
-    /// Brings to the device what events so far wrote, while READs are taken beside it, so that a FLUSH behind it has less to wait for. It answers nobody, and
-    /// nothing is promised of it.
-    pub fn sync_ahead(&self) {
-        self.pool.sync_ahead();
-    }
 }
 
 impl<V: Managed> Hub<V> {
@@ -234,7 +184,7 @@ impl<V: Managed> Hub<V> {
     ghost use Rattle.nbd_session.specs.Clauses.{GoesWithTrace};
     ghost use Rattle.tp_hub.specs.Desks.{IsAsked, RanSo, RunsSo};
     ghost use Rattle.tp_hub.specs.Runs.{Brings, IsPartOfNext, IsShortOfNext, Runs, incoming, session_of, taken_of};
-    ghost use Rattle.tp_hub.specs.Parts.{BringIdle, IsIdle, IsInBatch, StayIdle, is_parted_to};
+    ghost use Rattle.tp_hub.specs.Parts.{BringIdle, IsIdle, StayIdle, is_parted_to};
     ghost use Rattle.tp_hub.specs.Serving.{sessions_of};
 
     /// Takes events one after another, and adds their answers. What is sent is that of the sessions' turns, in the order of the events.
@@ -281,44 +231,7 @@ impl<V: Managed> Hub<V> {
         ensures idle { (n : ℕ) → is_parted_to n event.entry ≡ false → IsIdle (sessions_of self.old.slots) n → IsIdle (sessions_of self.new.slots) n }
         ensures made { (n : ℕ) → is_parted_to n event.entry ≡ false → incoming event.entry ≡ Brings n [] → 0 < result.events → IsIdle (sessions_of self.new.slots) n }
     {
-        let took = take_event(&mut self.sessions, &mut self.pool, alloc, &event, out);
-        let events = one_if(took.whole);
-        Ran {
-            events,
-            bytes: took.bytes,
-        }
-    }
-
-    /// Takes one event as `take` does, and of the piece of a `Parted` no more than a batch of its
-    /// session (`Session::batch_len`), so that others may have the hub before the rest of it.
-    pub fn take_batch(&mut self, alloc: Global, event: Event<'_>, out: &mut Answers) -> Ran
-        requires { session_of event < 64 }
-        ensures asked { IsAsked (λ took answers. RunsSo V.view (sessions_of self.old.slots) self.old.pool took answers (sessions_of self.new.slots) self.new.pool)
-            (incoming event.entry) result.events result.bytes out.old out.new }
-        ensures traced { GoesWithTrace V.view self.old.pool self.new.pool (λ t t'. IsAsked
-            (λ took answers. RanSo outline_of_traced (TracedCall V.view.has_use) (sessions_of self.old.slots) t took answers (sessions_of self.new.slots) t')
-            (incoming event.entry) result.events result.bytes out.old out.new) }
-        ensures few { IsInBatch (sessions_of self.old.slots) event.entry result.events result.bytes }
-        ensures idle { (n : ℕ) → is_parted_to n event.entry ≡ false → IsIdle (sessions_of self.old.slots) n → IsIdle (sessions_of self.new.slots) n }
-        ensures made { (n : ℕ) → is_parted_to n event.entry ≡ false → incoming event.entry ≡ Brings n [] → 0 < result.events → IsIdle (sessions_of self.new.slots) n }
-    {
-        match event {
-            Event::Parted(number, piece) => {
-                let count = batch_len(&self.sessions, number, piece);
-                let ran = self.take(alloc, Event::Parted(number, &piece[..count]), out);
-                if count >= piece.len() {
-                    return ran;
-                }
-                if ran.events == 0 {
-                    return ran;
-                }
-                Ran {
-                    events: 0,
-                    bytes: count,
-                }
-            }
-            other => self.take(alloc, other, out),
-        }
+        take_one(&mut self.sessions, &mut self.pool, alloc, &event, out)
     }
 }
 
@@ -332,7 +245,7 @@ fn is_open(sessions: &[Option<Session>; SESSIONS], number: u8) -> bool
 }
 
 /// Whether the session of a number has parts of a request left.
-fn at_work(sessions: &[Option<Session>; SESSIONS], number: u8) -> bool
+pub(crate) fn at_work(sessions: &[Option<Session>; SESSIONS], number: u8) -> bool
     requires count { length sessions.now ≡ 64 }
     requires number { number < 64 }
     ensures { result ≡ is_at_work (sessions_of sessions.now number).phase }
@@ -344,7 +257,7 @@ fn at_work(sessions: &[Option<Session>; SESSIONS], number: u8) -> bool
 }
 
 /// Whether nothing but a FLUSH is left of a request of the session of a number.
-fn to_flush(sessions: &[Option<Session>; SESSIONS], number: u8) -> bool
+pub(crate) fn to_flush(sessions: &[Option<Session>; SESSIONS], number: u8) -> bool
     requires count { length sessions.now ≡ 64 }
     requires number { number < 64 }
     ensures { result ≡ is_to_flush (sessions_of sessions.now number).phase }
@@ -511,6 +424,68 @@ fn take_event<V: Managed>(
         Event::Map(volume, first) => take_map(pool, volume, first, out),
         Event::Delta(one, other, first) => take_delta(pool, one, other, first, out),
         Event::Flush => take_flush(pool, out),
+    }
+}
+
+/// Takes one event, and tells how much of it.
+fn take_one<V: Managed>(
+    sessions: &mut [Option<Session>; SESSIONS],
+    pool: &mut V,
+    alloc: Global,
+    event: &Event<'_>,
+    out: &mut Answers,
+) -> Ran
+    requires serves { Serves (V.view.outline pool.old) (V.view.more pool.old) sessions.old }
+    requires number { session_of event.now < 64 }
+    ensures asked { IsAsked (λ took answers. RunsSo V.view (sessions_of sessions.old) pool.old took answers (sessions_of sessions.new) pool.new)
+        (incoming event.now) result.events result.bytes out.old out.new }
+    ensures idle { (n : ℕ) → is_parted_to n event.now ≡ false → IsIdle (sessions_of sessions.old) n → IsIdle (sessions_of sessions.new) n }
+    ensures made { (n : ℕ) → is_parted_to n event.now ≡ false → incoming event.now ≡ Brings n [] → 0 < result.events → IsIdle (sessions_of sessions.new) n }
+    ensures serves { Serves (V.view.outline pool.new) (V.view.more pool.new) sessions.new }
+{
+    let took = take_event(sessions, pool, alloc, event, out);
+    let events = one_if(took.whole);
+    Ran {
+        events,
+        bytes: took.bytes,
+    }
+}
+
+/// The same, and of the piece of a `Parted` no more than a batch of its session
+/// (`Session::batch_len`), so that others may have the hub before the rest of it.
+pub(crate) fn take_batch<V: Managed>(
+    sessions: &mut [Option<Session>; SESSIONS],
+    pool: &mut V,
+    alloc: Global,
+    event: Event<'_>,
+    out: &mut Answers,
+) -> Ran
+    requires serves { Serves (V.view.outline pool.old) (V.view.more pool.old) sessions.old }
+    requires number { session_of event < 64 }
+    ensures asked { IsAsked (λ took answers. RunsSo V.view (sessions_of sessions.old) pool.old took answers (sessions_of sessions.new) pool.new)
+        (incoming event.entry) result.events result.bytes out.old out.new }
+    ensures few { IsInBatch (sessions_of sessions.old) event.entry result.events result.bytes }
+    ensures idle { (n : ℕ) → is_parted_to n event.entry ≡ false → IsIdle (sessions_of sessions.old) n → IsIdle (sessions_of sessions.new) n }
+    ensures made { (n : ℕ) → is_parted_to n event.entry ≡ false → incoming event.entry ≡ Brings n [] → 0 < result.events → IsIdle (sessions_of sessions.new) n }
+    ensures serves { Serves (V.view.outline pool.new) (V.view.more pool.new) sessions.new }
+{
+    match event {
+        Event::Parted(number, piece) => {
+            let count = batch_len(sessions, number, piece);
+            let front = Event::Parted(number, &piece[..count]);
+            let ran = take_one(sessions, pool, alloc, &front, out);
+            if count >= piece.len() {
+                return ran;
+            }
+            if ran.events == 0 {
+                return ran;
+            }
+            Ran {
+                events: 0,
+                bytes: count,
+            }
+        }
+        other => take_one(sessions, pool, alloc, &other, out),
     }
 }
 

@@ -5,8 +5,8 @@
 //!
 //! A [`Desk`] takes one event at a time, as a hub does; a [`Stream`] is read and written, and tells its calls. [`carry`] carries one client over both.
 //!
-//! Messages to the pool, and its status lines, are events too: each is one call of the pool between the turns of its sessions. A hub may also make a flush
-//! in parts, between which READs go on ([`MidHub`]), and then take the event that asked for it ([`Hub::take_flushed`]). It keeps a message so, too ([`MidMessage`]).
+//! Messages to the pool, and its status lines, are events too: each is one call of the pool between the turns of its sessions. A hub that
+//! many ask makes the commit that an event asks for in parts, between which READs go on ([`StagedHub`]).
 #![tactic(auto)]
 
 mod alone;
@@ -18,11 +18,11 @@ mod flushed;
 mod hub;
 mod laws;
 mod log;
-mod midway;
 mod orders;
 mod seat;
 mod shared;
 mod slot;
+mod staged;
 mod stream;
 
 pub use alone::{OwnDesk, serve};
@@ -37,6 +37,6 @@ pub use laws::{
     runs_join, two_are_heard_in_turn,
 };
 pub use log::{Log, Made};
-pub use midway::{MidHub, MidMessage};
 pub use seat::Seat;
+pub use staged::{StagedHub, Start};
 pub use stream::{Put, Received, Stream, send_all, write_out};

@@ -1,6 +1,3 @@
 mod Locking
-mod Going
-mod Keeping
-mod Ordering
 mod Counting
 mod Seeing

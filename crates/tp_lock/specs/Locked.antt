@@ -4,25 +4,32 @@ use Rattle.tp_model.specs.Clauses.{View}
 use Rattle.nbd_session.specs.Session.{is_at_work}
 use Rattle.nbd_session.specs.Turns.{Sessions}
 use Rattle.tp_hub.specs.Told.{Answer, Grows, IsFull, Told}
-use Rattle.tp_hub.specs.Runs.{Brings, Incoming}
+use Rattle.tp_hub.specs.Runs.{AsksDeltaOf, AsksFlush, AsksLine, AsksLineOf, AsksMapOf, AsksSizeOf, Brings, Comes, Goes, Incoming, Orders}
 use Rattle.tp_hub.specs.Serving.{HubState}
 use Rattle.tp_hub.specs.Desks.{AreAsked, Exchange, IsAsked, RunsSo}
 use Rattle.tp_hub.specs.Serve.{HubRuns}
+pub use Rattle.tp_hub.specs.Staged.{IsFrom}
 
 -- One hub came of another by asks one behind the other, each of which was one run of it.
 abbrev pub CameOf : {D : Type 0} → View D → HubState D → HubState D → Type 0
 CameOf view old new = (xs : List Exchange) × AreAsked (HubRuns view) old xs new
 
--- It came so of such a hub.
-pub record IsFrom {D : Type 0} (view : View D) (IsStart : HubState D → Type 0) (now : HubState D) : Type 0 where
-  pub start : HubState D
-  pub is_start : IsStart start
-  pub asks : List Exchange
-  pub asked : AreAsked (HubRuns view) start asks now
-
 -- Some sessions over some pool take these events, and give these answers.
 abbrev pub SomeRun : {D : Type 0} → View D → List Incoming → List Answer → Type 0
 SomeRun {D} view took answers = (at : Sessions) × (p : D) × (at' : Sessions) × (p' : D) × RunsSo view at p took answers at' p'
+
+-- the session of an event that brings bytes
+abbrev pub hearer_in : Incoming → Option ℕ
+hearer_in (Brings session piece) = Some session
+hearer_in (Comes session profile) = None
+hearer_in (Goes session) = None
+hearer_in (Orders line) = None
+hearer_in AsksLine = None
+hearer_in (AsksLineOf volume) = None
+hearer_in (AsksSizeOf volume) = None
+hearer_in (AsksMapOf volume from) = None
+hearer_in (AsksDeltaOf old new from) = None
+hearer_in AsksFlush = None
 
 -- whether parts of a request of this session are left
 abbrev pub has_left : Sessions → Option ℕ → Bool

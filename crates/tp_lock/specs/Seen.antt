@@ -6,10 +6,8 @@ use Rattle.tp_hub.specs.Told.{Told}
 use Rattle.tp_hub.specs.Runs.{Brings, incoming}
 use Rattle.tp_hub.specs.Desks.{IsAsked}
 use Rattle.tp_hub.specs.Parts.{is_parted_to}
-use Rattle.tp_hub.specs.Serving.{Slots, sessions_of}
 use Rattle.tp_lock.specs.declared.locked.Seen.{Seen}
-use Rattle.tp_lock.specs.Locked.{SomeRun, SomeRunTo}
-use Rattle.tp_lock.specs.Pieces.{has_flush, hearer_in}
+use Rattle.tp_lock.specs.Locked.{SomeRun, SomeRunTo, hearer_in}
 
 -- The event was one run of some hub, and what is told of its session was so behind it.
 pub record IsSeen {D : Type 0} (view : View D) (event : Event) (seen : Seen) (before after : Told) : Type 0 where
@@ -17,4 +15,3 @@ pub record IsSeen {D : Type 0} (view : View D) (event : Event) (seen : Seen) (be
   pub told : IsAsked (λ took answers. SomeRunTo view (hearer_in (incoming event)) seen.is_at_work took answers) (incoming event) seen.ran.events seen.ran.bytes before after
   -- `Bytes` without text leaves no part of a request
   pub made : (n : ℕ) → is_parted_to n event ≡ false → incoming event ≡ Brings n [] → 0 < seen.ran.events → seen.is_at_work ≡ false
-  pub flush : (slots : Slots) × (seen.is_to_flush ≡ has_flush (sessions_of slots) (hearer_in (incoming event)))

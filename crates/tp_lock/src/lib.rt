@@ -1,21 +1,18 @@
 //! A hub that many threads ask, behind a lock.
 //!
 //! A [`LockedDesk`] asks the hub behind a [`HubLock`], which is taken for one ask at a time, and shared by READs and BLOCK_STATUSes. An [`Alarm`] is told
-//! when the pool behind it fails. Who wants the hub alone has its turn first, and waits awake only where that pays ([`Patience`]); a flush is made
-//! in parts, between which READs go on, for the event that asks for it.
+//! when the pool behind it fails. Who wants the hub alone has its turn first, and waits awake only where that pays ([`Patience`]). A commit
+//! is made in parts, between which READs go on, for the event that asks for it.
 //!
 //! [`put_census`] writes a line of who is served. Threads, streams and clients are those of `tp_crowd`.
 #![tactic(auto)]
 
 mod census;
 mod locked;
-mod midway;
 mod order;
-mod ordered;
 mod patience;
-mod since;
 
 pub use census::{CENSUS, put_census};
 pub use locked::{Alarm, HubLock, LockedDesk};
 pub use patience::{Patience, Waiting};
-pub use since::Start;
+pub use tp_hub::Start;

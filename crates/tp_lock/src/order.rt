@@ -23,17 +23,6 @@ const SHORTEST_GRACE: u64 = 20_000;
 /// A call that takes less, in nanoseconds, had nothing to sync.
 const SHORTEST_SYNC: u64 = 20_000;
 
-/// What one wants the hub alone for.
-#[derive(Clone, Copy, PartialEq, Eq)]
-pub(crate) enum HubUse {
-    /// To keep what was written, which takes as long as the device does.
-    Keep,
-    /// The same, where the session takes what comes for a FLUSH.
-    MayKeep,
-    /// Anything else.
-    Change,
-}
-
 /// The turn of one who keeps what was written.
 pub(crate) struct Keeping<'a> {
     pub(crate) turn: MutexGuard<'a, ()>,

@@ -1,8 +1,15 @@
+use Rattle.std.proofs.Common.{◌∙◌, ap}
+use Rattle.tp_hub.specs.Serving.{sessions_of}
+use Rattle.tp_hub.specs.Staged.{Standing, slots_of}
+use Rattle.tp_lock.specs.Locked.{has_left}
+use Rattle.tp_lock.proofs.Seeing.{seen_of}
 use Rattle.tp_lock.proofs.locked.ask_in_turn.Goals as goal
 
 -- the second time that the guard lends the hub, it is as the first one left it
-pub ask_and_look-requires-clause-whole : goal.ask_and_look-requires-clause-whole
-ask_and_look-requires-clause-whole g c = rw c.deref_mut-2.ensures.value c.end_flush.ensures.whole
-
 pub returns : goal.returns
-returns g c = c.ask_and_look.ensures.seen
+returns g c =
+    let t = c.take-ran in
+    let a = t.ensures.asked in
+    let hearer = c.hearer_of-hearer.result in
+    let work = c.look.ensures.work ∙ ap (λ (s : Standing _). has_left (sessions_of (slots_of s)) hearer) c.deref.ensures in
+    seen_of g.V.Volumes.view c.args.event c.look.result.0 t.result hearer a.0 a.1 t.new.self c.args.out.now t.new.out c.hearer_of-hearer.ensures.its c.look.ensures.ran work a.3 a.4 t.ensures.made

@@ -2,13 +2,6 @@ use Rattle.std.proofs.Common.{◌<◌, ◌+◌, arith}
 use Rattle.tp_lock.proofs.Locking.{in_no_parts, in_parts, of_parts}
 use Rattle.tp_lock.proofs.locked.ask_parts.Goals.{else-ran-eq0-via-then-ran-eq0+else-ran-eq0-2, else-ran-eq0-via-else-ran-eq0}
 use Rattle.tp_lock.proofs.locked.ask_parts.Goals as goal
-use Rattle.tp_lock.proofs.Seeing.{wants_left}
-
-pub ask_for-seen-requires-clause-wants : goal.ask_for-seen-requires-clause-wants
-ask_for-seen-requires-clause-wants g c = λ keep. absurd (c.purpose_of_piece-purpose.ensures keep)
-
-pub make_parts-requires-clause-wants : goal.make_parts-requires-clause-wants
-make_parts-requires-clause-wants g c = wants_left c.args.number c.ask_for-seen.result.is_to_flush c.ask_for-seen.ensures.flush
 
 pub returns-then-ran-eq0-2-clause-asked : goal.returns-then-ran-eq0-2-clause-asked
 returns-then-ran-eq0-2-clause-asked g c =

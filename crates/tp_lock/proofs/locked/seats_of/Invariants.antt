@@ -1,5 +1,5 @@
 use Rattle.std.proofs.Common.{◌≡◌, length}
-use Rattle.tp_lock.specs.Stages.{slots_of}
+use Rattle.tp_hub.specs.Staged.{slots_of}
 use Rattle.tp_lock.proofs.Counting.{AreSeen}
 use Rattle.tp_lock.proofs.locked.seats_of.Given as goal
 
@@ -7,5 +7,5 @@ use Rattle.tp_lock.proofs.locked.seats_of.Given as goal
 abbrev pub invariant-loop-number : goal.invariant-loop-number
 invariant-loop-number g l = record {
   count : length l.seats ≡ 64;
-  each : AreSeen (slots_of l.hub.stage) l.seats l.number;
+  each : AreSeen (slots_of l.hub) l.seats l.number;
 }

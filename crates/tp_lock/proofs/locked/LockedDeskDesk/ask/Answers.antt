@@ -11,7 +11,5 @@ returns-in-Bytes g c =
     subst (λ (e : Event). IsAsked (λ took answers. SomeRuns g.V.Volumes.view took answers) (incoming e) c.ask_once.result.events c.ask_once.result.bytes c.args.out.now c.ask_once.new.out)
     (sym c.in-Bytes.is) c.ask_once.ensures
 
-pub returns-in-Message : goal.returns-in-Message
-returns-in-Message g c =
-    subst (λ (e : Event). IsAsked (λ took answers. SomeRuns g.V.Volumes.view took answers) (incoming e) c.ask_line.result.events c.ask_line.result.bytes c.args.out.now c.ask_line.new.out) (sym c.in-Message.is)
-    (at_once g.V.Volumes.view _ _ _ _ _ c.ask_line.ensures)
+pub returns-in_default : goal.returns-in_default
+returns-in_default g c = at_once g.V.Volumes.view _ _ _ _ _ c.ask_for.ensures.asked
