@@ -1,10 +1,8 @@
-//! Tests of images and of clients that mean harm: every call returns, with an answer that it may give.
+//! Tests of random clients, and of files whose length is no image's.
 //!
 //! They stand here, so that no crate of the product is proved a second time for its tests.
 #![tactic(auto)]
 
-#[cfg(test)]
-mod built;
 #[cfg(test)]
 mod files;
 #[cfg(test)]
@@ -12,17 +10,9 @@ mod frames;
 #[cfg(test)]
 mod images;
 #[cfg(test)]
-mod others;
-#[cfg(test)]
-mod places;
-#[cfg(test)]
 mod plain;
 #[cfg(test)]
 mod random;
-#[cfg(test)]
-mod shapes;
-#[cfg(test)]
-mod shown;
 #[cfg(test)]
 mod streams;
 #[cfg(test)]

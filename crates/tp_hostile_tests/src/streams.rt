@@ -416,66 +416,6 @@ fn random_clients_of_a_pool_that_is_only_read(rt: HostRuntime) -> Result<(), Fai
     Ok(())
 }
 
-/// What a client is sent that sends this, and at which of its bytes it is sent away.
-fn end_of<V: Managed>(
-    alloc: Global,
-    hub: &mut Hub<V>,
-    text: &[u8],
-    heard: &mut Heard,
-) -> Result<Option<usize>, AllocError> {
-    open(alloc, hub, heard)?;
-    for at in 0..text.len() {
-        send(alloc, hub, &text[at..at + 1], heard)?;
-        if heard.is_over {
-            return Ok(Some(at + 1));
-        }
-    }
-    hang_up(alloc, hub, heard);
-    Ok(None)
-}
-
-/// At which of its bytes a client is sent away, and how many bytes it was sent then.
-fn end_in<V: Managed>(
-    alloc: Global,
-    hub: &mut Hub<V>,
-    text: &[u8],
-) -> Result<(Option<usize>, usize), AllocError> {
-    let mut heard = Heard::new(alloc);
-    let end = end_of(alloc, hub, text, &mut heard)?;
-    Ok((end, heard.sent.len()))
-}
-
-fn told_of_end(alloc: Global, text: &[u8]) -> Result<(Option<usize>, usize), Fail> {
-    let mut hub = hub_of(two_volumes(alloc)?);
-    Ok(end_in(alloc, &mut hub, text)?)
-}
-
-/// Flags without the first bit; an option of 8193 bytes; and behind GO a request with another magic, and a WRITE of 1048577 bytes. The greeting has 18
-/// bytes, the answer to GO 86.
-#[test]
-fn clients_are_sent_away_at_the_fixed_part(rt: HostRuntime) -> Result<(), Fail> {
-    let flags: &[u8] = b"\0\0\0\x02IHAVEOPT";
-    let option: &[u8] = b"\0\0\0\x03IHAVEOPT\0\0\0\x07\0\0\x20\x01\0\0\0\x010\0\0";
-    let request: &[u8] = b"\0\0\0\x03IHAVEOPT\0\0\0\x07\0\0\0\x07\0\0\0\x010\0\0\
-\x25\x60\x95\x14\0\0\0\0\0\0\0\0\0\0\0\x02\0\0\0\0\0\0\0\0\0\0\x02\0\0\0\0";
-    let long_write: &[u8] = b"\0\0\0\x03IHAVEOPT\0\0\0\x07\0\0\0\x07\0\0\0\x010\0\0\
-\x25\x60\x95\x13\0\0\0\x01\0\0\0\0\0\0\0\x02\0\0\0\0\0\0\0\0\0\x10\0\x01\0\0\0";
-    let told = [
-        told_of_end(rt.alloc(), flags)?,
-        told_of_end(rt.alloc(), option)?,
-        told_of_end(rt.alloc(), request)?,
-        told_of_end(rt.alloc(), long_write)?,
-    ];
-    let wanted = [
-        (Some(4), 18),
-        (Some(4 + 16), 18),
-        (Some(27 + 28), 104),
-        (Some(27 + 28), 104),
-    ];
-    assert_eq!(rt; told, wanted);
-    Ok(())
-}
-
 /// A client comes and sends all this at once.
 fn send_all<V: Managed>(
     alloc: Global,
@@ -502,16 +442,6 @@ fn sent_in<V: Managed>(
 fn told_at_once(alloc: Global, text: &[u8]) -> Result<Vec<u8>, Fail> {
     let mut hub = hub_of(two_volumes(alloc)?);
     Ok(sent_in(alloc, &mut hub, text)?)
-}
-
-#[test]
-fn names_longer_than_the_option_are_invalid(rt: HostRuntime) -> Result<(), Fail> {
-    let text: &[u8] = b"\0\0\0\x03IHAVEOPT\0\0\0\x07\0\0\0\x06\xff\xff\xff\xff\0\0";
-    let sent = told_at_once(rt.alloc(), text)?;
-    let wanted: &[u8] =
-        b"NBDMAGICIHAVEOPT\0\x03\0\x03\xe8\x89\x04\x55\x65\xa9\0\0\0\x07\x80\0\0\x03\0\0\0\0";
-    assert!(rt; sent.as_slice() == wanted);
-    Ok(())
 }
 
 /// The first sector of volume 0 is filled by the first client's WRITE, the last byte of which is this one's.

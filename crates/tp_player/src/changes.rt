@@ -1,4 +1,5 @@
-//! Checksums of the images that a crash may leave. They are those of the sectors that were written: most sectors never are.
+//! Checksums of the images that a crash may leave. They are those of the sectors that were written:
+//! most sectors never are.
 
 use crate::crash::pick;
 use std::alloc::{AllocError, Global};
@@ -7,8 +8,8 @@ use tp_script::{CrashImage, SECTOR};
 
 /// A sector that was written.
 #[derive(Drop)]
-struct Changed {
-    sector: u64,
+pub(crate) struct Changed {
+    pub sector: u64,
     /// The checksum of its first value.
     first: u64,
     /// The checksums of the values that a crash may leave, the oldest first.
@@ -46,6 +47,8 @@ pub(crate) struct Changes {
     changed: Vec<Changed>,
     /// Whether there was memory for all of them.
     are_all: bool,
+    /// Whether checksums are made. They take time.
+    has_sums: bool,
 }
 
 fn mix(sum: u64, word: &[u8]) -> u64 {
@@ -84,10 +87,22 @@ impl Changes {
             first,
             changed: Vec::new(alloc),
             are_all: true,
+            has_sums: true,
         }
     }
 
-    /// Returns the place of a sector among those that changed, where its first value is noted if it is not there yet.
+    /// From now on makes no checksums.
+    pub(crate) fn end_sums(&mut self) {
+        self.has_sums = false;
+    }
+
+    /// Forgets and returns the sectors that were written.
+    pub(crate) fn forget(&mut self) -> Vec<Changed> {
+        std::mem::replace(&mut self.changed, Vec::new(self.alloc))
+    }
+
+    /// Returns the place of a sector among those that changed, where its first value is noted if it
+    /// is not there yet.
     fn place_of(&mut self, disk: &MemDisk, sector: u64) -> Result<usize, AllocError> {
         let found = self
             .changed
@@ -96,7 +111,11 @@ impl Changes {
             Ok(place) => return Ok(place),
             Err(place) => place,
         };
-        let first = checksum_at(disk, sector);
+        let first = if self.has_sums {
+            checksum_at(disk, sector)
+        } else {
+            0
+        };
         let changed = Changed {
             sector,
             first,
@@ -106,10 +125,14 @@ impl Changes {
         Ok(place)
     }
 
-    fn add(&mut self, disk: &MemDisk, sector: u64, value: u64) -> Result<(), AllocError> {
+    /// Notes a value of a sector.
+    fn note(&mut self, disk: &MemDisk, sector: u64, value: &[u8]) -> Result<(), AllocError> {
         let place = self.place_of(disk, sector)?;
+        if !self.has_sums {
+            return Ok(());
+        }
         if let Some(changed) = self.changed.get_mut(place) {
-            changed.values.push(value)?;
+            changed.values.push(checksum_of(sector, value))?;
         }
         Ok(())
     }
@@ -118,8 +141,7 @@ impl Changes {
     pub(crate) fn write(&mut self, disk: &MemDisk, at: u64, bytes: &[u8]) {
         let mut sector = at;
         for value in bytes.chunks_exact(SECTOR) {
-            let value = checksum_of(sector, value);
-            self.are_all = self.are_all && self.add(disk, sector, value).is_ok();
+            self.are_all = self.are_all && self.note(disk, sector, value).is_ok();
             sector = sector.saturating_add(1);
         }
     }

@@ -1,9 +1,8 @@
 //! Reads replies in chunks.
 
 use crate::replies::failure_in;
-use std::alloc::{AllocError, Global};
 use tp_hub::Answers;
-use tp_script::{Answer, Operation, Request, add_values, number_at, zero_values};
+use tp_script::{Answer, Buffer, Operation, Request, add_values, number_at, zero_values};
 
 /// Bytes of the head of a chunk.
 const HEAD: usize = 20;
@@ -14,7 +13,6 @@ const MOST_IN_HOLE: u64 = 65_536;
 /// A reply that is being read.
 #[derive(Drop)]
 struct Reply<'a> {
-    alloc: Global,
     /// The bytes that are left.
     rest: &'a [u8],
     cookie: u64,
@@ -32,11 +30,12 @@ struct Chunk<'a> {
     data: &'a [u8],
 }
 
-fn add_word(report: &mut Vec<u8>, word: &[u8]) -> Result<(), AllocError> {
-    if !report.is_empty() {
-        report.extend_from_slice(b", ")?;
-    }
-    report.extend_from_slice(word)
+/// Adds a word and a number to a list with commas between.
+fn add_part(report: &mut Buffer, word: &str, number: u64) {
+    report.separate(b", ");
+    report.add(word.as_bytes());
+    report.add(b" ");
+    report.add_number(number);
 }
 
 fn status_word(context: u64, status: u64) -> &'static str {
@@ -50,18 +49,16 @@ fn status_word(context: u64, status: u64) -> &'static str {
 }
 
 /// Reports the extents of a chunk of block status, in sectors.
-fn report_extents(alloc: Global, report: &mut Vec<u8>, data: &[u8]) -> Result<(), AllocError> {
+fn report_extents(report: &mut Buffer, data: &[u8]) {
     let context = number_at(data, 0, 4);
     for number in 0..data.len() / 8 {
         let at = number.saturating_mul(8).saturating_add(4);
         if at.saturating_add(8) <= data.len() {
             let sectors = number_at(data, at, 4) / 512;
             let word = status_word(context, number_at(data, at.saturating_add(4), 4));
-            let text = format!(in alloc; "{word} {sectors}")?;
-            add_word(report, text.as_bytes())?;
+            add_part(report, word, sectors);
         }
     }
-    Ok(())
 }
 
 impl<'a> Reply<'a> {
@@ -81,108 +78,89 @@ impl<'a> Reply<'a> {
         })
     }
 
-    fn take_content(
-        &mut self,
-        word: &str,
-        count: u64,
-        report: &mut Vec<u8>,
-    ) -> Result<(), AllocError> {
-        let text = format!(in self.alloc; "{word} {count}")?;
-        add_word(report, text.as_bytes())?;
+    fn take_content(&mut self, word: &str, count: u64, report: &mut Buffer) {
+        add_part(report, word, count);
         self.sector = self.sector.saturating_add(count);
-        Ok(())
     }
 
     /// Takes a chunk of data or a hole. Returns whether it continues the reply.
-    fn take_read(
-        &mut self,
-        chunk: Chunk<'_>,
-        values: &mut Vec<u8>,
-        report: &mut Vec<u8>,
-    ) -> Result<bool, AllocError> {
+    fn take_read(&mut self, chunk: Chunk<'_>, values: &mut Buffer, report: &mut Buffer) -> bool {
         let is_next = number_at(chunk.data, 0, 8) == self.sector.saturating_mul(512);
         if chunk.kind == 1 {
             let content = chunk.data.get(8..).unwrap_or(&[]);
-            let have_values = add_values(values, self.sector, content)?;
-            self.take_content("data", content.len() as u64 / 512, report)?;
-            return Ok(is_next && have_values);
+            let have_values = add_values(values, self.sector, content);
+            self.take_content("data", content.len() as u64 / 512, report);
+            return is_next && have_values;
         }
         let count = number_at(chunk.data, 8, 4) / 512;
         if count > MOST_IN_HOLE {
-            return Ok(false);
+            return false;
         }
-        zero_values(values, count)?;
-        self.take_content("hole", count, report)?;
-        Ok(is_next)
+        zero_values(values, count);
+        self.take_content("hole", count, report);
+        is_next
     }
 
     /// Takes a chunk. Returns whether it may follow the ones before.
-    fn take(
-        &mut self,
-        chunk: Chunk<'_>,
-        values: &mut Vec<u8>,
-        report: &mut Vec<u8>,
-    ) -> Result<bool, AllocError> {
+    fn take(&mut self, chunk: Chunk<'_>, values: &mut Buffer, report: &mut Buffer) -> bool {
         match chunk.kind {
-            0 => Ok(chunk.data.is_empty()),
+            0 => chunk.data.is_empty(),
             1 | 2 => self.take_read(chunk, values, report),
             5 => {
-                report_extents(self.alloc, report, chunk.data)?;
-                Ok(true)
+                report_extents(report, chunk.data);
+                true
             }
             _ => {
                 self.error = Some(u32::try_from(number_at(chunk.data, 0, 4)).unwrap_or(u32::MAX));
-                Ok(true)
+                true
             }
         }
     }
 
     /// Takes all chunks, at most 100,000. Returns whether they make a reply.
-    fn take_all(&mut self, values: &mut Vec<u8>, report: &mut Vec<u8>) -> Result<bool, AllocError> {
+    fn take_all(&mut self, values: &mut Buffer, report: &mut Buffer) -> bool {
         for _ in 0..100_000 {
             if self.is_done {
                 break;
             }
             let Some(chunk) = self.next_chunk() else {
-                return Ok(false);
+                return false;
             };
-            if !self.take(chunk, values, report)? {
-                return Ok(false);
+            if !self.take(chunk, values, report) {
+                return false;
             }
         }
-        Ok(self.is_done && self.rest.is_empty())
+        self.is_done && self.rest.is_empty()
     }
 }
 
 /// Reads a reply in chunks. Reports the sectors of each chunk, and adds the values of all sectors.
 pub(crate) fn structured_reply(
-    alloc: Global,
     out: &Answers,
     request: &Request,
     cookie: u64,
-    values: &mut Vec<u8>,
-    report: &mut Vec<u8>,
-) -> Result<Answer, AllocError> {
+    values: &mut Buffer,
+    report: &mut Buffer,
+) -> Answer {
     if let Some(failure) = failure_in(out) {
-        return Ok(failure);
+        return failure;
     }
     let mut reply = Reply {
-        alloc,
         rest: out.bytes(),
         cookie,
         sector: request.sector,
         is_done: false,
         error: None,
     };
-    if !reply.take_all(values, report)? {
-        return Ok(Answer::Strange);
+    if !reply.take_all(values, report) {
+        return Answer::Strange;
     }
     if let Some(error) = reply.error {
-        return Ok(Answer::Error(error));
+        return Answer::Error(error);
     }
     let is_read = matches!(request.operation, Operation::Read { .. });
     if is_read && reply.sector != request.sector.saturating_add(request.count) {
-        return Ok(Answer::Strange);
+        return Answer::Strange;
     }
-    Ok(Answer::Reported)
+    Answer::Reported
 }

@@ -6,22 +6,30 @@ use crate::replies::{is_closed, raw_reply, simple_reply};
 use crate::server::{
     CONNECTIONS, Connection, add_sent, parts_left, receive, receive_part, receive_shared,
 };
-use crate::world::{Stage, World};
-use std::alloc::AllocError;
+use crate::stage::Stage;
+use crate::world::World;
 use tp_model::Refusal;
 use tp_reference::Step;
 use tp_script::{
-    Answer, COOKIE_OF_HALVES, Caller, ClientCall, Operation, Request, add_request, add_runs,
-    add_spelled,
+    Answer, Buffer, COOKIE_OF_HALVES, Caller, ClientCall, Operation, Request, add_request,
+    add_runs, add_spelled,
 };
+
+/// The bytes of a request's head.
+const HEAD: usize = 28;
+
+/// The place where a request is cut that is sent in two halves; the first half has its head.
+fn middle_of(bytes: &[u8]) -> usize {
+    HEAD + bytes.len().saturating_sub(HEAD) / 2
+}
 
 impl World {
     pub(crate) fn connection(&self, number: u8) -> Connection {
         self.connections[number as usize % CONNECTIONS]
     }
 
-    pub(crate) fn set_connection(&mut self, number: u8, connection: Connection) {
-        self.connections[number as usize % CONNECTIONS] = connection;
+    pub(crate) fn connection_mut(&mut self, number: u8) -> &mut Connection {
+        &mut self.connections[number as usize % CONNECTIONS]
     }
 
     pub(crate) fn close_volume(&mut self, id: Option<u32>) {
@@ -35,7 +43,7 @@ impl World {
         let connection = self.connection(number);
         self.close_volume(connection.volume);
         self.close_volume(connection.older);
-        self.set_connection(number, Connection::CLOSED);
+        *self.connection_mut(number) = Connection::CLOSED;
     }
 
     pub(crate) fn forget_if(&mut self, number: u8, answer: Answer) {
@@ -45,43 +53,36 @@ impl World {
     }
 
     /// The server receives bytes of a client.
-    pub(crate) fn deliver(&mut self, number: u8, bytes: &[u8]) -> bool {
+    pub(crate) fn deliver(&mut self, number: u8, bytes: &Buffer) -> bool {
         let Stage::Server(server) = &mut self.stage else {
             return false;
         };
-        receive(self.alloc, server, number, bytes, &mut self.out);
+        receive(self.alloc, server, number, bytes.as_slice(), &mut self.out);
         true
     }
 
-    /// The server receives bytes of a client, and handles a request one part at a time. Returns whether parts are left, and
-    /// whether only the flush is left.
-    fn deliver_part(&mut self, number: u8, bytes: &[u8]) -> (bool, bool) {
+    /// The server receives bytes of a client, and handles a request one part at a time. Returns
+    /// whether parts are left, and whether only the flush is left.
+    fn deliver_part(&mut self, number: u8, bytes: &Buffer) -> (bool, bool) {
         let Stage::Server(server) = &mut self.stage else {
             return (false, false);
         };
-        receive_part(self.alloc, server, number, bytes, &mut self.out);
+        receive_part(self.alloc, server, number, bytes.as_slice(), &mut self.out);
         parts_left(server, number)
     }
 
     /// Returns the bytes of a call. The client flags precede the first option.
-    pub(crate) fn bytes_of(
-        &mut self,
-        number: u8,
-        call: ClientCall<'_>,
-    ) -> Result<Vec<u8>, AllocError> {
+    pub(crate) fn bytes_of(&mut self, number: u8, call: ClientCall<'_>) -> Buffer {
         self.cookie = self.cookie.wrapping_add(1);
-        let mut bytes = Vec::new(self.alloc);
-        let connection = self.connection(number);
+        let cookie = self.cookie;
+        let mut bytes = Buffer::new(self.alloc);
+        let connection = self.connection_mut(number);
         if connection.is_open && !connection.has_flags {
-            bytes.extend_from_slice(&[0, 0, 0, 3])?;
-            let connection = Connection {
-                has_flags: true,
-                ..connection
-            };
-            self.set_connection(number, connection);
+            bytes.add(&[0, 0, 0, 3]);
+            connection.has_flags = true;
         }
-        add_sent(self.alloc, &mut bytes, call, self.cookie)?;
-        Ok(bytes)
+        add_sent(&mut bytes, call, cookie);
+        bytes
     }
 
     /// Returns a request with the volume that its client opened.
@@ -93,34 +94,26 @@ impl World {
     }
 
     /// Reads the reply to a request, and reports its extents and values.
-    fn read_reply(
-        &mut self,
-        number: u8,
-        request: &Request,
-        cookie: u64,
-    ) -> Result<Answer, AllocError> {
+    fn read_reply(&mut self, number: u8, request: &Request, cookie: u64) -> Answer {
         self.values.clear();
         self.report.clear();
         let answer = if self.connection(number).has_chunks && request.operation.only_reads() {
             structured_reply(
-                self.alloc,
                 &self.out,
                 request,
                 cookie,
                 &mut self.values,
                 &mut self.report,
-            )?
+            )
         } else {
-            simple_reply(&self.out, Some(request), cookie, &mut self.values)?
+            simple_reply(&self.out, Some(request), cookie, &mut self.values)
         };
         if answer == Answer::Reported && !self.values.is_empty() {
-            if !self.report.is_empty() {
-                self.report.push(b':')?;
-            }
-            add_runs(self.alloc, &mut self.report, &self.values)?;
+            self.report.separate(b":");
+            add_runs(&mut self.report, self.values.as_slice());
         }
         self.forget_if(number, answer);
-        Ok(answer)
+        answer
     }
 
     /// Returns the error that the form of a client's request has.
@@ -140,6 +133,24 @@ impl World {
         Some(Answer::Error(error.code()))
     }
 
+    /// Returns the answer that a client's request has whatever the pool's state is, if it has one.
+    fn expected_by_form(&self, number: u8, request: &Request, answer: Answer) -> Option<Answer> {
+        let connection = self.connection(number);
+        if connection.volume.is_none() {
+            return Some(match answer {
+                Answer::Closed => answer,
+                _ => Answer::Failed(Refusal::NoSession),
+            });
+        }
+        if connection.pending.is_some() {
+            return Some(Answer::Failed(Refusal::SessionInUse));
+        }
+        match request.operation {
+            Operation::Status { .. } => Some(answer),
+            _ => self.form_error_of(number, request),
+        }
+    }
+
     /// Compares the answer of a client's request. Returns whether the disk failed in a read.
     fn compare_request(
         &mut self,
@@ -147,30 +158,16 @@ impl World {
         request: &Request,
         answer: Answer,
         commits: bool,
-    ) -> Result<bool, AllocError> {
-        let connection = self.connection(number);
-        if connection.volume.is_none() {
-            if answer != Answer::Closed {
-                self.compare_answer(answer, Answer::Failed(Refusal::NoSession))?;
-            }
-            return Ok(false);
-        }
-        if connection.pending.is_some() {
-            self.compare_answer(answer, Answer::Failed(Refusal::SessionInUse))?;
-            return Ok(false);
-        }
-        if let Operation::Status { .. } = request.operation {
-            return Ok(false);
-        }
-        if let Some(expected) = self.form_error_of(number, request) {
-            self.compare_answer(answer, expected)?;
-            return Ok(false);
+    ) -> bool {
+        if let Some(expected) = self.expected_by_form(number, request, answer) {
+            self.compare_answer(answer, expected);
+            return false;
         }
         if let Operation::Read { .. } = request.operation {
             return self.compare_read(Source::Volume, request, answer, Caller::Client);
         }
-        self.compare_step(&Step::Request(request), answer, Caller::Client, commits)?;
-        Ok(false)
+        self.compare_step(&Step::Request(request), answer, Caller::Client, commits);
+        false
     }
 
     /// Sends a request. Returns its answer, and whether the disk failed in a read.
@@ -178,104 +175,91 @@ impl World {
         &mut self,
         number: u8,
         request: &Request,
-        bytes: &[u8],
+        bytes: &Buffer,
         cookie: u64,
-    ) -> Result<(Answer, bool), AllocError> {
+    ) -> (Answer, bool) {
         if !self.deliver(number, bytes) {
-            return Ok((Answer::Misplaced, false));
+            return (Answer::Misplaced, false);
         }
-        let answer = self.read_reply(number, request, cookie)?;
+        let answer = self.read_reply(number, request, cookie);
         let commits = request.operation.has_fua() && request.count > 0;
-        let has_failed = self.compare_request(number, request, answer, commits)?;
-        Ok((answer, has_failed))
+        (
+            answer,
+            self.compare_request(number, request, answer, commits),
+        )
     }
 
     /// Sends a request; a read once more if the disk failed in it in a matrix.
-    fn play_client_request(&mut self, number: u8, request: &Request) -> Result<Answer, AllocError> {
-        self.take_used_metadata()?;
+    fn play_client_request(&mut self, number: u8, request: &Request) -> Answer {
+        self.take_used_metadata();
         let request = self.request_by(number, request);
-        let bytes = self.bytes_of(number, ClientCall::Request(request))?;
+        let bytes = self.bytes_of(number, ClientCall::Request(request));
         let cookie = self.cookie;
-        let (answer, has_failed) = self.ask(number, &request, &bytes, cookie)?;
+        let (answer, has_failed) = self.ask(number, &request, &bytes, cookie);
         if has_failed && self.is_in_matrix {
-            return Ok(self.ask(number, &request, &bytes, cookie)?.0);
+            return self.ask(number, &request, &bytes, cookie).0;
         }
-        Ok(answer)
+        answer
     }
 
-    /// Returns both halves of a request's bytes; the first one has its head.
-    fn halves_of(&self, request: &Request) -> Result<(Vec<u8>, Vec<u8>), AllocError> {
-        let mut bytes = Vec::new(self.alloc);
-        add_request(&mut bytes, request, COOKIE_OF_HALVES)?;
-        let middle = 28 + bytes.len().saturating_sub(28) / 2;
-        let first = bytes.get(..middle).unwrap_or(&[]);
-        let rest = bytes.get(middle..).unwrap_or(&[]);
-        Ok((
-            Vec::from_slice(self.alloc, first)?,
-            Vec::from_slice(self.alloc, rest)?,
-        ))
+    /// Returns the first half of a request's bytes, or the rest.
+    fn half_of(&self, request: &Request, is_first: bool) -> Buffer {
+        let mut bytes = Buffer::new(self.alloc);
+        add_request(&mut bytes, request, COOKIE_OF_HALVES);
+        let middle = middle_of(bytes.as_slice());
+        let mut half = Buffer::new(self.alloc);
+        half.add(if is_first {
+            bytes.as_slice().get(..middle).unwrap_or(&[])
+        } else {
+            bytes.as_slice().get(middle..).unwrap_or(&[])
+        });
+        half
     }
 
-    fn set_pending(&mut self, number: u8, pending: Option<Request>) {
-        let connection = Connection {
-            pending,
-            ..self.connection(number)
-        };
-        self.set_connection(number, connection);
-    }
-
-    /// Notes the cookie of the request that a client begins.
-    fn set_cookie(&mut self, number: u8) {
-        let connection = Connection {
-            cookie: self.cookie,
-            ..self.connection(number)
-        };
-        self.set_connection(number, connection);
-    }
-
-    fn play_half(&mut self, number: u8, request: &Request) -> Result<Answer, AllocError> {
+    fn play_half(&mut self, number: u8, request: &Request) -> Answer {
         let request = self.request_by(number, request);
-        let (first, _) = self.halves_of(&request)?;
+        let first = self.half_of(&request, true);
         if !self.deliver(number, &first) {
-            return Ok(Answer::Misplaced);
+            return Answer::Misplaced;
         }
-        self.set_pending(number, Some(request));
+        self.connection_mut(number).pending = Some(request);
         raw_reply(&self.out, &mut self.report)
     }
 
-    fn play_rest(&mut self, number: u8) -> Result<Answer, AllocError> {
+    fn play_rest(&mut self, number: u8) -> Answer {
         let Some(request) = self.connection(number).pending else {
-            return Ok(Answer::Misplaced);
+            return Answer::Misplaced;
         };
-        self.set_pending(number, None);
-        let (_, rest) = self.halves_of(&request)?;
-        Ok(self.ask(number, &request, &rest, COOKIE_OF_HALVES)?.0)
+        self.connection_mut(number).pending = None;
+        let rest = self.half_of(&request, false);
+        self.ask(number, &request, &rest, COOKIE_OF_HALVES).0
     }
 
     /// Returns the answer of a request of which something is left: nothing may be sent before that.
-    fn say_left(&mut self, left: &[u8]) -> Result<Answer, AllocError> {
+    fn say_left(&mut self, left: &[u8]) -> Answer {
         if !self.out.marks().is_empty() {
-            return Ok(Answer::Strange);
+            return Answer::Strange;
         }
         self.say(left)
     }
 
-    /// Sends a request that is served one part at a time. Reports `parts left`, `flush left`, or the reply. If only the flush is
-    /// left, the change is made; otherwise the reference model makes it when the request is answered.
-    fn play_begin(&mut self, number: u8, request: &Request) -> Result<Answer, AllocError> {
+    /// Sends a request that is served one part at a time. Reports `parts left`, `flush left`, or
+    /// the reply. If only the flush is left, the change is made; otherwise the reference model
+    /// makes it when the request is answered.
+    fn play_begin(&mut self, number: u8, request: &Request) -> Answer {
         let request = self.request_by(number, request);
-        let bytes = self.bytes_of(number, ClientCall::Begin(request))?;
-        self.set_cookie(number);
-        let left = self.deliver_part(number, &bytes);
-        match left {
+        let bytes = self.bytes_of(number, ClientCall::Begin(request));
+        let cookie = self.cookie;
+        self.connection_mut(number).cookie = cookie;
+        match self.deliver_part(number, &bytes) {
             (_, true) => {
                 let step = Step::Request(&request);
-                self.compare_step(&step, Answer::Done, Caller::Client, false)?;
-                self.set_pending(number, None);
+                self.compare_step(&step, Answer::Done, Caller::Client, false);
+                self.connection_mut(number).pending = None;
                 self.say_left(b"flush left")
             }
             (true, false) => {
-                self.set_pending(number, Some(request));
+                self.connection_mut(number).pending = Some(request);
                 self.say_left(b"parts left")
             }
             _ => self.end_parts(number, &request),
@@ -283,84 +267,79 @@ impl World {
     }
 
     /// Reads the reply to a request whose parts are all made.
-    fn end_parts(&mut self, number: u8, request: &Request) -> Result<Answer, AllocError> {
+    fn end_parts(&mut self, number: u8, request: &Request) -> Answer {
         let cookie = self.connection(number).cookie;
-        let answer = self.read_reply(number, request, cookie)?;
-        let commits = request.operation.has_fua();
-        self.compare_request(number, request, answer, commits)?;
-        Ok(answer)
+        let answer = self.read_reply(number, request, cookie);
+        self.compare_request(number, request, answer, request.operation.has_fua());
+        answer
     }
 
     /// Makes the next part of the request that the client began last.
-    fn play_next_part(&mut self, number: u8) -> Result<Answer, AllocError> {
-        let left = self.deliver_part(number, &[]);
+    fn play_next_part(&mut self, number: u8) -> Answer {
+        let nothing = Buffer::new(self.alloc);
+        let left = self.deliver_part(number, &nothing);
         if left.0 || left.1 {
             return self.say_left(b"parts left");
         }
-        if let Some(request) = self.connection(number).pending {
-            self.set_pending(number, None);
+        let connection = self.connection(number);
+        if let Some(request) = connection.pending {
+            self.connection_mut(number).pending = None;
             return self.end_parts(number, &request);
         }
-        let cookie = self.connection(number).cookie;
-        let answer = simple_reply(&self.out, None, cookie, &mut self.values)?;
-        self.compare_step(&Step::Flush, answer, Caller::Client, true)?;
-        Ok(answer)
+        let answer = simple_reply(&self.out, None, connection.cookie, &mut self.values);
+        self.compare_step(&Step::Flush, answer, Caller::Client, true);
+        answer
     }
 
     /// Sends a READ that is answered from memory: reports its values, or `nothing`.
-    fn play_shared(&mut self, number: u8, request: &Request) -> Result<Answer, AllocError> {
+    fn play_shared(&mut self, number: u8, request: &Request) -> Answer {
         let request = self.request_by(number, request);
-        let bytes = self.bytes_of(number, ClientCall::ReadShared(request))?;
+        let bytes = self.bytes_of(number, ClientCall::ReadShared(request));
         let Stage::Server(server) = &self.stage else {
-            return Ok(Answer::Misplaced);
+            return Answer::Misplaced;
         };
-        if !receive_shared(server, number, &bytes, &mut self.out) {
+        if !receive_shared(server, number, bytes.as_slice(), &mut self.out) {
             return self.say(b"nothing");
         }
-        let cookie = self.cookie;
-        let answer = self.read_reply(number, &request, cookie)?;
-        self.compare_request(number, &request, answer, false)?;
-        Ok(answer)
+        let answer = self.read_reply(number, &request, self.cookie);
+        self.compare_request(number, &request, answer, false);
+        answer
     }
 
-    fn play_client_flush(&mut self, number: u8) -> Result<Answer, AllocError> {
-        let bytes = self.bytes_of(number, ClientCall::Flush)?;
+    fn play_client_flush(&mut self, number: u8) -> Answer {
+        let bytes = self.bytes_of(number, ClientCall::Flush);
         if !self.deliver(number, &bytes) {
-            return Ok(Answer::Misplaced);
+            return Answer::Misplaced;
         }
-        let answer = simple_reply(&self.out, None, self.cookie, &mut self.values)?;
+        let answer = simple_reply(&self.out, None, self.cookie, &mut self.values);
         if self.connection(number).volume.is_some() {
-            self.compare_step(&Step::Flush, answer, Caller::Client, true)?;
+            self.compare_step(&Step::Flush, answer, Caller::Client, true);
         } else {
-            self.compare_answer(answer, Answer::Failed(Refusal::NoSession))?;
+            self.compare_answer(answer, Answer::Failed(Refusal::NoSession));
         }
-        Ok(answer)
+        answer
     }
 
     /// Sends bytes that a text spells, and reports all bytes of the reply.
-    fn play_bytes(&mut self, number: u8, text: &[u8]) -> Result<Answer, AllocError> {
-        let mut bytes = Vec::new(self.alloc);
-        add_spelled(&mut bytes, text)?;
+    fn play_bytes(&mut self, number: u8, text: &[u8]) -> Answer {
+        let mut bytes = Buffer::new(self.alloc);
+        add_spelled(&mut bytes, text);
         self.play_raw(number, &bytes)
     }
 
-    pub(crate) fn play_raw(&mut self, number: u8, bytes: &[u8]) -> Result<Answer, AllocError> {
+    pub(crate) fn play_raw(&mut self, number: u8, bytes: &Buffer) -> Answer {
         if !self.deliver(number, bytes) {
-            return Ok(Answer::Misplaced);
+            return Answer::Misplaced;
         }
-        let answer = raw_reply(&self.out, &mut self.report)?;
+        let answer = raw_reply(&self.out, &mut self.report);
         self.forget_if(number, answer);
-        Ok(answer)
+        answer
     }
 
     /// Plays a line of a client. The first one puts a server over the pool.
-    pub(crate) fn play_client(
-        &mut self,
-        number: u8,
-        call: ClientCall<'_>,
-    ) -> Result<Answer, AllocError> {
-        if !self.start_server()? {
-            return Ok(Answer::Misplaced);
+    pub(crate) fn play_client(&mut self, number: u8, call: ClientCall<'_>) -> Answer {
+        if !self.start_server() {
+            return Answer::Misplaced;
         }
         match call {
             ClientCall::Request(request) => self.play_client_request(number, &request),
@@ -372,7 +351,7 @@ impl World {
             ClientCall::Flush => self.play_client_flush(number),
             ClientCall::Send(text) => self.play_bytes(number, text),
             ClientCall::Disconnect => {
-                let bytes = self.bytes_of(number, call)?;
+                let bytes = self.bytes_of(number, call);
                 self.play_raw(number, &bytes)
             }
             _ => self.play_client_option(number, call),

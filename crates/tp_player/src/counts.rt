@@ -2,8 +2,9 @@
 
 use crate::lifetimes::Ending;
 use crate::world::Faults;
-use std::alloc::{AllocError, Global};
+use std::alloc::Global;
 use tp_reference::Found;
+use tp_script::Buffer;
 
 /// The kind of a matrix.
 #[derive(Clone, Copy, PartialEq, Eq)]
@@ -18,7 +19,7 @@ pub(crate) enum Kind {
 #[derive(Drop)]
 pub(crate) struct Seen {
     pub checksum: u64,
-    pub found: Found,
+    pub found: Box<Found>,
     /// The images of the second lifetime on this one, if it was played.
     pub later: Option<u64>,
 }
@@ -26,7 +27,7 @@ pub(crate) struct Seen {
 /// The counts of a matrix.
 #[derive(Drop)]
 pub(crate) struct Counts {
-    kind: Kind,
+    pub kind: Kind,
     /// The disk calls of the workload.
     pub calls: u64,
     pub images: u64,
@@ -39,11 +40,12 @@ pub(crate) struct Counts {
     pub faults: Faults,
     pub wrong: u64,
     /// Where the first wrong image or answer is, and why.
-    why: Vec<u8>,
+    why: Buffer,
     pub seen: Vec<Seen>,
 }
 
-/// The place of an image: the disk call, the line of the script in which it failed, and the image's number.
+/// The place of an image: the disk call, the line of the script in which it failed, and the image's
+/// number.
 #[derive(Clone, Copy)]
 pub(crate) struct Place {
     pub call: u64,
@@ -51,15 +53,40 @@ pub(crate) struct Place {
     pub image: Option<usize>,
 }
 
-fn add_place(alloc: Global, out: &mut Vec<u8>, place: &Place) -> Result<(), AllocError> {
-    let (call, line) = (place.call, place.line);
-    let text = format!(in alloc; "at call {call} in line {line}")?;
-    out.extend_from_slice(text.as_bytes())?;
-    if let Some(image) = place.image {
-        let text = format!(in alloc; ", image {image}")?;
-        out.extend_from_slice(text.as_bytes())?;
+impl Place {
+    /// Returns the place of a lifetime whose images are not named yet.
+    pub(crate) fn of_line(call: u64, line: usize) -> Place {
+        Place {
+            call,
+            line,
+            image: None,
+        }
     }
-    out.extend_from_slice(b": ")
+
+    /// Returns the place of the image of this number.
+    pub(crate) fn of_image(self, number: usize) -> Place {
+        Place {
+            image: Some(number),
+            ..self
+        }
+    }
+}
+
+fn add_count(out: &mut Buffer, count: u64, word: &[u8]) {
+    out.add_number(count);
+    out.add(word);
+}
+
+fn add_place(out: &mut Buffer, place: &Place) {
+    out.add(b"at call ");
+    out.add_number(place.call);
+    out.add(b" in line ");
+    out.add_number(place.line as u64);
+    if let Some(image) = place.image {
+        out.add(b", image ");
+        out.add_number(image as u64);
+    }
+    out.add(b": ");
 }
 
 impl Counts {
@@ -73,7 +100,7 @@ impl Counts {
             blank: 0,
             faults: Faults::NONE,
             wrong: 0,
-            why: Vec::new(alloc),
+            why: Buffer::new(alloc),
             seen: Vec::new(alloc),
         }
     }
@@ -84,79 +111,74 @@ impl Counts {
             .saturating_add(self.later)
     }
 
-    fn crash_text(&self, alloc: Global) -> Result<String, AllocError> {
-        let (calls, images, later, different) = (
-            self.calls,
-            self.images,
-            self.later,
-            self.different,
-        );
-        format!(in alloc;
-            "{calls} calls, {images} images, {later} later images, {different} different"
-        )
+    fn add_faults(&self, out: &mut Buffer) {
+        out.add(b"reported by ");
+        add_count(out, self.faults.options, b" options ");
+        add_count(out, self.faults.reads, b" reads ");
+        add_count(out, self.faults.changes, b" changes ");
+        add_count(out, self.faults.closings, b" closings, ");
     }
 
-    fn fault_text(&self, alloc: Global) -> Result<String, AllocError> {
-        let (calls, images, later) = (self.calls, self.images, self.later);
-        let (options, reads) = (self.faults.options, self.faults.reads);
-        let (changes, closings) = (self.faults.changes, self.faults.closings);
-        format!(in alloc;
-            "{calls} calls, reported by {options} options {reads} reads {changes} changes {closings} closings, {images} images, {later} later images"
-        )
-    }
-
-    /// Returns the counts as text, or where the first wrong image or answer is.
-    pub(crate) fn text(&self, alloc: Global) -> Result<Vec<u8>, AllocError> {
-        let (wrong, blank) = (self.wrong, self.blank);
-        if wrong > 0 {
-            let head = format!(in alloc; "{wrong} others, the first ")?;
-            let mut text = Vec::from_slice(alloc, head.as_bytes())?;
-            text.extend_from_slice(&self.why)?;
-            return Ok(text);
+    fn add_counts(&self, out: &mut Buffer) {
+        add_count(out, self.calls, b" calls, ");
+        if self.kind == Kind::Faults {
+            self.add_faults(out);
         }
-        let counts = match self.kind {
-            Kind::Crashes => self.crash_text(alloc)?,
-            Kind::Faults => self.fault_text(alloc)?,
-        };
-        let mut text = Vec::from_slice(alloc, counts.as_bytes())?;
-        if blank > 0 {
-            let more = format!(in alloc; ", {blank} without a pool")?;
-            text.extend_from_slice(more.as_bytes())?;
+        add_count(out, self.images, b" images, ");
+        add_count(out, self.later, b" later images");
+        if self.kind == Kind::Crashes {
+            out.add(b", ");
+            add_count(out, self.different, b" different");
         }
-        Ok(text)
+        if self.blank > 0 {
+            out.add(b", ");
+            add_count(out, self.blank, b" without a pool");
+        }
     }
 
-    pub(crate) fn add_wrong(
-        &mut self,
-        alloc: Global,
-        places: &[Place],
-        why: &[u8],
-    ) -> Result<(), AllocError> {
+    /// Adds the counts as text, or where the first wrong image or answer is.
+    pub(crate) fn add_to(&self, out: &mut Buffer) {
+        if self.wrong > 0 {
+            add_count(out, self.wrong, b" others, the first ");
+            out.add(self.why.as_slice());
+        } else {
+            self.add_counts(out);
+        }
+    }
+
+    /// Counts a wrong image or answer, and notes its place if it is the first.
+    fn count_wrong(&mut self, places: &[Place]) -> bool {
         self.wrong = self.wrong.saturating_add(1);
-        if self.wrong > 1 {
-            return Ok(());
+        let is_first = self.wrong == 1;
+        if is_first {
+            for place in places {
+                add_place(&mut self.why, place);
+            }
         }
-        for place in places {
-            add_place(alloc, &mut self.why, place)?;
+        is_first
+    }
+
+    pub(crate) fn add_wrong(&mut self, places: &[Place], why: &[u8]) {
+        if self.count_wrong(places) {
+            self.why.add(why);
         }
-        self.why.extend_from_slice(why)
     }
 
     /// Notes the wrong answers of a lifetime.
-    pub(crate) fn judge(
-        &mut self,
-        alloc: Global,
-        places: &[Place],
-        ending: &Ending,
-    ) -> Result<(), AllocError> {
-        if ending.wrong == 0 {
-            return Ok(());
+    pub(crate) fn judge(&mut self, places: &[Place], ending: &Ending) {
+        if ending.wrong > 0 && self.count_wrong(places) {
+            self.why.add(b"in line ");
+            self.why.add_number(ending.line as u64);
+            self.why.add(b": ");
+            self.why.add(ending.why.as_slice());
         }
-        let line = ending.line;
-        let head = format!(in alloc; "in line {line}: ")?;
-        let mut why = Vec::from_slice(alloc, head.as_bytes())?;
-        why.extend_from_slice(&ending.why)?;
-        self.add_wrong(alloc, places, &why)
+    }
+
+    /// Notes the images of the second lifetime on this one.
+    pub(crate) fn note_later(&mut self, seen: usize, images: u64) {
+        if let Some(seen) = self.seen.get_mut(seen) {
+            seen.later = Some(images);
+        }
     }
 
     pub(crate) fn place_of(&self, checksum: u64) -> Option<usize> {

@@ -33,6 +33,7 @@ pub(crate) fn pick(image: CrashImage, sector: u64) -> u64 {
     match image {
         CrashImage::Oldest => 0,
         CrashImage::Newest => NEWEST,
+        CrashImage::Second => 1,
         CrashImage::InTurn => newest_if(sector % 2 == 0),
         CrashImage::NewestSuperblocks => newest_if(is_superblock),
         CrashImage::OldestSuperblocks => newest_if(!is_superblock),

@@ -1,11 +1,12 @@
-//! The disk of a script: a disk in memory that counts calls on metadata and on data, and fails some of them.
+//! The disk of a script: a disk in memory that counts calls on metadata and on data, and fails some
+//! of them.
 
 use crate::changes::Changes;
 use crate::crash::left_by_crash;
 use std::alloc::{AllocError, Global};
 use std::sync::atomic::{AtomicU64, Ordering};
 use tp_disk::{Disk, Fault, MemDisk, SharedDisk};
-use tp_script::CrashImage;
+use tp_script::{Buffer, CrashImage, SECTOR};
 
 /// The number of calls of a disk. The first sector of a call decides whether it is one on metadata.
 #[derive(Clone, Copy)]
@@ -35,6 +36,21 @@ impl Tally {
             data_writes: self.data_writes.wrapping_sub(earlier.data_writes),
             flushes: self.flushes.wrapping_sub(earlier.flushes),
         }
+    }
+
+    /// Adds the numbers as text.
+    pub(crate) fn add_to(self, report: &mut Buffer) {
+        report.add(b"metadata ");
+        report.add_number(self.metadata_reads);
+        report.add(b" read ");
+        report.add_number(self.metadata_writes);
+        report.add(b" written, data ");
+        report.add_number(self.data_reads);
+        report.add(b" read ");
+        report.add_number(self.data_writes);
+        report.add(b" written, ");
+        report.add_number(self.flushes);
+        report.add(b" flushes");
     }
 }
 
@@ -70,10 +86,62 @@ impl ScriptDisk {
     }
 
     /// Returns the disk that a crash leaves.
-    pub(crate) fn left(&self, alloc: Global, image: CrashImage) -> Result<ScriptDisk, AllocError> {
-        let checksum = self.checksum(image)?;
+    pub(crate) fn left(
+        &self,
+        alloc: Global,
+        image: CrashImage,
+    ) -> Result<Box<ScriptDisk>, AllocError> {
+        let changes = Changes::none(alloc, self.checksum(image)?);
         let disk = left_by_crash(alloc, &self.disk, image)?;
-        Ok(ScriptDisk::over(disk, Changes::none(alloc, checksum)))
+        Ok(Box::new(alloc, ScriptDisk::over(disk, changes))?)
+    }
+
+    /// Writes the first sectors of another disk, as many as this one has.
+    fn fill_from(&mut self, other: &ScriptDisk) -> Result<(), Fault> {
+        for sector in 0..self.disk.sectors().min(other.disk.sectors()) {
+            self.copy_sector(other, sector)?;
+        }
+        self.disk.flush()
+    }
+
+    /// Returns a disk of the first sectors of this one.
+    pub(crate) fn truncated(
+        &self,
+        alloc: Global,
+        sectors: u64,
+    ) -> Result<Box<ScriptDisk>, AllocError> {
+        let mut disk = ScriptDisk::new(alloc, sectors)?;
+        match disk.fill_from(self) {
+            Ok(()) => Ok(Box::new(alloc, disk)?),
+            Err(_) => Err(AllocError),
+        }
+    }
+
+    /// From now on there are no checksums of this disk, only the list of sectors that changed.
+    pub(crate) fn end_sums(&mut self) {
+        self.changes.end_sums();
+    }
+
+    /// Writes a sector of another disk.
+    fn copy_sector(&mut self, other: &ScriptDisk, sector: u64) -> Result<(), Fault> {
+        let mut bytes = [0; SECTOR];
+        if sector >= self.disk.sectors() || sector >= other.disk.sectors() {
+            return Err(Fault);
+        }
+        if !other.disk.read_shared(sector, &mut bytes) {
+            return Err(Fault);
+        }
+        self.disk.write(sector, &bytes)
+    }
+
+    /// Takes back the changes since this disk was copied from another one, or since the last such
+    /// call.
+    pub(crate) fn restore(&mut self, other: &ScriptDisk) -> Result<(), Fault> {
+        let sectors = self.changes.forget();
+        for changed in &sectors {
+            self.copy_sector(other, changed.sector)?;
+        }
+        self.disk.flush()
     }
 
     /// Returns the checksum of the disk that a crash leaves.
@@ -101,7 +169,8 @@ impl ScriptDisk {
         self.disk.calls()
     }
 
-    /// From now on the calls from number `first` to `last` fail. The disk's first call ever has number 1.
+    /// From now on the calls from number `first` to `last` fail. The disk's first call ever has
+    /// number 1.
     pub(crate) fn fail(&self, first: u64, last: u64) {
         self.first.store(first, Ordering::SeqCst);
         self.last.store(last, Ordering::SeqCst);

@@ -1,7 +1,6 @@
 //! Plays scripts: each line through the layers that the product uses, beside the reference model.
 #![tactic(auto)]
 
-mod calls;
 mod changes;
 mod chunks;
 mod client_lines;
@@ -10,6 +9,7 @@ mod counts;
 mod crash;
 mod disk;
 mod disk_lines;
+mod idle;
 mod image;
 mod lifetimes;
 mod look;
@@ -21,6 +21,8 @@ mod random;
 mod replies;
 mod report;
 mod server;
+mod stage;
+mod trials;
 mod world;
 
 pub use play::play_scripts;

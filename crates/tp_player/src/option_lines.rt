@@ -4,8 +4,8 @@ use crate::replies::{
     export_reply, greeting_reply, info_reply, names_reply, option_reply, raw_reply,
 };
 use crate::server::{Connection, connect, hang_up};
-use crate::world::{Stage, World};
-use std::alloc::AllocError;
+use crate::stage::Stage;
+use crate::world::World;
 use tp_model::Refusal;
 use tp_script::{Answer, ClientCall, ExportName, Offer, cut_at, number_of};
 
@@ -26,65 +26,75 @@ fn older_in(contexts: &[u8]) -> Option<u32> {
 }
 
 impl World {
-    fn connect(&mut self, number: u8, offer: Offer) -> Result<Answer, AllocError> {
+    fn connect(&mut self, number: u8, offer: Offer) -> Answer {
         let Stage::Server(server) = &mut self.stage else {
-            return Ok(Answer::Misplaced);
+            return Answer::Misplaced;
         };
         connect(self.alloc, server, number, offer, &mut self.out);
         let answer = greeting_reply(&self.out);
-        if answer != Answer::Done {
-            return Ok(answer);
+        if answer == Answer::Done {
+            *self.connection_mut(number) = Connection::opened(offer);
         }
-        let connection = Connection {
-            is_open: true,
-            offer,
-            ..Connection::CLOSED
-        };
-        self.set_connection(number, connection);
-        Ok(Answer::Done)
+        answer
     }
 
     /// Connects a client that is not connected.
-    fn ensure_connected(&mut self, number: u8, offer: Offer) -> Result<Answer, AllocError> {
+    fn ensure_connected(&mut self, number: u8, offer: Offer) -> Answer {
         if self.connection(number).is_open {
-            Ok(Answer::Done)
+            Answer::Done
         } else {
             self.connect(number, offer)
         }
     }
 
-    fn hang_up(&mut self, number: u8) -> Result<Answer, AllocError> {
+    /// Sends a call of a client, which is connected first. Returns `Done` if the server received
+    /// it.
+    fn send_option(&mut self, number: u8, offer: Offer, call: ClientCall<'_>) -> Answer {
+        let connected = self.ensure_connected(number, offer);
+        if connected != Answer::Done {
+            return connected;
+        }
+        let bytes = self.bytes_of(number, call);
+        self.report.clear();
+        if self.deliver(number, &bytes) {
+            Answer::Done
+        } else {
+            Answer::Misplaced
+        }
+    }
+
+    fn hang_up(&mut self, number: u8) -> Answer {
         let Stage::Server(server) = &mut self.stage else {
-            return Ok(Answer::Misplaced);
+            return Answer::Misplaced;
         };
         hang_up(self.alloc, server, number, &mut self.out);
-        let answer = raw_reply(&self.out, &mut self.report)?;
+        let answer = raw_reply(&self.out, &mut self.report);
         let expected = if self.connection(number).is_open {
             Answer::Closed
         } else {
             Answer::Failed(Refusal::NoSession)
         };
-        self.compare_answer(answer, expected)?;
+        self.compare_answer(answer, expected);
         self.forget(number);
-        Ok(answer)
+        answer
     }
 
-    /// A client selected contexts, and with them an older volume or none, which is open from now on.
-    fn take_older(&mut self, number: u8) -> Result<(), AllocError> {
-        let older = older_in(&self.report);
-        let connection = self.connection(number);
-        self.close_volume(connection.older);
-        if let (Some(id), Some(reference)) = (older, self.reference_mut()) {
-            reference.open_volume(id)?;
-        }
-        self.set_connection(
-            number,
-            Connection {
-                older,
-                ..connection
-            },
-        );
-        Ok(())
+    fn open_volume(&mut self, id: Option<u32>) {
+        let opened = match (id, self.reference_mut()) {
+            (Some(id), Some(reference)) => reference.open_volume(id).is_ok(),
+            _ => true,
+        };
+        self.note_memory(opened);
+    }
+
+    /// A client selected contexts, and with them an older volume or none, which is open from now
+    /// on.
+    fn take_older(&mut self, number: u8) {
+        let older = older_in(self.report.as_slice());
+        let before = self.connection(number).older;
+        self.close_volume(before);
+        self.open_volume(older);
+        self.connection_mut(number).older = older;
     }
 
     /// Returns the answer that the reference model requires of INFO, GO or EXPORT_NAME of a volume.
@@ -103,31 +113,39 @@ impl World {
     }
 
     /// A client opened a volume.
-    fn take_open(&mut self, number: u8, id: u32) -> Result<(), AllocError> {
-        if let Some(reference) = self.reference_mut() {
-            reference.open_volume(id)?;
-        }
-        let connection = Connection {
-            volume: Some(id),
-            ..self.connection(number)
-        };
-        self.set_connection(number, connection);
-        Ok(())
+    fn take_open(&mut self, number: u8, id: u32) {
+        self.open_volume(Some(id));
+        self.connection_mut(number).volume = Some(id);
     }
 
     /// Returns whether the last option reported the size of this volume.
-    fn reports_size_of(&self, id: u32) -> Result<bool, AllocError> {
+    fn reports_size_of(&self, id: u32) -> bool {
         let Some(reference) = self.reference() else {
-            return Ok(true);
+            return true;
         };
-        let Some(volume) = reference.volume(id) else {
-            return Ok(false);
-        };
-        let line = reference.size_line(volume)?;
-        let (size, _) = cut_at(line.as_bytes(), b' ');
-        let reported = self.report.strip_prefix(b"size ".as_slice());
+        let size = reference.sectors(id).saturating_mul(512);
+        let reported = self.report.as_slice().strip_prefix(b"size ".as_slice());
         let (reported, _) = cut_at(reported.unwrap_or(&[]), b' ');
-        Ok(reported == size)
+        number_of(reported) == Some(size)
+    }
+
+    /// Notes an option in which the disk failed. Returns whether it did.
+    fn takes_fault_of_option(&mut self, answer: Answer) -> bool {
+        let is_fault = answer == Answer::Closed && self.is_failing();
+        if is_fault {
+            self.faults.options = self.faults.options.saturating_add(1);
+        }
+        is_fault
+    }
+
+    /// A client's INFO, GO or EXPORT_NAME of a volume succeeded, as it must.
+    fn take_export(&mut self, number: u8, id: u32, call: ClientCall<'_>) {
+        if !self.reports_size_of(id) {
+            self.require(Answer::Reported, b"another size");
+        }
+        if !matches!(call, ClientCall::Info(_)) {
+            self.take_open(number, id);
+        }
     }
 
     /// Compares the answer to an option that names a volume. Returns whether the disk failed in it.
@@ -137,23 +155,26 @@ impl World {
         id: u32,
         answer: Answer,
         call: ClientCall<'_>,
-    ) -> Result<bool, AllocError> {
+    ) -> bool {
         let expected = self.expected_export(number, id, call).unwrap_or(answer);
         if answer != expected {
-            if answer == Answer::Closed && self.is_failing() {
-                self.faults.options = self.faults.options.saturating_add(1);
-                return Ok(true);
+            if self.takes_fault_of_option(answer) {
+                return true;
             }
-            self.require(expected, b"another export")?;
-            return Ok(false);
+            self.require(expected, b"another export");
+        } else if answer == Answer::Reported {
+            self.take_export(number, id, call);
         }
-        if answer == Answer::Reported && !self.reports_size_of(id)? {
-            self.require(expected, b"another size")?;
+        false
+    }
+
+    /// Reads the reply to INFO, GO or EXPORT_NAME.
+    fn read_export(&mut self, call: ClientCall<'_>) -> Answer {
+        match call {
+            ClientCall::ExportName(_) => export_reply(&self.out, &mut self.report),
+            ClientCall::Info(_) => info_reply(&self.out, 6, &mut self.report),
+            _ => info_reply(&self.out, 7, &mut self.report),
         }
-        if answer == Answer::Reported && !matches!(call, ClientCall::Info(_)) {
-            self.take_open(number, id)?;
-        }
-        Ok(false)
     }
 
     /// Sends INFO, GO or EXPORT_NAME. Returns its answer, and whether the disk failed in it.
@@ -162,141 +183,118 @@ impl World {
         number: u8,
         name: ExportName<'_>,
         call: ClientCall<'_>,
-    ) -> Result<(Answer, bool), AllocError> {
-        let connected = self.ensure_connected(number, Offer::Strict)?;
-        if connected != Answer::Done {
-            return Ok((connected, false));
+    ) -> (Answer, bool) {
+        let sent = self.send_option(number, Offer::Strict, call);
+        if sent != Answer::Done {
+            return (sent, false);
         }
-        let bytes = self.bytes_of(number, call)?;
-        if !self.deliver(number, &bytes) {
-            return Ok((Answer::Misplaced, false));
-        }
-        self.report.clear();
-        let answer = match call {
-            ClientCall::ExportName(_) => export_reply(self.alloc, &self.out, &mut self.report)?,
-            ClientCall::Info(_) => info_reply(self.alloc, &self.out, 6, &mut self.report)?,
-            _ => info_reply(self.alloc, &self.out, 7, &mut self.report)?,
-        };
+        let answer = self.read_export(call);
         let has_failed = match name {
-            ExportName::Volume(id) => self.compare_export(number, id, answer, call)?,
+            ExportName::Volume(id) => self.compare_export(number, id, answer, call),
             ExportName::Text(_) => false,
         };
         self.forget_if(number, answer);
-        Ok((answer, has_failed))
+        (answer, has_failed)
     }
 
     /// Sends INFO, GO or EXPORT_NAME; once more if the disk failed in it in a matrix.
-    fn play_export(
-        &mut self,
-        number: u8,
-        name: ExportName<'_>,
-        call: ClientCall<'_>,
-    ) -> Result<Answer, AllocError> {
-        let (answer, has_failed) = self.ask_export(number, name, call)?;
+    fn play_export(&mut self, number: u8, name: ExportName<'_>, call: ClientCall<'_>) -> Answer {
+        let (answer, has_failed) = self.ask_export(number, name, call);
         if has_failed && self.is_in_matrix {
-            return Ok(self.ask_export(number, name, call)?.0);
+            return self.ask_export(number, name, call).0;
         }
-        Ok(answer)
+        answer
     }
 
     /// Compares the names that LIST reports. Returns whether the disk failed in it.
-    fn compare_list(&mut self, number: u8, answer: Answer) -> Result<bool, AllocError> {
+    fn compare_list(&mut self, number: u8, answer: Answer) -> bool {
         let offer = self.connection(number).offer;
         let list = match self.reference() {
-            Some(reference) if !matches!(offer, Offer::Clones(_)) => reference.volume_numbers()?,
-            _ => return Ok(false),
+            Some(reference) if !matches!(offer, Offer::Clones(_)) => reference.volume_numbers(),
+            _ => return false,
         };
         if answer == Answer::Closed && self.has_failed {
-            return Ok(false);
+            return false;
         }
-        if answer == Answer::Closed && self.is_failing() {
-            self.faults.options = self.faults.options.saturating_add(1);
-            return Ok(true);
+        if self.takes_fault_of_option(answer) {
+            return true;
         }
-        self.compare_text(answer, Some(&list))?;
-        Ok(false)
+        self.compare_text(answer, &list);
+        false
     }
 
     /// Sends LIST. Returns its answer, and whether the disk failed in it.
-    fn ask_list(&mut self, number: u8) -> Result<(Answer, bool), AllocError> {
-        let connected = self.ensure_connected(number, Offer::Strict)?;
-        if connected != Answer::Done {
-            return Ok((connected, false));
+    fn ask_list(&mut self, number: u8) -> (Answer, bool) {
+        let sent = self.send_option(number, Offer::Strict, ClientCall::List);
+        if sent != Answer::Done {
+            return (sent, false);
         }
-        let bytes = self.bytes_of(number, ClientCall::List)?;
-        if !self.deliver(number, &bytes) {
-            return Ok((Answer::Misplaced, false));
-        }
-        self.report.clear();
-        let answer = names_reply(&self.out, 3, &mut self.report)?;
-        let has_failed = self.compare_list(number, answer)?;
+        let answer = names_reply(&self.out, 3, &mut self.report);
+        let has_failed = self.compare_list(number, answer);
         self.forget_if(number, answer);
-        Ok((answer, has_failed))
+        (answer, has_failed)
     }
 
     /// Sends LIST; once more if the disk failed in it in a matrix.
-    fn play_list(&mut self, number: u8) -> Result<Answer, AllocError> {
-        let (answer, has_failed) = self.ask_list(number)?;
+    fn play_list(&mut self, number: u8) -> Answer {
+        let (answer, has_failed) = self.ask_list(number);
         if has_failed && self.is_in_matrix {
-            return Ok(self.ask_list(number)?.0);
+            return self.ask_list(number).0;
         }
-        Ok(answer)
+        answer
     }
 
-    fn play_abort(&mut self, number: u8) -> Result<Answer, AllocError> {
-        let connected = self.ensure_connected(number, Offer::Strict)?;
+    fn play_abort(&mut self, number: u8) -> Answer {
+        let connected = self.ensure_connected(number, Offer::Strict);
         if connected != Answer::Done {
-            return Ok(connected);
+            return connected;
         }
-        let bytes = self.bytes_of(number, ClientCall::Abort)?;
+        let bytes = self.bytes_of(number, ClientCall::Abort);
         self.play_raw(number, &bytes)
     }
 
-    /// Sends an option of an extended client.
-    fn play_option(&mut self, number: u8, call: ClientCall<'_>) -> Result<Answer, AllocError> {
-        let connected = self.ensure_connected(number, Offer::Extended)?;
-        if connected != Answer::Done {
-            return Ok(connected);
+    fn play_structured(&mut self, number: u8) -> Answer {
+        let sent = self.send_option(number, Offer::Extended, ClientCall::StructuredReply);
+        if sent != Answer::Done {
+            return sent;
         }
-        let bytes = self.bytes_of(number, call)?;
-        if !self.deliver(number, &bytes) {
-            return Ok(Answer::Misplaced);
-        }
-        let answer = match call {
-            ClientCall::StructuredReply => option_reply(&self.out, 8),
-            ClientCall::ListContexts(_) => names_reply(&self.out, 9, &mut self.report)?,
-            _ => names_reply(&self.out, 10, &mut self.report)?,
-        };
-        if let (ClientCall::SetContexts(_), Answer::Reported) = (call, answer) {
-            self.take_older(number)?;
-        }
-        if let (ClientCall::StructuredReply, Answer::Done) = (call, answer) {
-            let connection = Connection {
-                has_chunks: true,
-                ..self.connection(number)
-            };
-            self.set_connection(number, connection);
+        let answer = option_reply(&self.out, 8);
+        if answer == Answer::Done {
+            self.connection_mut(number).has_chunks = true;
         }
         self.forget_if(number, answer);
-        Ok(answer)
+        answer
+    }
+
+    /// Sends LIST_META_CONTEXT (9) or SET_META_CONTEXT (10) of an extended client.
+    fn play_contexts(&mut self, number: u8, option: u32, call: ClientCall<'_>) -> Answer {
+        let sent = self.send_option(number, Offer::Extended, call);
+        if sent != Answer::Done {
+            return sent;
+        }
+        let answer = names_reply(&self.out, option, &mut self.report);
+        if option == 10 && answer == Answer::Reported {
+            self.take_older(number);
+        }
+        self.forget_if(number, answer);
+        answer
+    }
+
+    fn least_volume(&self) -> Option<u32> {
+        Some(self.reference()?.volumes().first()?.id())
     }
 
     /// Returns the name of the least volume for the name `least`.
     fn least_if_named<'a>(&self, name: ExportName<'a>) -> ExportName<'a> {
-        match (name, self.reference()) {
-            (ExportName::Text(b"least"), Some(reference)) => match reference.volumes().first() {
-                Some(volume) => ExportName::Volume(volume.id()),
-                None => name,
-            },
+        match (name, self.least_volume()) {
+            (ExportName::Text(text), Some(id)) if text == b"least".as_slice() => {
+                ExportName::Volume(id)
+            }
             _ => name,
         }
     }
 
-    pub(crate) fn play_client_option(
-        &mut self,
-        number: u8,
-        call: ClientCall<'_>,
-    ) -> Result<Answer, AllocError> {
+    pub(crate) fn play_client_option(&mut self, number: u8, call: ClientCall<'_>) -> Answer {
         match call {
             ClientCall::Connect(offer) => self.connect(number, offer),
             ClientCall::HangUp => self.hang_up(number),
@@ -309,10 +307,10 @@ impl World {
             }
             ClientCall::List => self.play_list(number),
             ClientCall::Abort => self.play_abort(number),
-            ClientCall::StructuredReply
-            | ClientCall::SetContexts(_)
-            | ClientCall::ListContexts(_) => self.play_option(number, call),
-            _ => Ok(Answer::Misplaced),
+            ClientCall::StructuredReply => self.play_structured(number),
+            ClientCall::ListContexts(_) => self.play_contexts(number, 9, call),
+            ClientCall::SetContexts(_) => self.play_contexts(number, 10, call),
+            _ => Answer::Misplaced,
         }
     }
 }

@@ -2,7 +2,7 @@
 
 use crate::world::World;
 use std::alloc::AllocError;
-use tp_script::{Answer, CrashImage, Disk, Operation, Pool, Request, Verb};
+use tp_script::{Answer, Buffer, CrashImage, Disk, Operation, Pool, Request, Verb};
 
 /// Volumes.
 const VOLUMES: u64 = 12;
@@ -14,14 +14,31 @@ const FACTOR: u64 = 6_364_136_223_846_793_005;
 #[derive(Clone, Copy)]
 enum Step {
     Line(Verb<'static>),
-    CreateThin(u64),
-    CreateSnap(u64, u64),
-    Delete(u64),
-    Grow(u64, u64),
-    SetTransactionId(u64, u64),
-    Reserve,
-    Release,
+    /// A message: its name, and the numbers after it.
+    Message(&'static str, [Option<u64>; 2]),
     Reopen,
+}
+
+fn message(name: &'static str) -> Step {
+    Step::Message(name, [None, None])
+}
+
+fn message_of(name: &'static str, number: u64) -> Step {
+    Step::Message(name, [Some(number), None])
+}
+
+fn message_of_two(name: &'static str, first: u64, second: u64) -> Step {
+    Step::Message(name, [Some(first), Some(second)])
+}
+
+/// Adds the text of a message.
+fn add_message(out: &mut Buffer, name: &str, numbers: &[Option<u64>]) {
+    out.add(name.as_bytes());
+    for number in numbers {
+        if let Some(number) = *number {
+            out.add_to_list(number);
+        }
+    }
 }
 
 fn request(volume: u64, sector: u64, count: u64, operation: Operation) -> Pool<'static> {
@@ -80,26 +97,27 @@ fn clear_of(bits: u64, volume: u64, trims: bool) -> Step {
 fn snapshot_of(bits: u64, volume: u64) -> Step {
     let other = (bits >> 36) % VOLUMES;
     let before = (volume % VOLUMES + 11) % VOLUMES;
-    Step::CreateSnap(volume, if (bits >> 40) % 2 == 0 { before } else { other })
+    let origin = if (bits >> 40) % 2 == 0 { before } else { other };
+    message_of_two("create_snap", volume, origin)
 }
 
 /// Returns the step of this number. The first one creates a volume.
 fn step_of(number: u64, bits: u64) -> Step {
     if number == 0 {
-        return Step::CreateThin(0);
+        return message_of("create_thin", 0);
     }
     let volume = (bits >> 32) % VOLUMES;
     match (bits >> 50) % 128 {
         0..=76 => write_of(bits, volume),
-        77 => Step::Reserve,
-        78..=79 => Step::Release,
+        77 => message("reserve_metadata_snap"),
+        78..=79 => message("release_metadata_snap"),
         80..=91 => clear_of(bits, volume, true),
         92..=103 => clear_of(bits, volume, false),
         104..=111 => snapshot_of(bits, volume),
-        112..=113 => Step::CreateThin(volume),
-        114..=116 => Step::Delete(volume),
-        117 => Step::Grow(volume, (bits >> 36) % 8),
-        118..=119 => Step::SetTransactionId((bits >> 36) % 2, (bits >> 37) % 2),
+        112..=113 => message_of("create_thin", volume),
+        114..=116 => message_of("delete", volume),
+        117 => message_of_two("grow", volume, (bits >> 36) % 8),
+        118..=119 => message_of_two("set_transaction_id", (bits >> 36) % 2, (bits >> 37) % 2),
         120..=122 => Step::Line(Verb::Pool(Pool::Flush)),
         123 => Step::Reopen,
         _ => Step::Line(Verb::Disk(Disk::Crash(CrashImage::MixedApart(
@@ -116,13 +134,19 @@ impl World {
         let is_crash = matches!(verb, Verb::Disk(Disk::Crash(_)));
         let is_valid = !matches!(answer, Answer::Misplaced | Answer::Strange);
         if !is_valid || is_crash && answer != Answer::Done {
-            self.note(b"a valid answer")?;
+            self.note(b"a valid answer");
         }
         Ok(self.mismatch.is_empty())
     }
 
-    fn is_message_right(&mut self, line: &str) -> Result<bool, AllocError> {
-        self.is_right(&Verb::Pool(Pool::Message(line.as_bytes())))
+    fn is_message_right(
+        &mut self,
+        name: &str,
+        numbers: [Option<u64>; 2],
+    ) -> Result<bool, AllocError> {
+        let mut line = Buffer::new(self.alloc);
+        add_message(&mut line, name, &numbers);
+        self.is_right(&Verb::Pool(Pool::Message(line.as_slice())))
     }
 
     fn is_reopening_right(&mut self) -> Result<bool, AllocError> {
@@ -130,24 +154,15 @@ impl World {
     }
 
     fn is_step_right(&mut self, step: &Step) -> Result<bool, AllocError> {
-        let alloc = self.alloc;
-        let line = match *step {
-            Step::Line(verb) => return self.is_right(&verb),
-            Step::Reopen => return self.is_reopening_right(),
-            Step::Reserve => return self.is_message_right("reserve_metadata_snap"),
-            Step::Release => return self.is_message_right("release_metadata_snap"),
-            Step::CreateThin(id) => format!(in alloc; "create_thin {id}")?,
-            Step::CreateSnap(id, origin) => format!(in alloc; "create_snap {id} {origin}")?,
-            Step::Delete(id) => format!(in alloc; "delete {id}")?,
-            Step::Grow(id, blocks) => format!(in alloc; "grow {id} {blocks}")?,
-            Step::SetTransactionId(current, next) => {
-                format!(in alloc; "set_transaction_id {current} {next}")?
-            }
-        };
-        self.is_message_right(line.as_str())
+        match *step {
+            Step::Line(verb) => self.is_right(&verb),
+            Step::Reopen => self.is_reopening_right(),
+            Step::Message(name, numbers) => self.is_message_right(name, numbers),
+        }
     }
 
-    /// Returns whether the status line, and a volume with its size and its copy in the metadata snapshot, are right.
+    /// Returns whether the status line, and a volume with its size and its copy in the metadata
+    /// snapshot, are right.
     fn is_state_right(&mut self, number: u64) -> Result<bool, AllocError> {
         let volume = (number % VOLUMES) as u32;
         let request = Request {
@@ -164,7 +179,8 @@ impl World {
         )
     }
 
-    /// Plays random steps, and looks at the pool after each. Returns the first step after which something is wrong.
+    /// Plays random steps, and looks at the pool after each. Returns the first step after which
+    /// something is wrong.
     pub(crate) fn first_wrong_step(
         &mut self,
         seed: u64,

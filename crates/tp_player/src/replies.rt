@@ -1,8 +1,7 @@
 //! Reads what the server sends to a client.
 
-use std::alloc::{AllocError, Global};
 use tp_hub::{Answers, Mark};
-use tp_script::{Answer, Operation, Request, add_hex_of, add_values, number_at};
+use tp_script::{Answer, Buffer, Operation, Request, add_hex_of, add_values, number_at};
 
 /// The first 8 bytes of an option's reply, and the bytes of its head.
 const REPLY_MAGIC: u64 = 0x0003_e889_0455_65a9;
@@ -92,18 +91,14 @@ fn done_if(is_empty: bool) -> Answer {
 }
 
 /// Takes the sectors that a READ was answered with.
-fn read_answer(
-    request: &Request,
-    bytes: &[u8],
-    values: &mut Vec<u8>,
-) -> Result<Answer, AllocError> {
+fn read_answer(request: &Request, bytes: &[u8], values: &mut Buffer) -> Answer {
     let is_whole = bytes.len() as u64 == request.count.saturating_mul(512);
-    let have_values = add_values(values, request.sector, bytes)?;
-    Ok(if is_whole && have_values {
+    let have_values = add_values(values, request.sector, bytes);
+    if is_whole && have_values {
         Answer::Reported
     } else {
         Answer::Strange
-    })
+    }
 }
 
 /// Reads a simple reply: to a request, or to a FLUSH if there is none.
@@ -111,29 +106,29 @@ pub(crate) fn simple_reply(
     out: &Answers,
     request: Option<&Request>,
     cookie: u64,
-    values: &mut Vec<u8>,
-) -> Result<Answer, AllocError> {
+    values: &mut Buffer,
+) -> Answer {
     if let Some(failure) = failure_in(out) {
-        return Ok(failure);
+        return failure;
     }
     let bytes = out.bytes();
     if number_at(bytes, 0, 4) != 0x6744_6698 || number_at(bytes, 8, 8) != cookie {
-        return Ok(Answer::Strange);
+        return Answer::Strange;
     }
     let error = number_at(bytes, 4, 4);
     let carried = bytes.get(16..).unwrap_or(&[]);
     if error != 0 {
-        return Ok(match done_if(carried.is_empty()) {
+        return match done_if(carried.is_empty()) {
             Answer::Done => Answer::Error(u32::try_from(error).unwrap_or(u32::MAX)),
             strange => strange,
-        });
+        };
     }
     match request {
         Some(request) => match request.operation {
             Operation::Read { .. } => read_answer(request, carried, values),
-            _ => Ok(done_if(carried.is_empty())),
+            _ => done_if(carried.is_empty()),
         },
-        None => Ok(done_if(carried.is_empty())),
+        None => done_if(carried.is_empty()),
     }
 }
 
@@ -147,34 +142,28 @@ pub(crate) fn greeting_reply(out: &Answers) -> Answer {
 }
 
 /// Reports the size of an export in bytes, and its flags.
-fn report_export(alloc: Global, data: &[u8], report: &mut Vec<u8>) -> Result<(), AllocError> {
+fn report_export(data: &[u8], report: &mut Buffer) {
     let size = number_at(data, 0, 8);
     let flags = number_at(data, 8, 2);
-    let text = format!(in alloc; "size {size} flags {flags:#x}")?;
-    report.extend_from_slice(text.as_bytes())
+    report.add_text(format!(in report.alloc(); "size {size} flags {flags:#x}"));
 }
 
 /// Takes an information. Returns whether it is a known one.
-fn take_information(alloc: Global, data: &[u8], report: &mut Vec<u8>) -> Result<bool, AllocError> {
+fn take_information(data: &[u8], report: &mut Buffer) -> bool {
     if data == BLOCK_SIZES {
-        return Ok(true);
+        return true;
     }
     if data.len() != 12 || number_at(data, 0, 2) != 0 {
-        return Ok(false);
+        return false;
     }
-    report_export(alloc, data.get(2..).unwrap_or(&[]), report)?;
-    Ok(true)
+    report_export(data.get(2..).unwrap_or(&[]), report);
+    true
 }
 
 /// Reads the replies to INFO (6) or GO (7), of which there are 4 at most.
-pub(crate) fn info_reply(
-    alloc: Global,
-    out: &Answers,
-    option: u32,
-    report: &mut Vec<u8>,
-) -> Result<Answer, AllocError> {
+pub(crate) fn info_reply(out: &Answers, option: u32, report: &mut Buffer) -> Answer {
     if let Some(failure) = failure_in(out) {
-        return Ok(failure);
+        return failure;
     }
     let mut replies = OptionReplies {
         option,
@@ -185,54 +174,49 @@ pub(crate) fn info_reply(
             break;
         };
         if reply.kind != INFORMATION {
-            return Ok(match replies.end(reply) {
+            return match replies.end(reply) {
                 Answer::Done if !report.is_empty() => Answer::Reported,
                 Answer::Done => Answer::Strange,
                 other => other,
-            });
+            };
         }
-        if !take_information(alloc, reply.data, report)? {
+        if !take_information(reply.data, report) {
             break;
         }
     }
-    Ok(Answer::Strange)
+    Answer::Strange
 }
 
 /// Reads the reply to EXPORT_NAME, without padding.
-pub(crate) fn export_reply(
-    alloc: Global,
-    out: &Answers,
-    report: &mut Vec<u8>,
-) -> Result<Answer, AllocError> {
+pub(crate) fn export_reply(out: &Answers, report: &mut Buffer) -> Answer {
     if let Some(failure) = failure_in(out) {
-        return Ok(failure);
+        return failure;
     }
     if out.bytes().len() != 10 {
-        return Ok(Answer::Strange);
+        return Answer::Strange;
     }
-    report_export(alloc, out.bytes(), report)?;
-    Ok(Answer::Reported)
+    report_export(out.bytes(), report);
+    Answer::Reported
 }
 
 /// Reports all bytes that were sent, and whether the connection is closed after them.
-pub(crate) fn raw_reply(out: &Answers, report: &mut Vec<u8>) -> Result<Answer, AllocError> {
+pub(crate) fn raw_reply(out: &Answers, report: &mut Buffer) -> Answer {
     let failure = failure_in(out);
     if out.bytes().is_empty() {
-        return Ok(failure.unwrap_or(Answer::Done));
+        return failure.unwrap_or(Answer::Done);
     }
-    add_hex_of(report, out.bytes())?;
+    add_hex_of(report, out.bytes());
     if failure == Some(Answer::Closed) {
-        report.extend_from_slice(b" closed")?;
+        report.add(b" closed");
     }
-    Ok(Answer::Reported)
+    Answer::Reported
 }
 
-/// Adds the name that follows 4 bytes of a reply's data: the name's length, or the number of its context.
-fn add_name(report: &mut Vec<u8>, data: &[u8]) -> Result<(), AllocError> {
-    if !report.is_empty() {
-        report.push(b' ')?;
-    }
-    report.extend_from_slice(data.get(4..).unwrap_or(&[]))
+/// Adds the name that follows 4 bytes of a reply's data: the name's length, or the number of its
+/// context.
+fn add_name(report: &mut Buffer, data: &[u8]) {
+    report.separate(b" ");
+    report.add(data.get(4..).unwrap_or(&[]))
 }
 
 /// Returns whether a reply names an export or a context.
@@ -245,15 +229,11 @@ fn is_name(reply: &OptionReply<'_>) -> bool {
     }
 }
 
-/// Reads the replies to LIST (3), LIST_META_CONTEXT (9) or SET_META_CONTEXT (10), of which there are 65,537 at most: reports the
-/// names, or `none`.
-pub(crate) fn names_reply(
-    out: &Answers,
-    option: u32,
-    report: &mut Vec<u8>,
-) -> Result<Answer, AllocError> {
+/// Reads the replies to LIST (3), LIST_META_CONTEXT (9) or SET_META_CONTEXT (10), of which there
+/// are 65,537 at most: reports the names, or `none`.
+pub(crate) fn names_reply(out: &Answers, option: u32, report: &mut Buffer) -> Answer {
     if let Some(failure) = failure_in(out) {
-        return Ok(failure);
+        return failure;
     }
     let mut replies = OptionReplies {
         option,
@@ -266,19 +246,17 @@ pub(crate) fn names_reply(
         if !is_name(&reply) {
             return end_names(replies.end(reply), report);
         }
-        add_name(report, reply.data)?;
+        add_name(report, reply.data);
     }
-    Ok(Answer::Strange)
+    Answer::Strange
 }
 
-fn end_names(end: Answer, report: &mut Vec<u8>) -> Result<Answer, AllocError> {
+fn end_names(end: Answer, report: &mut Buffer) -> Answer {
     if end != Answer::Done {
-        return Ok(end);
+        return end;
     }
-    if report.is_empty() {
-        report.extend_from_slice(b"none")?;
-    }
-    Ok(Answer::Reported)
+    report.end_list();
+    Answer::Reported
 }
 
 /// Reads the reply to an option that reports nothing.

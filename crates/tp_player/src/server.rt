@@ -2,14 +2,14 @@
 
 ghost use Rattle.std.specs.Prelude.{◌<◌};
 
-use crate::calls::MemServed;
+use crate::idle::MemServed;
 use nbd_session::Profile;
-use std::alloc::{AllocError, Global};
+use std::alloc::Global;
 use tp_hub::{Answers, Event, Hub, Mark};
 use tp_model::DevId;
 use tp_script::{
-    Answer, ClientCall, ExportName, Offer, add_contexts, add_head, add_info_option, add_option,
-    add_request, add_spelled,
+    Answer, Buffer, ClientCall, ExportName, Offer, add_contexts, add_head, add_info_option,
+    add_option, add_request, add_spelled,
 };
 
 /// The least number of a clone. A connection with clones names no such volume.
@@ -44,6 +44,15 @@ impl Connection {
     /// Returns whether a volume with this number has a name for the client.
     pub(crate) fn names(&self, id: u32) -> bool {
         !matches!(self.offer, Offer::Clones(_)) || id < FIRST_CLONE
+    }
+
+    /// Returns a connection that the server has greeted.
+    pub(crate) fn opened(offer: Offer) -> Connection {
+        Connection {
+            is_open: true,
+            offer,
+            ..Connection::CLOSED
+        }
     }
 
     pub(crate) const CLOSED: Connection = Connection {
@@ -160,36 +169,33 @@ pub(crate) fn handle(
     }
 }
 
-fn name_of(alloc: Global, name: ExportName<'_>) -> Result<Vec<u8>, AllocError> {
+fn name_of(alloc: Global, name: ExportName<'_>) -> Buffer {
+    let mut text = Buffer::new(alloc);
     match name {
-        ExportName::Volume(id) => {
-            let text = format!(in alloc; "{id}")?;
-            Vec::from_slice(alloc, text.as_bytes())
-        }
-        ExportName::Text(text) => Vec::from_slice(alloc, text),
+        ExportName::Volume(id) => text.add_number(id as u64),
+        ExportName::Text(name) => text.add(name),
     }
+    text
 }
 
-fn add_named_option(
-    alloc: Global,
-    out: &mut Vec<u8>,
-    call: ClientCall<'_>,
-) -> Result<(), AllocError> {
-    match call {
-        ClientCall::ExportName(name) => add_option(out, 1, &name_of(alloc, name)?),
-        ClientCall::Info(name) => add_info_option(out, 6, &name_of(alloc, name)?),
-        ClientCall::Go(name) => add_info_option(out, 7, &name_of(alloc, name)?),
-        _ => Ok(()),
+/// Adds an option that names an export, if a call is one.
+fn add_named_option(out: &mut Buffer, call: ClientCall<'_>) {
+    let (option, name) = match call {
+        ClientCall::ExportName(name) => (1, name),
+        ClientCall::Info(name) => (6, name),
+        ClientCall::Go(name) => (7, name),
+        _ => return,
+    };
+    let name = name_of(out.alloc(), name);
+    if option == 1 {
+        add_option(out, option, name.as_slice());
+    } else {
+        add_info_option(out, option, name.as_slice());
     }
 }
 
 /// Adds the bytes that a client sends for a call.
-pub(crate) fn add_sent(
-    alloc: Global,
-    out: &mut Vec<u8>,
-    call: ClientCall<'_>,
-    cookie: u64,
-) -> Result<(), AllocError> {
+pub(crate) fn add_sent(out: &mut Buffer, call: ClientCall<'_>, cookie: u64) {
     match call {
         ClientCall::Abort => add_option(out, 2, b""),
         ClientCall::List => add_option(out, 3, b""),
@@ -203,6 +209,6 @@ pub(crate) fn add_sent(
         | ClientCall::HalfOf(request)
         | ClientCall::Begin(request)
         | ClientCall::ReadShared(request) => add_request(out, &request, cookie),
-        _ => add_named_option(alloc, out, call),
+        _ => add_named_option(out, call),
     }
 }

@@ -1,23 +1,15 @@
 //! A case at work: its disk, the pool on it or a server of the pool, and the reference model.
 
-use crate::calls::{IdlePool, MemServed, served, stopped};
 use crate::disk::{ScriptDisk, Tally};
+use crate::idle::IdlePool;
 use crate::server::{CONNECTIONS, Connection, handle};
+use crate::stage::{Stage, serve, stop};
 use std::alloc::{AllocError, Global};
-use tp_hub::{Answers, Event, Hub};
+use tp_hub::{Answers, Event};
 use tp_model::{Geometry, Refusal};
 use tp_reference::{History, Reference, used_metadata_in};
-use tp_script::{Answer, Caller, SECTOR, add_answer};
+use tp_script::{Answer, Buffer, Caller, add_answer};
 use tp_served::Room;
-
-/// The part of the product that a case has at a time.
-#[derive(Drop)]
-pub(crate) enum Stage {
-    Empty,
-    Disk(ScriptDisk),
-    Pool(IdlePool),
-    Server(Box<Hub<MemServed>>),
-}
 
 /// How many lines reported that the disk failed.
 #[derive(Clone, Copy)]
@@ -66,16 +58,18 @@ pub(crate) struct World {
     pub history: Option<History>,
     /// Whether the pool has failed.
     pub has_failed: bool,
+    /// Whether there was memory for all that the reference model had to do.
+    has_memory: bool,
     pub connections: [Connection; CONNECTIONS],
     pub out: Answers,
     /// The text that the last line reported.
-    pub report: Vec<u8>,
+    pub report: Buffer,
     /// The values of the sectors that the last line read.
-    pub values: Vec<u8>,
+    pub values: Buffer,
     /// The bytes of the last read or write.
-    pub bytes: Vec<u8>,
+    pub bytes: Buffer,
     /// The answer that the reference model requires of the last line, if it got another one.
-    pub mismatch: Vec<u8>,
+    pub mismatch: Buffer,
     /// The disk's calls up to the last line `calls`.
     pub tally: Tally,
     /// The writes of metadata blocks up to the last line `metadata-writes`.
@@ -91,8 +85,7 @@ pub(crate) struct World {
 }
 
 impl World {
-    #[inline(never)]
-    pub(crate) fn new(alloc: Global) -> World {
+    fn new(alloc: Global) -> World {
         World {
             alloc,
             room: Room {
@@ -102,12 +95,13 @@ impl World {
             stage: Stage::Empty,
             history: None,
             has_failed: false,
+            has_memory: true,
             connections: [Connection::CLOSED; CONNECTIONS],
             out: Answers::new(alloc),
-            report: Vec::new(alloc),
-            values: Vec::new(alloc),
-            bytes: Vec::new(alloc),
-            mismatch: Vec::new(alloc),
+            report: Buffer::new(alloc),
+            values: Buffer::new(alloc),
+            bytes: Buffer::new(alloc),
+            mismatch: Buffer::new(alloc),
             tally: Tally::NONE,
             writes: Vec::new(alloc),
             failing: NO_CALLS,
@@ -118,37 +112,70 @@ impl World {
         }
     }
 
+    /// Returns a case that has not begun. It is on the heap: a function that owns one is expensive
+    /// to prove otherwise.
     #[inline(never)]
+    pub(crate) fn boxed(alloc: Global) -> Result<Box<World>, AllocError> {
+        Ok(Box::new(alloc, World::new(alloc))?)
+    }
+
     pub(crate) fn take_stage(&mut self) -> Stage {
         std::mem::replace(&mut self.stage, Stage::Empty)
     }
 
-    /// Takes the pool, after all connections of its server are closed.
-    #[inline(never)]
-    pub(crate) fn take_pool(&mut self) -> Option<IdlePool> {
-        if !matches!(&self.stage, Stage::Pool(_) | Stage::Server(_)) {
+    /// Takes the disk, if there is no pool on it.
+    pub(crate) fn take_disk(&mut self) -> Option<Box<ScriptDisk>> {
+        if !matches!(&self.stage, Stage::Disk(_)) {
             return None;
         }
         match self.take_stage() {
-            Stage::Pool(pool) => Some(pool),
-            Stage::Server(server) => Some(stopped(server)),
+            Stage::Disk(disk) => Some(disk),
             _ => None,
         }
     }
 
-    /// Puts a server over the pool, unless there is one. Returns whether there is one then.
-    pub(crate) fn start_server(&mut self) -> Result<bool, AllocError> {
-        if let Stage::Pool(_) = &self.stage {
-            if let Stage::Pool(pool) = self.take_stage() {
-                self.stage = Stage::Server(served(self.alloc, pool)?);
-            }
+    /// Takes the pool, if no server is over it.
+    fn take_idle(&mut self) -> Option<Box<IdlePool>> {
+        if !matches!(&self.stage, Stage::Pool(_)) {
+            return None;
         }
-        Ok(matches!(&self.stage, Stage::Server(_)))
+        match self.take_stage() {
+            Stage::Pool(idle) => Some(idle),
+            _ => None,
+        }
     }
 
-    pub(crate) fn say(&mut self, text: &[u8]) -> Result<Answer, AllocError> {
-        self.report.extend_from_slice(text)?;
-        Ok(Answer::Reported)
+    /// Stops the server, if there is one: all its connections are closed.
+    fn stop_server(&mut self) {
+        if matches!(&self.stage, Stage::Server(_)) {
+            if let Stage::Server(server) = self.take_stage() {
+                self.stage = stop(self.alloc, server);
+            }
+        }
+    }
+
+    /// Takes the pool, after all connections of its server are closed.
+    pub(crate) fn take_pool(&mut self) -> Option<Box<IdlePool>> {
+        self.stop_server();
+        self.take_idle()
+    }
+
+    /// Puts a server over the pool, unless there is one. Returns whether there is one then.
+    pub(crate) fn start_server(&mut self) -> bool {
+        if let Some(idle) = self.take_idle() {
+            self.stage = serve(self.alloc, idle);
+        }
+        matches!(&self.stage, Stage::Server(_))
+    }
+
+    /// Returns whether a pool is open, with a server over it or without.
+    pub(crate) fn has_pool(&self) -> bool {
+        matches!(&self.stage, Stage::Pool(_) | Stage::Server(_))
+    }
+
+    pub(crate) fn say(&mut self, text: &[u8]) -> Answer {
+        self.report.add(text);
+        Answer::Reported
     }
 
     /// Forgets what the last line left.
@@ -156,6 +183,24 @@ impl World {
         self.report.clear();
         self.values.clear();
         self.mismatch.clear();
+    }
+
+    /// Notes whether there was memory for what the reference model did.
+    pub(crate) fn note_memory(&mut self, has_memory: bool) {
+        self.has_memory = self.has_memory && has_memory;
+    }
+
+    /// Errors: `AllocError` if there was no memory for a part of the last line.
+    pub(crate) fn whole(&self) -> Result<(), AllocError> {
+        let is_whole = self.report.is_whole()
+            && self.values.is_whole()
+            && self.bytes.is_whole()
+            && self.mismatch.is_whole();
+        if self.has_memory && is_whole {
+            Ok(())
+        } else {
+            Err(AllocError)
+        }
     }
 
     /// Returns the disk, if there is one.
@@ -191,10 +236,7 @@ impl World {
     // The reference model.
 
     pub(crate) fn reference(&self) -> Option<&Reference> {
-        match &self.history {
-            Some(history) => history.now(),
-            None => None,
-        }
+        self.history.as_ref()?.now()
     }
 
     pub(crate) fn reference_mut(&mut self) -> Option<&mut Reference> {
@@ -211,20 +253,19 @@ impl World {
         Ok(())
     }
 
-    /// Notes that the reference model requires another answer. `text`: the text that the answer reports.
-    pub(crate) fn require(&mut self, expected: Answer, text: &[u8]) -> Result<(), AllocError> {
+    /// Notes that the reference model requires another answer. `text`: the text that the answer
+    /// reports.
+    pub(crate) fn require(&mut self, expected: Answer, text: &[u8]) {
         if self.mismatch.is_empty() {
-            add_answer(self.alloc, &mut self.mismatch, expected, text)?;
+            add_answer(&mut self.mismatch, expected, text);
         }
-        Ok(())
     }
 
     /// Notes why the last line is wrong.
-    pub(crate) fn note(&mut self, why: &[u8]) -> Result<(), AllocError> {
+    pub(crate) fn note(&mut self, why: &[u8]) {
         if self.mismatch.is_empty() {
-            self.mismatch.extend_from_slice(why)?;
+            self.mismatch.add(why);
         }
-        Ok(())
     }
 
     fn counts_metadata(&self) -> bool {
@@ -235,32 +276,31 @@ impl World {
     }
 
     /// Adds the pool's status line.
-    pub(crate) fn add_status(&mut self, line: &mut Vec<u8>) -> Result<Answer, AllocError> {
+    pub(crate) fn add_status(&mut self, line: &mut Buffer) -> Answer {
         match &mut self.stage {
             Stage::Pool(idle) => {
-                crate::calls::status(&mut idle.pool, line)?;
-                Ok(Answer::Reported)
+                idle.add_status(line);
+                Answer::Reported
             }
             Stage::Server(server) => {
                 let answer = handle(self.alloc, server, Event::Status, &mut self.out);
-                line.extend_from_slice(self.out.bytes())?;
-                Ok(answer)
+                line.add(self.out.bytes());
+                answer
             }
-            _ => Ok(Answer::Misplaced),
+            _ => Answer::Misplaced,
         }
     }
 
     /// Lets the reference model know the metadata blocks in use, unless it counts them.
-    pub(crate) fn take_used_metadata(&mut self) -> Result<(), AllocError> {
+    pub(crate) fn take_used_metadata(&mut self) {
         if self.counts_metadata() {
-            return Ok(());
+            return;
         }
-        let mut line = Vec::new(self.alloc);
-        self.add_status(&mut line)?;
+        let mut line = Buffer::new(self.alloc);
+        self.add_status(&mut line);
         if let Some(reference) = self.reference_mut() {
-            reference.set_reported_metadata(used_metadata_in(&line));
+            reference.set_reported_metadata(used_metadata_in(line.as_slice()));
         }
-        Ok(())
     }
 }
 
@@ -272,14 +312,4 @@ pub(crate) fn fault_for(caller: Caller) -> Answer {
 /// Returns the answer of a call to a failed pool.
 pub(crate) fn failed_for(caller: Caller) -> Answer {
     tp_script::answer_of(Err(Refusal::Failed), caller)
-}
-
-/// Makes a buffer one of this many sectors of zeros.
-pub(crate) fn zero_sectors(bytes: &mut Vec<u8>, count: usize) -> Result<(), AllocError> {
-    let zeros = [0; SECTOR];
-    bytes.clear();
-    for _ in 0..count {
-        bytes.extend_from_slice(&zeros)?;
-    }
-    Ok(())
 }

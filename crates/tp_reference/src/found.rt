@@ -1,13 +1,16 @@
 //! What a pool shows after a crash, and whether a state of the reference model allows it.
 
 use std::alloc::Global;
+use tp_script::Buffer;
 
 /// What a pool shows of a volume.
 #[derive(Drop)]
 pub struct FoundVolume {
     pub id: u32,
-    pub line: Vec<u8>,
-    pub values: Vec<u8>,
+    pub line: Buffer,
+    pub values: Buffer,
+    /// The sectors of a volume whose values are not read yet.
+    pub unread: u64,
 }
 
 impl FoundVolume {
@@ -15,8 +18,9 @@ impl FoundVolume {
     pub fn new(alloc: Global, id: u32) -> FoundVolume {
         FoundVolume {
             id,
-            line: Vec::new(alloc),
-            values: Vec::new(alloc),
+            line: Buffer::new(alloc),
+            values: Buffer::new(alloc),
+            unread: 0,
         }
     }
 }
@@ -24,7 +28,7 @@ impl FoundVolume {
 /// What a pool shows.
 #[derive(Drop)]
 pub struct Found {
-    pub line: Vec<u8>,
+    pub line: Buffer,
     pub volumes: Vec<FoundVolume>,
     /// The volumes of the metadata snapshot.
     pub snapshot: Vec<FoundVolume>,
@@ -38,7 +42,7 @@ impl Found {
     /// Nothing is found yet.
     pub fn new(alloc: Global) -> Found {
         Found {
-            line: Vec::new(alloc),
+            line: Buffer::new(alloc),
             volumes: Vec::new(alloc),
             snapshot: Vec::new(alloc),
             is_strange: false,

@@ -99,6 +99,16 @@ impl History {
         Ok(())
     }
 
+    /// From now on a crash may also leave the current state without the flag by which the pool needs a check.
+    pub fn allow_cleared(&mut self) -> Result<(), AllocError> {
+        let mut cleared = match self.states.last() {
+            Some(now) => now.copy()?,
+            None => return Ok(()),
+        };
+        cleared.clear_needs_check();
+        self.allow(cleared)
+    }
+
     /// From now on a crash may also leave an image without a pool.
     pub fn allow_blank(&mut self) {
         self.may_be_blank = true;
@@ -230,6 +240,19 @@ impl History {
         true
     }
 
+    /// Returns whether what was found of a volume is this volume of a state. `line`: its status line.
+    fn is_volume_of(
+        &self,
+        state: usize,
+        volume: &Volume,
+        found: &FoundVolume,
+        line: &[u8],
+    ) -> bool {
+        volume.id == found.id
+            && line == found.line.as_slice()
+            && self.may_have_all(state, volume, found.values.as_slice())
+    }
+
     /// Returns whether the volumes that were found are those of this state.
     fn are_volumes_of(&self, state: usize, found: &Found) -> Result<bool, AllocError> {
         let Some(reference) = self.states.get(state) else {
@@ -239,10 +262,8 @@ impl History {
             return Ok(false);
         }
         for (volume, found) in reference.volumes.iter().zip(found.volumes.iter()) {
-            if volume.id != found.id
-                || reference.volume_line(volume)?.as_bytes() != found.line.as_slice()
-                || !self.may_have_all(state, volume, &found.values)
-            {
+            let line = reference.volume_line(volume)?;
+            if !self.is_volume_of(state, volume, found, line.as_bytes()) {
                 return Ok(false);
             }
         }
@@ -254,7 +275,7 @@ impl History {
         let Some(reference) = self.states.get(state) else {
             return Ok(false);
         };
-        let line = reference.line_after_opening(&found.line)?;
+        let line = reference.line_after_opening(found.line.as_slice())?;
         if line.as_bytes() != found.line.as_slice() {
             return Ok(false);
         }
@@ -280,7 +301,7 @@ impl History {
         };
         let mut reference = reference.copy()?;
         for (volume, found) in reference.volumes.iter_mut().zip(found.volumes.iter()) {
-            volume.set_values(&found.values);
+            volume.set_values(found.values.as_slice());
         }
         reference.commit();
         reference.reopen(false);

@@ -2,7 +2,7 @@
 
 use crate::reference::Reference;
 use crate::volume::Volume;
-use std::alloc::{AllocError, Global};
+use tp_script::Buffer;
 
 /// Blocks that follow each other.
 #[derive(Clone, Copy)]
@@ -11,19 +11,13 @@ struct Extent {
     blocks: u64,
 }
 
-fn add_extent(
-    alloc: Global,
-    out: &mut Vec<u8>,
-    extent: Extent,
-    block_bytes: u64,
-) -> Result<(), AllocError> {
-    if extent.blocks == 0 {
-        return Ok(());
+fn add_extent(out: &mut Buffer, extent: Extent, block_bytes: u64) {
+    if extent.blocks > 0 {
+        out.add_number(extent.first.saturating_mul(block_bytes));
+        out.add(b"+");
+        out.add_number(extent.blocks.saturating_mul(block_bytes));
+        out.add(b" ");
     }
-    let offset = extent.first.saturating_mul(block_bytes);
-    let length = extent.blocks.saturating_mul(block_bytes);
-    let text = format!(in alloc; "{offset}+{length} ")?;
-    out.extend_from_slice(text.as_bytes())
 }
 
 /// Returns whether a block is listed: it is mapped, or two volumes map it differently.
@@ -38,31 +32,22 @@ fn is_listed(volume: &Volume, other: Option<&Volume>, block: usize) -> bool {
 impl Reference {
     /// Returns the page of the mapped blocks of a volume from this one on; or, with another volume, of
     /// the other one's blocks in which both differ. Returns `None` if there is no such volume.
-    pub fn page(&self, ids: (u32, Option<u32>), from: u32) -> Result<Option<Vec<u8>>, AllocError> {
-        let Some(volume) = self.volume(ids.0) else {
-            return Ok(None);
+    pub fn page(&self, ids: (u32, Option<u32>), from: u32) -> Option<Buffer> {
+        let volume = self.volume(ids.0)?;
+        let other = match ids.1 {
+            Some(other) => Some(self.volume(other)?),
+            None => None,
         };
-        match ids.1 {
-            None => Ok(Some(self.page_of(volume, None, from)?)),
-            Some(other) => match self.volume(other) {
-                Some(other) => Ok(Some(self.page_of(volume, Some(other), from)?)),
-                None => Ok(None),
-            },
-        }
+        Some(self.page_of(volume, other, from))
     }
 
-    fn page_of(
-        &self,
-        volume: &Volume,
-        other: Option<&Volume>,
-        from: u32,
-    ) -> Result<Vec<u8>, AllocError> {
+    fn page_of(&self, volume: &Volume, other: Option<&Volume>, from: u32) -> Buffer {
         let block_bytes = self.block_sectors().saturating_mul(512);
         let blocks = match other {
             Some(other) => other.blocks(),
             None => volume.blocks(),
         };
-        let mut page = Vec::new(self.alloc);
+        let mut page = Buffer::new(self.alloc);
         let mut extent = Extent {
             first: 0,
             blocks: 0,
@@ -74,45 +59,34 @@ impl Reference {
                 }
                 extent.blocks = extent.blocks.saturating_add(1);
             } else {
-                add_extent(self.alloc, &mut page, extent, block_bytes)?;
+                add_extent(&mut page, extent, block_bytes);
                 extent.blocks = 0;
             }
         }
-        add_extent(self.alloc, &mut page, extent, block_bytes)?;
-        page.extend_from_slice(b"end")?;
-        Ok(page)
+        add_extent(&mut page, extent, block_bytes);
+        page.add(b"end");
+        page
     }
 
     /// Returns the numbers of all volumes, with spaces between; `none` if there are none.
-    pub fn volume_numbers(&self) -> Result<Vec<u8>, AllocError> {
-        let mut list = Vec::new(self.alloc);
+    pub fn volume_numbers(&self) -> Buffer {
+        let mut list = Buffer::new(self.alloc);
         for volume in self.volumes() {
-            let id = volume.id();
-            let text = format!(in self.alloc; "{id} ")?;
-            list.extend_from_slice(text.as_bytes())?;
+            list.add_to_list(volume.id() as u64);
         }
-        end_list(&mut list)?;
-        Ok(list)
+        list.end_list();
+        list
     }
 
     /// Returns the numbers of the mapped blocks of a volume from this one on, with spaces between; `none` if there are none.
-    pub fn mapped_blocks(&self, volume: &Volume, from: u32) -> Result<Vec<u8>, AllocError> {
-        let mut list = Vec::new(self.alloc);
+    pub fn mapped_blocks(&self, volume: &Volume, from: u32) -> Buffer {
+        let mut list = Buffer::new(self.alloc);
         for block in from as usize..volume.blocks() {
             if volume.label(block) != 0 {
-                let text = format!(in self.alloc; "{block} ")?;
-                list.extend_from_slice(text.as_bytes())?;
+                list.add_to_list(block as u64);
             }
         }
-        end_list(&mut list)?;
-        Ok(list)
+        list.end_list();
+        list
     }
-}
-
-fn end_list(list: &mut Vec<u8>) -> Result<(), AllocError> {
-    list.pop();
-    if list.is_empty() {
-        list.extend_from_slice(b"none")?;
-    }
-    Ok(())
 }

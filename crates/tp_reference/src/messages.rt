@@ -1,7 +1,7 @@
 //! Messages to the reference model.
 
 use crate::reference::Reference;
-use crate::volume::{Volume, copies_of};
+use crate::volume::{Volume, add_labels, copies_of};
 use std::alloc::{AllocError, Global};
 use tp_model::Refusal;
 use tp_msg::Message;
@@ -87,9 +87,7 @@ impl Reference {
     }
 
     fn release(&mut self) -> Result<(), AllocError> {
-        for volume in &self.snapshot {
-            volume.add_labels(&mut self.lost)?;
-        }
+        add_labels(&mut self.lost, &self.snapshot)?;
         self.snapshot_tree = 0;
         self.snapshot.clear();
         Ok(())

@@ -1,6 +1,6 @@
 //! The state of the reference model.
 
-use crate::volume::{Volume, copies_of};
+use crate::volume::{Volume, add_labels, add_roots, copies_of, count_label};
 use std::alloc::{AllocError, Global};
 use tp_model::{Geometry, Mode, Refusal};
 use tp_plain::{Asked, Facts, Slot, refusal_of, used};
@@ -176,7 +176,7 @@ impl Reference {
     }
 
     /// Clears the flag by which the pool needs a check.
-    pub fn clear_needs_check(&mut self) {
+    pub(crate) fn clear_needs_check(&mut self) {
         self.needs_check = false;
     }
 
@@ -221,9 +221,8 @@ impl Reference {
 
     pub(crate) fn used_data(&self) -> Result<usize, AllocError> {
         let mut all = Vec::new(self.alloc);
-        for volume in self.volumes.iter().chain(self.snapshot.iter()) {
-            volume.add_labels(&mut all)?;
-        }
+        add_labels(&mut all, &self.volumes)?;
+        add_labels(&mut all, &self.snapshot)?;
         Ok(used(&all))
     }
 
@@ -234,9 +233,8 @@ impl Reference {
         if self.snapshot_tree != 0 {
             roots.push(self.snapshot_tree)?;
         }
-        for volume in self.volumes.iter().chain(self.snapshot.iter()) {
-            roots.push(volume.root)?;
-        }
+        add_roots(&mut roots, &self.volumes)?;
+        add_roots(&mut roots, &self.snapshot)?;
         let nodes = u32::try_from(count_different(&roots)).unwrap_or(u32::MAX);
         Ok(nodes.saturating_add(self.geometry.fixed_part()))
     }
@@ -271,17 +269,22 @@ impl Reference {
         }
     }
 
-    /// Returns whether a block of a volume has a data block that nothing else maps.
-    pub(crate) fn is_exclusive(&self, place: usize, block: usize) -> bool {
-        let label = match self.volumes.get(place) {
+    /// Counts the blocks that are mapped to this data block.
+    fn count_label(&self, label: u32) -> usize {
+        count_label(&self.volumes, label).saturating_add(count_label(&self.snapshot, label))
+    }
+
+    fn label_at(&self, place: usize, block: usize) -> u32 {
+        match self.volumes.get(place) {
             Some(volume) => volume.label(block),
             None => 0,
-        };
-        let mut count: usize = 0;
-        for volume in self.volumes.iter().chain(self.snapshot.iter()) {
-            count = count.saturating_add(volume.count_label(label));
         }
-        label != 0 && count == 1
+    }
+
+    /// Returns whether a block of a volume has a data block that nothing else maps.
+    pub(crate) fn is_exclusive(&self, place: usize, block: usize) -> bool {
+        let label = self.label_at(place, block);
+        label != 0 && self.count_label(label) == 1
     }
 
     /// Returns whether a block of a volume has a data block that nothing else maps.
@@ -317,19 +320,8 @@ impl Reference {
 
     /// Returns whether a block has a data block that nothing else maps, and another block lost it since the last commit.
     pub(crate) fn is_recently_unshared(&self, place: usize, block: usize) -> bool {
-        let label = match self.volumes.get(place) {
-            Some(volume) => volume.label(block),
-            None => 0,
-        };
+        let label = self.label_at(place, block);
         self.is_exclusive(place, block) && self.lost.contains(&label)
-    }
-
-    /// Returns whether any block has this data block.
-    fn has_label(&self, label: u32) -> bool {
-        self.volumes
-            .iter()
-            .chain(self.snapshot.iter())
-            .any(|volume| volume.count_label(label) > 0)
     }
 
     /// Counts the data blocks that are in use in a committed state, and not in this one: they are not free before the next
@@ -337,7 +329,7 @@ impl Reference {
     pub(crate) fn count_freed_since(&self, committed: &Reference) -> Result<usize, AllocError> {
         let mut freed = Vec::new(self.alloc);
         for slot in committed.slots()? {
-            if !self.has_label(slot.label) {
+            if self.count_label(slot.label) == 0 {
                 freed.push(slot.label)?;
             }
         }

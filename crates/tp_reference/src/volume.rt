@@ -139,3 +139,28 @@ pub(crate) fn copies_of(alloc: Global, volumes: &[Volume]) -> Result<Vec<Volume>
     }
     Ok(copies)
 }
+
+/// Adds the labels of all blocks that are mapped.
+pub(crate) fn add_labels(all: &mut Vec<u32>, volumes: &[Volume]) -> Result<(), AllocError> {
+    for volume in volumes {
+        volume.add_labels(all)?;
+    }
+    Ok(())
+}
+
+/// Adds the labels of the roots of all trees.
+pub(crate) fn add_roots(all: &mut Vec<u32>, volumes: &[Volume]) -> Result<(), AllocError> {
+    for volume in volumes {
+        all.push(volume.root)?;
+    }
+    Ok(())
+}
+
+/// Counts the blocks that are mapped to this data block.
+pub(crate) fn count_label(volumes: &[Volume], label: u32) -> usize {
+    let mut count: usize = 0;
+    for volume in volumes {
+        count = count.saturating_add(volume.count_label(label));
+    }
+    count
+}

@@ -1,7 +1,7 @@
 //! The result of a line.
 
+use crate::buffer::Buffer;
 use crate::text::cut_at;
-use std::alloc::{AllocError, Global};
 use tp_model::Refusal;
 
 /// The result of a line.
@@ -46,10 +46,11 @@ pub fn answer_of(outcome: Result<(), Refusal>, caller: Caller) -> Answer {
 }
 
 /// Adds the name of a refusal, which follows its number where it is displayed.
-fn add_refusal(alloc: Global, out: &mut Vec<u8>, refusal: Refusal) -> Result<(), AllocError> {
-    let text = format!(in alloc; "{refusal}")?;
-    let (_, name) = cut_at(text.as_bytes(), b' ');
-    out.extend_from_slice(name.unwrap_or(b""))
+fn add_refusal(out: &mut Buffer, refusal: Refusal) {
+    match format!(in out.alloc(); "{refusal}") {
+        Ok(text) => out.add(cut_at(text.as_bytes(), b' ').1.unwrap_or(b"")),
+        Err(error) => out.add_text(Err(error)),
+    }
 }
 
 fn option_word(reply: u32) -> &'static [u8] {
@@ -63,23 +64,18 @@ fn option_word(reply: u32) -> &'static [u8] {
 }
 
 /// Adds the spelling of an answer. `reported`: the text that the call reported.
-pub fn add_answer(
-    alloc: Global,
-    out: &mut Vec<u8>,
-    answer: Answer,
-    reported: &[u8],
-) -> Result<(), AllocError> {
+pub fn add_answer(out: &mut Buffer, answer: Answer, reported: &[u8]) {
     match answer {
-        Answer::Done => out.extend_from_slice(b"ok"),
-        Answer::Reported => out.extend_from_slice(reported),
-        Answer::Failed(refusal) => add_refusal(alloc, out, refusal),
+        Answer::Done => out.add(b"ok"),
+        Answer::Reported => out.add(reported),
+        Answer::Failed(refusal) => add_refusal(out, refusal),
         Answer::Error(error) => {
-            let text = format!(in alloc; "error {error}")?;
-            out.extend_from_slice(text.as_bytes())
+            out.add(b"error ");
+            out.add_number(error as u64);
         }
-        Answer::Option(reply) => out.extend_from_slice(option_word(reply)),
-        Answer::Closed => out.extend_from_slice(b"closed"),
-        Answer::Strange => out.extend_from_slice(b"strange"),
-        Answer::Misplaced => out.extend_from_slice(b"misplaced"),
+        Answer::Option(reply) => out.add(option_word(reply)),
+        Answer::Closed => out.add(b"closed"),
+        Answer::Strange => out.add(b"strange"),
+        Answer::Misplaced => out.add(b"misplaced"),
     }
 }

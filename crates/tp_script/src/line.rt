@@ -5,6 +5,8 @@
 pub enum CrashImage {
     Oldest,
     Newest,
+    /// The second value, of those after the last flush the first.
+    Second,
     /// The newest value of sectors with an even number, the oldest of all others.
     InTurn,
     /// The newest value of superblocks, the oldest of all other sectors.
@@ -109,6 +111,22 @@ pub enum ClientCall<'a> {
     Send(&'a [u8]),
 }
 
+/// A change of a closed pool's metadata blocks. Numbers have their lowest byte first.
+#[derive(Clone, Copy)]
+pub enum ImageChange {
+    /// Block, place, value: sets a byte, a number of four bytes, or one of eight.
+    Byte([u64; 3]),
+    U32([u64; 3]),
+    U64([u64; 3]),
+    /// Block, value: sets each number of four bytes.
+    FillU32(u64, u64),
+    Swap(u64, u64),
+    /// From, to.
+    Copy(u64, u64),
+    /// Block, kind, level, number of entries; the first key and the step to the next, and both of the values.
+    Node([u64; 8]),
+}
+
 /// A call on the disk or the image, and one that begins or ends a lifetime of the pool.
 #[derive(Clone, Copy)]
 pub enum Disk {
@@ -132,13 +150,12 @@ pub enum Disk {
     /// How often each metadata block from one to another was written since the last such line.
     MetadataWrites(u64, u64),
     /// Block, place, count: bytes of the image.
-    Bytes(u64, u64, u64),
+    Bytes([u64; 3]),
     /// Block, place, value: reports what `open` and `check` return with this byte, and puts the old one back.
-    Byte(u64, u64, u64),
-    /// Block, place, value: sets a byte.
-    PutByte(u64, u64, u64),
-    /// Block, bits: flips these bits of each byte of a block, one byte at a time.
-    EachByte(u64, u64),
+    Byte([u64; 3]),
+    Change(ImageChange),
+    /// Leaves this many sectors of the disk.
+    Truncate(u64),
     /// From here on nothing is compared with the reference model.
     NoReference,
 }
@@ -150,6 +167,9 @@ pub enum Pool<'a> {
     Thin(u32),
     Size(u32),
     Volumes,
+    /// The blocks of all volumes, and the values of their sectors, in the order of their numbers.
+    Sizes,
+    Contents,
     /// A message, which commits.
     Message(&'a [u8]),
     /// The change of a message, without its commit.
@@ -179,6 +199,12 @@ pub enum Block<'a> {
     /// The images of the second lifetime, if they differ from those of the first.
     Then(Picks),
     End,
+    /// Calls that `Try` and `TryEachByte` play on changed copies of the image.
+    Trial,
+    /// Changes, with `;` between them.
+    Try(&'a [u8]),
+    /// Block, bits: flips these bits of one byte of the block in each copy.
+    TryEachByte(u64, u64),
     /// The line, for each number from one to another.
     Repeat(u64, u64, &'a [u8]),
     /// Seed, and number of steps.
@@ -192,6 +218,18 @@ pub enum Verb<'a> {
     Pool(Pool<'a>),
     Client(u8, ClientCall<'a>),
     Block(Block<'a>),
+}
+
+impl Verb<'_> {
+    /// Returns whether the lines after this one, up to `end`, are a block of its own.
+    pub fn begins_block(&self) -> bool {
+        matches!(
+            self,
+            Verb::Block(
+                Block::IfCrashed(_) | Block::EachCrash(_) | Block::EachFault(_) | Block::Trial
+            )
+        )
+    }
 }
 
 /// A line: its number in the script, its text and meaning, and the answer that it requires. An empty one requires success.

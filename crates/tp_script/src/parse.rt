@@ -1,94 +1,104 @@
 //! Reads the lines of a script.
 
 use crate::line::{Block, CrashImage, Line, Picks, Verb};
-use crate::parse_calls::{disk_call, each_byte, pool_call};
+use crate::parse_calls::{disk_call, pool_call};
 use crate::parse_clients::client_call;
 use crate::text::{Words, cut_at, cut_at_mark, trim};
 use std::alloc::{AllocError, Global};
 
-pub(crate) fn crash_image(words: &mut Words<'_>) -> Option<CrashImage> {
-    match words.next_word() {
-        b"oldest" => Some(CrashImage::Oldest),
-        b"newest" => Some(CrashImage::Newest),
-        b"in-turn" => Some(CrashImage::InTurn),
-        b"newest-superblocks" => Some(CrashImage::NewestSuperblocks),
-        b"oldest-superblocks" => Some(CrashImage::OldestSuperblocks),
-        b"newest-from" => Some(CrashImage::NewestFrom(words.number()?)),
-        b"mixed" => Some(CrashImage::Mixed(words.number()?)),
-        _ => None,
+pub(crate) fn crash_image(words: &mut Words<'_>) -> CrashImage {
+    match words.next_name() {
+        "oldest" => CrashImage::Oldest,
+        "newest" => CrashImage::Newest,
+        "second" => CrashImage::Second,
+        "in-turn" => CrashImage::InTurn,
+        "newest-superblocks" => CrashImage::NewestSuperblocks,
+        "oldest-superblocks" => CrashImage::OldestSuperblocks,
+        "newest-from" => CrashImage::NewestFrom(words.number()),
+        "mixed" => CrashImage::Mixed(words.number()),
+        _ => {
+            words.refuse();
+            CrashImage::Oldest
+        }
     }
 }
 
-fn crash_images(words: &mut Words<'_>) -> Option<Picks> {
+fn crash_images(words: &mut Words<'_>) -> Picks {
     let mut picks = [None; 6];
     for place in 0..6usize {
         if !words.is_empty() {
-            picks[place] = Some(crash_image(words)?);
+            picks[place] = Some(crash_image(words));
         }
     }
-    Some(picks)
+    picks
 }
 
-fn each_call<'a>(words: &mut Words<'_>) -> Option<Verb<'a>> {
-    match words.next_word() {
-        b"crash" => Some(Verb::Block(Block::EachCrash(crash_images(words)?))),
-        b"fail" => Some(Verb::Block(Block::EachFault(crash_images(words)?))),
-        _ => None,
+/// Reads a line of a matrix, after `each`.
+fn each_call<'a>(words: &mut Words<'_>) -> Block<'a> {
+    words.expect("call:");
+    match words.next_name() {
+        "crash" => Block::EachCrash(crash_images(words)),
+        "fail" => Block::EachFault(crash_images(words)),
+        _ => {
+            words.refuse();
+            Block::End
+        }
     }
 }
 
-fn block_line<'a>(word: &[u8], words: &mut Words<'a>) -> Option<Block<'a>> {
+/// Reads a line after its first word, `try`.
+fn tried<'a>(words: &mut Words<'a>) -> Block<'a> {
+    if !words.take("each") {
+        return Block::Try(words.all());
+    }
+    words.expect("byte");
+    words.expect("of");
+    let block = words.number();
+    words.expect("with");
+    Block::TryEachByte(block, words.number())
+}
+
+/// Reads a line of a block whose first word is read already. Returns `None` if the word names a call.
+fn block_line<'a>(word: &str, words: &mut Words<'a>) -> Option<Block<'a>> {
+    Some(match word {
+        "case" => Block::Case(words.all()),
+        "if-crashed" => Block::IfCrashed(crash_image(words)),
+        "then" => Block::Then(crash_images(words)),
+        "end" => Block::End,
+        "each" => each_call(words),
+        "trial" => Block::Trial,
+        "try" => tried(words),
+        "repeat" => Block::Repeat(words.number(), words.number(), words.all()),
+        "random" => Block::Random(words.number(), words.number()),
+        _ => return None,
+    })
+}
+
+/// Reads a line of a client, of which there are 64, after its first word.
+fn client_line<'a>(words: &mut Words<'a>) -> Verb<'a> {
+    let number = words.byte();
+    words.refuse_unless(number < 64);
+    Verb::Client(number, client_call(words))
+}
+
+fn verb_of<'a>(word: &str, words: &mut Words<'a>) -> Verb<'a> {
+    if let Some(block) = block_line(word, words) {
+        return Verb::Block(block);
+    }
+    if let Some(call) = disk_call(word, words) {
+        return Verb::Disk(call);
+    }
     match word {
-        b"case" => Some(Block::Case(words.all())),
-        b"if-crashed" => Some(Block::IfCrashed(crash_image(words)?)),
-        b"then" => Some(Block::Then(crash_images(words)?)),
-        b"end" => Some(Block::End),
-        b"repeat" => Some(Block::Repeat(words.number()?, words.number()?, words.all())),
-        b"random" => Some(Block::Random(words.number()?, words.number()?)),
-        _ => None,
+        "client" => client_line(words),
+        _ => Verb::Pool(pool_call(word, words)),
     }
-}
-
-/// Reads a line after its first word, `each`.
-fn each_line<'a>(words: &mut Words<'_>) -> Option<Verb<'a>> {
-    match words.next_word() {
-        b"call:" => each_call(words),
-        b"byte" => Some(Verb::Disk(each_byte(words)?)),
-        _ => None,
-    }
-}
-
-fn verb_of<'a>(word: &[u8], words: &mut Words<'a>) -> Option<Verb<'a>> {
-    if word == b"each".as_slice() {
-        return each_line(words);
-    }
-    if word == b"client".as_slice() {
-        let number = u8::try_from(words.number()?).ok()?;
-        let call = client_call(words)?;
-        return if number < 64 {
-            Some(Verb::Client(number, call))
-        } else {
-            None
-        };
-    }
-    let mut block_words = *words;
-    if let Some(block) = block_line(word, &mut block_words) {
-        *words = block_words;
-        return Some(Verb::Block(block));
-    }
-    let mut disk_words = *words;
-    if let Some(call) = disk_call(word, &mut disk_words) {
-        *words = disk_words;
-        return Some(Verb::Disk(call));
-    }
-    Some(Verb::Pool(pool_call(word, words)?))
 }
 
 fn whole_verb(text: &[u8]) -> Option<Verb<'_>> {
     let mut words = Words::of(text);
-    let word = words.next_word();
-    let verb = verb_of(word, &mut words)?;
-    if words.is_empty() { Some(verb) } else { None }
+    let word = words.next_name();
+    let verb = verb_of(word, &mut words);
+    if words.is_ended() { Some(verb) } else { None }
 }
 
 /// Splits a line into its call and the answer that it requires. A line that stands for several keeps the answer in its text.
