@@ -1,11 +1,10 @@
-"""Programs that are built without a proof and kept until a source changes, and the scripts of `play_scripts`."""
+"""Programs that are built without a proof and kept until a source changes, and the scripts of those that play some."""
 import glob
 import hashlib
 import os
 import subprocess
 
 CRATE = "play_scripts"
-OUT = f"crates/{CRATE}/out"
 
 
 def uses():

@@ -1,12 +1,10 @@
-//! Tests of the programs, by [`tp_program::program`] alone: over image files and images in memory, scripts, loopback sockets and pipes.
+//! Tests of the program, by [`tp_program::program`], over real files, loopback sockets and pipes. `play_transcripts` has the others.
 //!
 //! They stand here, above it, so that no large crate is proved a second time for its tests.
 #![tactic(auto)]
 
 #[cfg(test)]
 mod check_tests;
-#[cfg(test)]
-mod chunk_tests;
 #[cfg(test)]
 mod command_line_tests;
 #[cfg(test)]
@@ -16,17 +14,9 @@ mod device_tests;
 #[cfg(test)]
 mod explained_tests;
 #[cfg(test)]
-mod feed_tests;
-#[cfg(test)]
 mod image_tests;
 #[cfg(test)]
-mod listing_tests;
-#[cfg(test)]
-mod memory_tests;
-#[cfg(test)]
 mod parts;
-#[cfg(test)]
-mod play_tests;
 #[cfg(test)]
 mod run_tests;
 #[cfg(test)]

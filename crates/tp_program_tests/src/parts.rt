@@ -21,9 +21,6 @@ pub(crate) const GREETING: &[u8] = b"NBDMAGICIHAVEOPT\x00\x03";
 pub(crate) const CLIENT_GO: &[u8] =
     b"\x00\x00\x00\x03IHAVEOPT\x00\x00\x00\x07\x00\x00\x00\x07\x00\x00\x00\x010\x00\x00";
 
-/// The flags of a client that wants no zeroes behind EXPORT_NAME.
-pub(crate) const FLAGS: &[u8] = b"\x00\x00\x00\x03";
-
 /// INFO_EXPORT, INFO_BLOCK_SIZE and ACK.
 pub(crate) const GO_REPLIES: &[u8] =
     b"\x00\x03\xe8\x89\x04\x55\x65\xa9\x00\x00\x00\x07\x00\x00\x00\x03\x00\x00\x00\x0c\x00\x00\x00\x00\x00\x00\x00\x10\x00\x00\x00\x6d\x00\x03\xe8\x89\x04\x55\x65\xa9\x00\x00\x00\x07\x00\x00\x00\x03\x00\x00\x00\x0e\x00\x03\x00\x00\x02\x00\x00\x00\x10\x00\x00\x10\x00\x00\x00\x03\xe8\x89\x04\x55\x65\xa9\x00\x00\x00\x07\x00\x00\x00\x01\x00\x00\x00\x00";
@@ -39,18 +36,7 @@ pub(crate) enum Part<'a> {
     Ask(u16, u64, u64, u32),
     /// A simple reply without data: its error and cookie.
     Reply(u32, u64),
-    /// A reply to an option: the option, the reply's type, and its data.
-    Told(u32, u32, &'a [u8]),
-    /// The fixed part of the last chunk of a structured reply: its type, cookie, and how many bytes follow.
-    Chunk(u16, u64, u32),
-    /// The same of a chunk that others follow.
-    Front(u16, u64, u32),
 }
-
-/// EXPORT_NAME of volume 0.
-pub(crate) const EXPORT_NAME: Part<'static> = Part::Text(
-    b"IHAVEOPT\x00\x00\x00\x01\x00\x00\x00\x010",
-);
 
 /// These parts, one behind the other.
 pub(crate) fn joined(alloc: Global, parts: &[Part<'_>]) -> Result<Vec<u8>, AllocError> {
@@ -68,25 +54,7 @@ pub(crate) fn add(text: &mut Vec<u8>, part: Part<'_>) -> Result<(), AllocError> 
         Part::Fill(byte, count) => repeat(text, byte, count),
         Part::Ask(kind, cookie, offset, len) => ask(text, kind, cookie, offset, len),
         Part::Reply(error, cookie) => reply(text, error, cookie),
-        Part::Told(option, kind, data) => tell(text, option, kind, data),
-        Part::Chunk(kind, cookie, len) => chunk(text, 1, kind, cookie, len),
-        Part::Front(kind, cookie, len) => chunk(text, 0, kind, cookie, len),
     }
-}
-
-/// Adds the fixed part of a chunk: its flags, type, cookie and length.
-fn chunk(
-    text: &mut Vec<u8>,
-    flags: u16,
-    kind: u16,
-    cookie: u64,
-    len: u32,
-) -> Result<(), AllocError> {
-    text.extend_from_slice(b"\x66\x8e\x33\xef")?;
-    text.extend_from_slice(&flags.to_be_bytes())?;
-    text.extend_from_slice(&kind.to_be_bytes())?;
-    text.extend_from_slice(&cookie.to_be_bytes())?;
-    text.extend_from_slice(&len.to_be_bytes())
 }
 
 /// Adds a request: its type, cookie, offset and length.
@@ -109,15 +77,6 @@ fn reply(text: &mut Vec<u8>, error: u32, cookie: u64) -> Result<(), AllocError> 
     text.extend_from_slice(b"\x67\x44\x66\x98")?;
     text.extend_from_slice(&error.to_be_bytes())?;
     text.extend_from_slice(&cookie.to_be_bytes())
-}
-
-/// Adds a reply to an option, with its data.
-fn tell(text: &mut Vec<u8>, option: u32, kind: u32, data: &[u8]) -> Result<(), AllocError> {
-    text.extend_from_slice(b"\x00\x03\xe8\x89\x04\x55\x65\xa9")?;
-    text.extend_from_slice(&option.to_be_bytes())?;
-    text.extend_from_slice(&kind.to_be_bytes())?;
-    text.extend_from_slice(&u32::try_from(data.len()).unwrap_or(u32::MAX).to_be_bytes())?;
-    text.extend_from_slice(data)
 }
 
 /// Adds so many bytes of this value.
@@ -271,9 +230,6 @@ pub(crate) const CLEAN: &[Call] = &[("check", &[], 0, "clean\n")];
 /// A client is fed that is offered what `serve` offers.
 pub(crate) const STRICT: Call = ("feed", &[], 0, "");
 
-/// A client is fed that is offered what `run` offers.
-pub(crate) const EXTENDED: Call = ("feed", &["--extended"], 0, "");
-
 /// Adds the words of a call on this image.
 fn add_words<'a>(words: &mut Vec<&'a str>, image: &'a str, call: &Call) -> Result<(), AllocError> {
     words.push("thinpool")?;
@@ -313,29 +269,6 @@ pub(crate) fn is_ended(ran: &Ran, call: &Call) -> bool {
 /// Whether all was done, and this is all that was printed.
 pub(crate) fn is_done(ran: &Ran, output: &[u8]) -> bool {
     ran.status == Status::Done && ran.output.as_slice() == output && ran.errors.is_empty()
-}
-
-/// Whether a program said this of its words, which were no command line.
-fn is_misuse(ran: &Ran, text: &str) -> bool {
-    let Ok(said) = std::str::from_utf8(&ran.errors) else {
-        return false;
-    };
-    ran.status == Status::Misused && ran.output.is_empty() && said.contains(text)
-}
-
-/// Whether these words are no command line, and this is said of them.
-pub(crate) fn is_misused<H>(rt: &H, words: &[&str], text: &str) -> bool
-where
-    H: Files<File = File>
-        + Net<Listener = TcpListener, Stream = TcpStream>
-        + Threads
-        + Wait
-        + Clock
-        + Sync
-        + Alloc<A = Global>,
-{
-    let mut input: &[u8] = b"";
-    is_misuse(&run(rt, words, &mut input), text)
 }
 
 /// How the program ends with these words and this input that prints into this, and whether it says that the system refused it.

@@ -377,63 +377,6 @@ fn an_address_that_is_taken(rt: HostRuntime) -> Result<(), Fail> {
     Ok(())
 }
 
-/// Numbers of clients that there cannot be; some of them are good ones where a part of their digits or bits is lost.
-const BAD_COUNTS: &[&str] = &["0", "65", "256", "257", "18446744073709551617", "one", ""];
-
-/// How the program ends that is to serve so many clients of an image that is not there.
-fn status_of<H>(rt: &H, count: &str) -> Status
-where
-    H: Files<File = File>
-        + Net<Listener = TcpListener, Stream = TcpStream>
-        + Threads
-        + Wait
-        + Clock
-        + Sync
-        + Alloc<A = Global>,
-{
-    serve(rt, "no.img", "127.0.0.1:0", count, &OnceLock::new()).status
-}
-
-/// The first of these numbers of clients that is not a bad one. There is no such image, which is not looked for where the words are wrong.
-fn first_good<H>(rt: &H, counts: &[&str]) -> Option<usize>
-where
-    H: Files<File = File>
-        + Net<Listener = TcpListener, Stream = TcpStream>
-        + Threads
-        + Wait
-        + Clock
-        + Sync
-        + Alloc<A = Global>,
-{
-    for (i, count) in counts.iter().enumerate() {
-        if status_of(rt, count) != Status::Misused {
-            return Some(i);
-        }
-    }
-    None
-}
-
-/// The first number of clients that is not a bad one, and how the program ends with the least and the most that are none.
-fn told_of_counts<H>(rt: &H) -> (Option<usize>, [Status; 2])
-where
-    H: Files<File = File>
-        + Net<Listener = TcpListener, Stream = TcpStream>
-        + Threads
-        + Wait
-        + Clock
-        + Sync
-        + Alloc<A = Global>,
-{
-    let good = first_good(rt, BAD_COUNTS);
-    (good, [status_of(rt, "1"), status_of(rt, "64")])
-}
-
-#[test]
-fn numbers_of_clients(rt: HostRuntime) {
-    let told = told_of_counts(&rt);
-    assert_eq!(rt; told, (None, [Status::Refused; 2]));
-}
-
 /// Nobody reads what is fed.
 #[test]
 fn a_closed_pipe(rt: HostRuntime) -> Result<(), Fail> {

@@ -2,9 +2,8 @@
 
 use crate::parts::{Call, Part, first_untold, first_untold_of_new, is_answered, words_of};
 use std::alloc::Global;
-use std::fs::{self, File, OpenOptions, remove_file};
+use std::fs::{File, remove_file};
 use std::net::{Net, TcpListener, TcpStream};
-use std::os::unix::fs::FileExt;
 use std::process::Abort;
 use std::rt::Files;
 use std::sync::Wait;
@@ -17,20 +16,12 @@ use tp_disk::FileDisk;
 pub(crate) enum Step {
     /// Calls, each of which ends and prints so.
     Calls(&'static [Call]),
-    /// The same of calls that leave the image as it was.
-    Unchanged(&'static [Call]),
     /// The same while another program reads the image.
     BesideReader(&'static [Call]),
     /// The same while another program works on the image.
     BesideWriter(&'static [Call]),
     /// A call that feeds a client, what that one sends, and what it is sent.
     Fed(Call, &'static [Part<'static>], &'static [Part<'static>]),
-    /// The image is made an empty file.
-    Empty,
-    /// The byte at this place becomes this.
-    Byte(u64, u8),
-    /// So many bytes are left.
-    Cut(u64),
     /// The image has so many bytes.
     Bytes(u64),
 }
@@ -70,47 +61,6 @@ where
     first_untold(rt, image, calls)
 }
 
-/// Whether a file has any other bytes than these.
-fn is_other<H>(rt: &H, path: &str, bytes: &[u8]) -> Result<bool, Fail>
-where
-    H: Files<File = File> + Alloc<A = Global>,
-{
-    Ok(fs::read(rt, path)?.as_slice() != bytes)
-}
-
-/// The first of these calls that does not end and print so on an image with these bytes, or the place behind the last where there are other bytes then.
-fn untold_on<H>(rt: &H, image: &str, bytes: &[u8], calls: &[Call]) -> Result<Option<usize>, Fail>
-where
-    H: Files<File = File>
-        + Net<Listener = TcpListener, Stream = TcpStream>
-        + Threads
-        + Wait
-        + Clock
-        + Sync
-        + Alloc<A = Global>,
-{
-    let untold = first_untold(rt, image, calls)?;
-    if is_other(rt, image, bytes)? {
-        return Ok(Some(calls.len()));
-    }
-    Ok(untold)
-}
-
-/// The same of the bytes that it has.
-fn untold_unchanged<H>(rt: &H, image: &str, calls: &[Call]) -> Result<Option<usize>, Fail>
-where
-    H: Files<File = File>
-        + Net<Listener = TcpListener, Stream = TcpStream>
-        + Threads
-        + Wait
-        + Clock
-        + Sync
-        + Alloc<A = Global>,
-{
-    let bytes = fs::read(rt, image)?;
-    untold_on(rt, image, &bytes, calls)
-}
-
 /// Whether this is wrong of a client of the image: what it sends, and what it is sent.
 fn untold_of_fed<H>(
     rt: &H,
@@ -130,31 +80,6 @@ where
 {
     let words = words_of(rt.alloc(), image, call)?;
     Ok(first_if(!is_answered(rt, &words, text, wanted)?))
-}
-
-/// Makes a file empty.
-fn make_empty<F: Files<File = File>>(files: &F, path: &str) -> Result<Option<usize>, Fail> {
-    File::create(files, path)?;
-    Ok(None)
-}
-
-/// Sets one byte of a file.
-fn set_byte<F: Files<File = File>>(
-    files: &F,
-    path: &str,
-    at: u64,
-    byte: u8,
-) -> Result<Option<usize>, Fail> {
-    let file = OpenOptions::new().write(true).open(files, path)?;
-    file.write_all_at(&[byte], at)?;
-    Ok(None)
-}
-
-/// Makes a file this long.
-fn cut<F: Files<File = File>>(files: &F, path: &str, bytes: u64) -> Result<Option<usize>, Fail> {
-    let file = OpenOptions::new().write(true).open(files, path)?;
-    file.set_len(bytes)?;
-    Ok(None)
 }
 
 /// Whether it is wrong that a file has so many bytes.
@@ -180,13 +105,9 @@ where
 {
     match step {
         Step::Calls(calls) => first_untold(rt, image, calls),
-        Step::Unchanged(calls) => untold_unchanged(rt, image, calls),
         Step::BesideReader(calls) => untold_beside_reader(rt, image, calls),
         Step::BesideWriter(calls) => untold_beside_writer(rt, image, calls),
         Step::Fed(call, text, wanted) => untold_of_fed(rt, image, call, text, wanted),
-        Step::Empty => make_empty(rt, image),
-        Step::Byte(at, byte) => set_byte(rt, image, *at, *byte),
-        Step::Cut(bytes) => cut(rt, image, *bytes),
         Step::Bytes(bytes) => untold_of_length(rt, image, *bytes),
     }
 }
