@@ -46,7 +46,7 @@ pub struct Served<V: Volumes> {
 /// whose session is open when it comes, which does not count as refused. When the pool has failed, the alarm sounds once.
 ///
 /// Each ask is one [`Hub::run`], made while the lock is held, or READs and BLOCK_STATUSes of [`Hub::ask_shared`], which change nothing, made while it is shared; and
-/// nothing else is done to the hub but flushes in parts, for the events that ask for one ([`Hub::begin_flush`]), each of which is one run too. So the hub that is given back came of
+/// nothing else is done to the hub, also where a commit is made in parts for an event that asks for one (`tp_hub::StagedHub`). So the hub that is given back came of
 /// the one that was given by runs one behind the other (`asked`), in the order in which the lock was had; those that shared it may stand anywhere. Which of these
 /// runs were a client's, and so that it is told what they answered and no more is done than it asked for, no clause says, nor that every client that came is
 /// served.

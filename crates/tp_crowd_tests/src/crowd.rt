@@ -152,17 +152,6 @@ where
     told_of_two(rt, 2, &one, &reads_behind(1, ANSWERED_GO))
 }
 
-/// Each of two reads stays in the pool until the other one has come. So they do not meet where a lock lets one in at a time, nor where they are not shared.
-#[test]
-fn reads_at_once(rt: HostRuntime) -> Result<(), Fail> {
-    let ((left, (_, are_together)), (bytes, _, _)) = told_of_readers(&rt)?;
-    assert_eq!(rt;
-        (left, bytes, are_together),
-        ((2, 0, 0), (ANSWERED_READ, ANSWERED_READ), true)
-    );
-    Ok(())
-}
-
 /// A client that flushes and one that reads, each when the other one was greeted.
 fn told_of_reader_and_flusher<H>(rt: &H) -> Result<((Left, Kept), Written), Fail>
 where
@@ -177,10 +166,16 @@ where
     told_of_two(rt, 2, &flushes, &reads_behind(1, ANSWERED_GO))
 }
 
-/// The read stays in the pool until what was written is being brought to the device, and that goes on until the read has come. So they do not meet where a flush has
-/// the pool alone while it waits for the device.
+/// Each of two reads stays in the pool until the other one has come. So they do not meet where a lock lets one in at a time, nor where they are not shared.
+/// Beside a flush a read stays until what was written is being brought to the device, and that goes on until the read has come. So they do not meet where a
+/// flush has the pool alone while it waits for the device.
 #[test]
-fn a_read_beside_a_flush(rt: HostRuntime) -> Result<(), Fail> {
+fn reads_at_once(rt: HostRuntime) -> Result<(), Fail> {
+    let ((left, (_, are_together)), (bytes, _, _)) = told_of_readers(&rt)?;
+    assert_eq!(rt;
+        (left, bytes, are_together),
+        ((2, 0, 0), (ANSWERED_READ, ANSWERED_READ), true)
+    );
     let ((left, (_, are_together)), (bytes, _, _)) = told_of_reader_and_flusher(&rt)?;
     assert_eq!(rt;
         (left, bytes, are_together),

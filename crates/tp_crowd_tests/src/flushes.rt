@@ -96,14 +96,6 @@ where
     }
 }
 
-/// The second of two FLUSHes finds all kept: nothing was written since the first one.
-#[test]
-fn two_flushes_share_a_commit(rt: HostRuntime) -> Result<(), Fail> {
-    let told = told_of_a_write(&rt)?;
-    assert_eq!(rt; told, (32, 2));
-    Ok(())
-}
-
 /// How many bytes answer a client of this profile that goes to a volume and sends a request twice.
 fn answered_to<H>(
     rt: &H,
@@ -162,15 +154,6 @@ where
     }
 }
 
-/// Each WRITE with FUA of an extended session is kept by a flush in parts, between which READs go
-/// on. Those of a strict one are kept by their own calls, and no flush is made before them.
-#[test]
-fn a_write_with_fua_is_kept_in_parts(rt: HostRuntime) -> Result<(), Fail> {
-    let told = told_of_kept_writes(&rt)?;
-    assert_eq!(rt; told, [(32, 4), (32, 0)]);
-    Ok(())
-}
-
 /// Whether a message over a lock is answered that it is done.
 fn is_ordered<H>(rt: &H, hub: &HubLock<'_, Shelf, Seen, Brand>) -> bool
 where
@@ -198,11 +181,17 @@ where
     Ok((is_done, hub.into_inner().into_pool().synced().0))
 }
 
-/// A message is kept in parts, and READs may come to the syncs between them.
+/// The second of two FLUSHes finds all kept: nothing was written since the first one. Each WRITE with FUA of an extended session is kept by a flush in
+/// parts, between which READs go on. Those of a strict one are kept by their own calls, and no flush is made before them. A message is kept in parts.
 #[test]
-fn a_message_is_kept_in_parts(rt: HostRuntime) -> Result<(), Fail> {
-    let told = told_of_message(&rt)?;
-    assert_eq!(rt; told, (true, 2));
+fn two_flushes_share_a_commit(rt: HostRuntime) -> Result<(), Fail> {
+    let flushes = told_of_a_write(&rt)?;
+    let writes = told_of_kept_writes(&rt)?;
+    let message = told_of_message(&rt)?;
+    assert_eq!(rt;
+        (flushes, writes, message),
+        ((32, 2), [(32, 4), (32, 0)], (true, 2))
+    );
     Ok(())
 }
 
@@ -282,39 +271,6 @@ fn reads_between_the_parts_of_a_message(rt: HostRuntime) -> Result<(), Fail> {
     Ok(())
 }
 
-/// Whether a message whose flush fails in this part is refused, and how often the alarm sounded.
-fn told_of_faulty_message<H>(rt: &H, part: u8) -> Result<(bool, u64), Refusal>
-where
-    H: Wait + Sync + Alloc<A = Global>,
-{
-    let alarm = Seen::nothing();
-    let shelf = failing_in_part(part)?;
-    let hub = HubLock::<FailingShelf, Seen, Brand>::new(Hub::new(shelf), &alarm);
-    let mut out = Answers::new(rt.alloc());
-    let mut desk = LockedDesk {
-        rt,
-        alloc: rt.alloc(),
-        hub: &hub,
-    };
-    desk.ask(Event::Message(b"reserve_metadata_snap"), &mut out);
-    let damaged = Mark::Refused {
-        reason: Refusal::Damaged,
-    };
-    Ok((out.marks() == [damaged].as_slice(), alarm.bytes()))
-}
-
-/// In whichever part what keeps a message fails, it is refused, and the alarm sounds once.
-#[test]
-fn a_fault_in_each_part_of_a_message(rt: HostRuntime) -> Result<(), Fail> {
-    let told = [
-        told_of_faulty_message(&rt, 0)?,
-        told_of_faulty_message(&rt, 1)?,
-        told_of_faulty_message(&rt, 2)?,
-    ];
-    assert_eq!(rt; told, [(true, 1), (true, 1), (true, 1)]);
-    Ok(())
-}
-
 /// What a FLUSH and a READ are answered by a pool that has failed.
 const FAILED: &[u8] =
     b"\x67\x44\x66\x98\0\0\0\x05\0\0\0\0\0\0\0\x03\x67\x44\x66\x98\0\0\0\x05\0\0\0\0\0\0\0\x02";
@@ -339,21 +295,9 @@ where
     Ok((out.bytes() == FAILED, alarm.bytes()))
 }
 
-/// In whichever part the flush fails, the client is answered error 5 and so are READs behind it, and the alarm sounds once.
-#[test]
-fn a_fault_in_each_part_is_told_once(rt: HostRuntime) -> Result<(), Fail> {
-    let told = [
-        told_of_fault(&rt, 0)?,
-        told_of_fault(&rt, 1)?,
-        told_of_fault(&rt, 2)?,
-    ];
-    assert_eq!(rt; told, [(true, 1), (true, 1), (true, 1)]);
-    Ok(())
-}
-
-/// Whether the control line `flush` is refused by the very fault, over a pool whose flush fails in
+/// Whether a message, or the control line `flush`, is refused by the very fault, over a pool whose flush fails in
 /// this part, and how often the alarm sounded.
-fn told_of_faulty_line<H>(rt: &H, part: u8) -> Result<(bool, u64), Refusal>
+fn told_of_faulty_line<H>(rt: &H, message: Option<&[u8]>, part: u8) -> Result<(bool, u64), Refusal>
 where
     H: Wait + Sync + Alloc<A = Global>,
 {
@@ -367,22 +311,27 @@ where
         hub: &hub,
     };
     begin(&mut desk, &[], &mut out);
-    desk.ask(Event::Flush, &mut out);
+    match message {
+        Some(line) => desk.ask(Event::Message(line), &mut out),
+        None => desk.ask(Event::Flush, &mut out),
+    };
     let damaged = Mark::Refused {
         reason: Refusal::Damaged,
     };
     Ok((out.marks() == [damaged].as_slice(), alarm.bytes()))
 }
 
-/// In whichever part the flush fails, the line that asked for it is refused as the flush was, and
-/// not as a pool that has failed before.
+/// In whichever part a flush fails, the alarm sounds once. The client is answered error 5, and so are READs behind it. A message, and the line that asked
+/// for a flush, are refused as the flush was, and not as a pool that has failed before.
 #[test]
-fn a_fault_in_each_part_answers_the_line(rt: HostRuntime) -> Result<(), Fail> {
-    let told = [
-        told_of_faulty_line(&rt, 0)?,
-        told_of_faulty_line(&rt, 1)?,
-        told_of_faulty_line(&rt, 2)?,
-    ];
-    assert_eq!(rt; told, [(true, 1), (true, 1), (true, 1)]);
+fn a_fault_in_each_part_is_told_once(rt: HostRuntime) -> Result<(), Fail> {
+    for part in [0, 1, 2] {
+        let told = [
+            told_of_fault(&rt, part)?,
+            told_of_faulty_line(&rt, Some(b"reserve_metadata_snap"), part)?,
+            told_of_faulty_line(&rt, None, part)?,
+        ];
+        assert_eq!(rt; told, [(true, 1); 3]);
+    }
     Ok(())
 }

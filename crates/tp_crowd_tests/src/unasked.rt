@@ -6,7 +6,7 @@ ghost use Rattle.std.specs.Prelude.{◌<◌};
 use crate::talk::{FLUSH, GO, LETTERS, WRITE_HEAD, joined, write};
 use crate::waiting::Seen;
 use nbd_session::Profile;
-use std::alloc::{AllocError, Global};
+use std::alloc::Global;
 use std::marker::Brand;
 use std::sync::Wait;
 use std::test::Fail;
@@ -150,19 +150,11 @@ where
 }
 
 /// How many syncs were made between parts of flushes in a scene.
-fn syncs_in<H>(
-    rt: &H,
-    profile: Profile,
-    scene: Scene,
-    text: Result<Vec<u8>, AllocError>,
-) -> Result<u64, Refusal>
+fn syncs_in<H>(rt: &H, profile: Profile, scene: Scene, parts: &[&[u8]]) -> Result<u64, Refusal>
 where
     H: Wait + Sync + Alloc<A = Global>,
 {
-    let Ok(text) = text else {
-        return Err(Refusal::Memory);
-    };
-    let Ok(first) = write(rt.alloc()) else {
+    let (Ok(text), Ok(first)) = (joined(rt.alloc(), parts), write(rt.alloc())) else {
         return Err(Refusal::Memory);
     };
     let alarm = Seen::nothing();
@@ -172,95 +164,51 @@ where
     Ok(hub.into_inner().into_pool().synced().0)
 }
 
-/// Two WRITEs, one behind the other.
-fn two_writes(alloc: Global) -> Result<Vec<u8>, AllocError> {
-    let one = write(alloc)?;
-    joined(alloc, &[&one, &one])
-}
+/// Two WRITEs, one behind the other, and one whose payload begins with a whole FLUSH.
+const TWO_WRITES: &[&[u8]] = &[WRITE_HEAD, LETTERS, WRITE_HEAD, LETTERS];
 
-/// A WRITE whose payload begins with a whole FLUSH.
-fn write_of_a_flush(alloc: Global) -> Result<Vec<u8>, AllocError> {
-    let rest = LETTERS.get(28..).unwrap_or(&[]);
-    joined(alloc, &[WRITE_HEAD, FLUSH, rest])
-}
+const WRITE_OF_A_FLUSH: &[&[u8]] = &[WRITE_HEAD, FLUSH, &[0x61; 484]];
 
 /// The requests with FUA that keep nothing.
-fn refused_requests(alloc: Global) -> Result<Vec<u8>, AllocError> {
-    joined(
-        alloc,
-        &[
-            REFUSED_WRITE,
-            LETTERS,
-            EMPTY_WRITE,
-            ODD_TRIM,
-            ODD_ZEROES,
-            REFUSED_FLUSH,
-        ],
-    )
+const REFUSED: &[&[u8]] = &[
+    REFUSED_WRITE,
+    LETTERS,
+    EMPTY_WRITE,
+    ODD_TRIM,
+    ODD_ZEROES,
+    REFUSED_FLUSH,
+];
+
+/// Scenes, and their syncs. WRITEs whose payload looks like a FLUSH, or like FUA, are cut at each byte, and so are options; requests with FUA, and messages,
+/// are refused. Only a FLUSH that comes whole, and the control line `flush`, are made in parts.
+const SCENES: [(Profile, Scene, &[&[u8]], u64); 9] = [
+    (Profile::Strict, Scene::Cut, TWO_WRITES, 0),
+    (Profile::Extended, Scene::Cut, TWO_WRITES, 0),
+    (Profile::Strict, Scene::Cut, WRITE_OF_A_FLUSH, 0),
+    (Profile::Strict, Scene::Others, &[OPTIONS], 0),
+    (Profile::Strict, Scene::Whole, REFUSED, 0),
+    (Profile::Extended, Scene::Whole, REFUSED, 0),
+    (Profile::Strict, Scene::Messages, &[], 0),
+    (Profile::Strict, Scene::Whole, &[FLUSH], 2),
+    (Profile::Strict, Scene::Line, &[], 2),
+];
+
+/// The first of these with other syncs.
+fn first_other_scene<H>(rt: &H) -> Result<Option<usize>, Refusal>
+where
+    H: Wait + Sync + Alloc<A = Global>,
+{
+    for (i, (profile, scene, parts, syncs)) in SCENES.iter().enumerate() {
+        if syncs_in(rt, *profile, *scene, parts)? != *syncs {
+            return Ok(Some(i));
+        }
+    }
+    Ok(None)
 }
 
-/// WRITEs whose payload looks like a FLUSH, or like FUA, are cut at each byte, and so are options.
 #[test]
-fn payloads_and_options_make_no_flush(rt: HostRuntime) -> Result<(), Fail> {
-    let told = [
-        syncs_in(&rt, Profile::Strict, Scene::Cut, two_writes(rt.alloc()))?,
-        syncs_in(&rt, Profile::Extended, Scene::Cut, two_writes(rt.alloc()))?,
-        syncs_in(
-            &rt,
-            Profile::Strict,
-            Scene::Cut,
-            write_of_a_flush(rt.alloc()),
-        )?,
-        syncs_in(
-            &rt,
-            Profile::Strict,
-            Scene::Others,
-            joined(rt.alloc(), &[OPTIONS]),
-        )?,
-    ];
-    assert_eq!(rt; told, [0, 0, 0, 0]);
-    Ok(())
-}
-
-/// Requests with FUA, and messages, that are refused.
-#[test]
-fn what_is_refused_makes_no_flush(rt: HostRuntime) -> Result<(), Fail> {
-    let told = [
-        syncs_in(
-            &rt,
-            Profile::Strict,
-            Scene::Whole,
-            refused_requests(rt.alloc()),
-        )?,
-        syncs_in(
-            &rt,
-            Profile::Extended,
-            Scene::Whole,
-            refused_requests(rt.alloc()),
-        )?,
-        syncs_in(
-            &rt,
-            Profile::Strict,
-            Scene::Messages,
-            Ok(Vec::new(rt.alloc())),
-        )?,
-    ];
-    assert_eq!(rt; told, [0, 0, 0]);
-    Ok(())
-}
-
-/// A FLUSH that comes whole, and the control line `flush`, are made in parts.
-#[test]
-fn what_is_asked_for_is_made_in_parts(rt: HostRuntime) -> Result<(), Fail> {
-    let told = [
-        syncs_in(
-            &rt,
-            Profile::Strict,
-            Scene::Whole,
-            joined(rt.alloc(), &[FLUSH]),
-        )?,
-        syncs_in(&rt, Profile::Strict, Scene::Line, Ok(Vec::new(rt.alloc())))?,
-    ];
-    assert_eq!(rt; told, [2, 2]);
+fn only_what_is_asked_for_is_flushed(rt: HostRuntime) -> Result<(), Fail> {
+    let other = first_other_scene(&rt)?;
+    assert_eq!(rt; other, None);
     Ok(())
 }

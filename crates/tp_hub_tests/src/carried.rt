@@ -1,15 +1,16 @@
 //! One client over the hub.
 ghost use Rattle.std.specs.Prelude.{◌≡◌, ◌<◌, IfOk, length};
+ghost use Rattle.tp_hub.specs.Runs.{incoming, session_of};
+ghost use Rattle.tp_hub.specs.Desks.{IsAsked};
 
 use crate::script::{KEPT, Script};
 use crate::talk::{
     ALL_GIVEN, ANSWERED, GO_0, GONE, GREETED, HEARD, READS_IN_A_PIECE, one_talk, reads,
 };
-use crate::watched::Watched;
 use nbd_session::Profile;
 use std::alloc::Global;
 use std::test::Fail;
-use tp_hub::{Answers, Carried, Event, Hub, HubDesk, MOST_BYTES, carry, serve};
+use tp_hub::{Answers, Carried, Desk, Event, Hub, HubDesk, MOST_BYTES, Ran, carry, serve};
 use tp_model::Refusal;
 use tp_shelf::blank_shelf;
 
@@ -88,39 +89,58 @@ fn are_answers(kept: &[u8; KEPT]) -> [bool; 3] {
     ]
 }
 
+/// How many bytes that client gives a read and takes a write, and what is told of it then.
+const TALKS: [(usize, usize, Told); 4] = [
+    (
+        usize::MAX,
+        usize::MAX,
+        (Carried::SessionOver, 0, ANSWERED, 2, 1, 0),
+    ),
+    (
+        1,
+        usize::MAX,
+        (Carried::SessionOver, 0, ANSWERED, 4, HEARD as u64, 0),
+    ),
+    (usize::MAX, 1, (Carried::SessionOver, 0, ANSWERED, 2, 1, 0)),
+    (usize::MAX, 0, (Carried::OutputFailed, 0, 0, 0, 0, 0)),
+];
+
+/// The first of these of which something else is told, or that takes other bytes than this.
+fn first_other_talk(alloc: Global, wanted: &[u8; KEPT]) -> Result<Option<usize>, Refusal> {
+    for (i, (gives, takes, wants)) in TALKS.iter().enumerate() {
+        let (told, kept) = carry_talk(alloc, *gives, *takes)?;
+        if told != *wants || (*takes > 0 && kept != *wanted) {
+            return Ok(Some(i));
+        }
+    }
+    Ok(None)
+}
+
+/// A client is answered alike by whole pieces and byte by byte, and is not read behind DISC. A write that takes nothing ends it.
 #[test]
-fn no_read_behind_disc(rt: HostRuntime) -> Result<(), Fail> {
-    let (told, kept) = carry_talk(rt.alloc(), usize::MAX, usize::MAX)?;
-    let wanted = (Carried::SessionOver, 0, ANSWERED, 2, 1, 0);
-    assert_eq!(rt; (told, are_answers(&kept)), (wanted, [true; 3]));
+fn one_talk_in_pieces(rt: HostRuntime) -> Result<(), Fail> {
+    let (_, kept) = carry_talk(rt.alloc(), usize::MAX, usize::MAX)?;
+    let other = first_other_talk(rt.alloc(), &kept)?;
+    assert_eq!(rt; (other, are_answers(&kept)), (None, [true; 3]));
     Ok(())
 }
 
-#[test]
-fn one_byte_a_read(rt: HostRuntime) -> Result<(), Fail> {
-    let (told, kept) = carry_talk(rt.alloc(), 1, usize::MAX)?;
-    let (_, wanted) = carry_talk(rt.alloc(), usize::MAX, usize::MAX)?;
-    let is_same = kept == wanted;
-    let heard = (Carried::SessionOver, 0, ANSWERED, 4, HEARD as u64, 0);
-    assert_eq!(rt; (told, is_same), (heard, true));
-    Ok(())
+/// A desk, with how often it was asked, and the most bytes that one ask answered.
+pub(crate) struct Watched<D: Desk> {
+    pub desk: D,
+    pub asks: u64,
+    pub most: usize,
 }
 
-#[test]
-fn one_byte_a_write(rt: HostRuntime) -> Result<(), Fail> {
-    let (told, kept) = carry_talk(rt.alloc(), usize::MAX, 1)?;
-    let (_, wanted) = carry_talk(rt.alloc(), usize::MAX, usize::MAX)?;
-    let is_same = kept == wanted;
-    let heard = (Carried::SessionOver, 0, ANSWERED, 2, 1, 0);
-    assert_eq!(rt; (told, is_same), (heard, true));
-    Ok(())
-}
+impl<D: Desk> Desk for Watched<D> {
+    ghost asks = { λ a took answers b. D.asks a.desk took answers b.desk };
 
-#[test]
-fn a_write_that_takes_nothing_ends_it(rt: HostRuntime) -> Result<(), Fail> {
-    let (told, _) = carry_talk(rt.alloc(), usize::MAX, 0)?;
-    assert_eq!(rt; told, (Carried::OutputFailed, 0, 0, 0, 0, 0));
-    Ok(())
+    fn ask(&mut self, event: Event<'_>, out: &mut Answers) -> Ran {
+        let ran = self.desk.ask(event, out);
+        self.asks = self.asks.saturating_add(1);
+        self.most = self.most.max(out.bytes().len());
+        ran
+    }
 }
 
 /// How a client ended, how often the hub was asked, and the most bytes that one ask answered.
@@ -235,20 +255,20 @@ fn served_with_talk(alloc: Global) -> Result<(Served, usize), Refusal> {
     }
 }
 
+/// Behind a client, also one that goes in the middle of its session, its own number is free again, and no other one.
 #[test]
 fn the_least_number_is_served(rt: HostRuntime) -> Result<(), Fail> {
-    let told = served_with_talk(rt.alloc())?;
-    let wanted = (2, Some(1), Carried::SessionOver, ANSWERED, Some(1));
-    assert_eq!(rt; told, (wanted, 0));
-    Ok(())
-}
-
-/// Behind a client that goes in the middle of its session its own number is free again, and no other one.
-#[test]
-fn the_number_of_a_client_that_goes_is_free(rt: HostRuntime) -> Result<(), Fail> {
-    let told = served_with(rt.alloc(), GO_0)?;
+    let told = [
+        served_with_talk(rt.alloc())?,
+        served_with(rt.alloc(), GO_0)?,
+    ];
     let gone = (GREETED + GONE) as u64;
-    let wanted = (2, Some(1), Carried::EndOfInput, gone, Some(1));
-    assert_eq!(rt; told, (wanted, 0));
+    assert_eq!(rt;
+        told,
+        [
+            ((2, Some(1), Carried::SessionOver, ANSWERED, Some(1)), 0),
+            ((2, Some(1), Carried::EndOfInput, gone, Some(1)), 0),
+        ]
+    );
     Ok(())
 }

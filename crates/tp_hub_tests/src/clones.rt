@@ -1,7 +1,6 @@
 //! Clones where the pool makes no snapshot.
 
-use crate::hubs::blank_hub;
-use crate::talk::{GONE, GREETED, sent};
+use crate::talk::{GONE, GREETED, blank_hub, sent};
 use nbd_session::Profile;
 use std::alloc::Global;
 use std::test::Fail;

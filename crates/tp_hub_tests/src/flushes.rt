@@ -1,13 +1,17 @@
-//! Flushes that a hub makes in parts, and one that it is asked for.
+//! Commits that a hub makes in parts, and a flush that it is asked for.
+
+ghost use Rattle.std.specs.Prelude.{◌<◌};
+ghost use Rattle.tp_hub.specs.Runs.{session_of};
 
 use crate::talk::{GIVEN, GO_0, HALF, READ, WRITE, refused, sent};
 use nbd_session::Profile;
 use std::alloc::Global;
+use std::marker::Brand;
 use std::test::Fail;
-use tp_hub::{Answers, Event, Hub, MidHub, MidMessage, Ran};
-use tp_model::{Flushing, Mode, Refusal, Staged};
-use tp_msg::{Managed, Message};
-use tp_shelf::{Shelf, failing_in_part, staged_shelf};
+use tp_hub::{Answers, Event, Hub, Mark, Ran, StagedHub};
+use tp_model::{Refusal, Staged};
+use tp_msg::Managed;
+use tp_shelf::{FailingShelf, Shelf, failing_in_part, staged_shelf};
 
 /// A client that wrote a sector of letters.
 fn write(alloc: Global, hub: &mut Hub<Shelf>, out: &mut Answers) -> Ran {
@@ -37,60 +41,98 @@ fn told_of_read(ran: Option<Ran>, out: &Answers) -> Read {
     (ran == Some(whole), is_alone, out.bytes().last().copied())
 }
 
-/// A READ of a hub in the middle of a flush, behind what was brought to the device.
-fn read_between(mid: &MidHub<Shelf>, out: &mut Answers) -> Read {
+/// A hub that many ask.
+type Shared = StagedHub<Shelf, Brand>;
+
+/// A READ between two parts of a commit, behind what was brought to the device.
+fn read_between(hub: &Shared, out: &mut Answers) -> Read {
     out.clear();
-    mid.sync_ahead();
-    let ran = mid.ask_shared(0, READ, out);
+    hub.sync_ahead();
+    let ran = hub.ask_shared(0, READ, out);
     told_of_read(ran, out)
 }
 
-/// What a flush is, as far as it is made.
-type Part = Flushing<Hub<Shelf>, MidHub<Shelf>>;
-
-/// The next part of a flush, with a READ before it.
-fn next(part: Part, out: &mut Answers) -> (Part, Option<Read>) {
-    match part {
-        Flushing::Done(hub, answer) => (Flushing::Done(hub, answer), None),
-        Flushing::Midway(mid) => {
-            let read = read_between(&mid, out);
-            (mid.go_on(), Some(read))
-        }
+/// The next part of the commit that an event asks for: whether the event is answered.
+pub fn keep<V: Managed + Staged>(
+    hub: &mut StagedHub<V, Brand>,
+    event: &Event<'_>,
+    is_last: bool,
+    out: &mut Answers,
+) -> bool
+    requires { session_of event.now < 64 }
+{
+    out.clear();
+    if out.make_room().is_err() {
+        return false;
     }
+    hub.keep(event, is_last, out).is_some()
 }
 
-/// Whether the flush was done, and how many syncs there were between its parts.
-fn last(part: Part) -> (bool, u64) {
-    match part {
-        Flushing::Done(hub, answer) => (answer.is_ok(), hub.into_pool().synced().0),
-        Flushing::Midway(mid) => {
-            let (hub, answer) = mid.end_flush();
-            (answer.is_ok(), hub.into_pool().synced().0)
-        }
+/// The next part of the commit that an event asks for, with a READ before it if one is under way: what
+/// the READ was told, and whether the event is answered.
+fn next(
+    hub: &mut Shared,
+    event: &Event<'_>,
+    is_first: bool,
+    out: &mut Answers,
+) -> (Option<Read>, bool)
+    requires { session_of event.now < 64 }
+{
+    if is_first {
+        return (None, keep(hub, event, false, out));
     }
+    let read = read_between(hub, out);
+    (Some(read), keep(hub, event, false, out))
 }
 
-/// What becomes of a flush of so many parts and a last one, with a READ before each of the next two.
-fn told_of_parts(alloc: Global, parts: u8) -> Result<([Option<Read>; 2], (bool, u64)), Refusal> {
+/// What becomes of a commit that an event asks for, with a READ before each part but the first.
+fn parts_of(hub: &mut Shared, event: &Event<'_>, out: &mut Answers) -> [Option<Read>; 2]
+    requires { session_of event.now < 64 }
+{
+    let (_, is_done) = next(hub, event, true, out);
+    if is_done {
+        return [None, None];
+    }
+    let (first, is_done) = next(hub, event, false, out);
+    if is_done {
+        return [first, None];
+    }
+    let second = read_between(hub, out);
+    keep(hub, event, true, out);
+    [first, Some(second)]
+}
+
+/// What becomes of the commit of so many parts and a last one that an event asks for, with a READ before
+/// each part but the first; and whether it was done, with how many syncs between its parts.
+fn told_of_parts(
+    alloc: Global,
+    parts: u8,
+    event: &Event<'_>,
+) -> Result<([Option<Read>; 2], (bool, u64)), Refusal>
+    requires { session_of event.now < 64 }
+{
     let mut hub = Hub::new(staged_shelf(alloc, parts, false)?);
     let mut out = Answers::new(alloc);
     write(alloc, &mut hub, &mut out);
-    let (part, first) = next(hub.begin_flush(), &mut out);
-    let (part, second) = next(part, &mut out);
-    Ok(([first, second], last(part)))
+    let mut shared: Shared = StagedHub::new(hub);
+    let reads = parts_of(&mut shared, event, &mut out);
+    let is_done = out.marks() == [Mark::Done].as_slice();
+    let syncs = shared.into_hub().into_pool().synced().0;
+    Ok((reads, (is_done, syncs)))
 }
 
 /// A READ that is given what was written.
 const GAVE: Option<Read> = Some((true, true, Some(0x61)));
 
-/// Between two parts READs are given what was written before the flush. A flush that has fewer parts is done earlier.
+/// Between two parts READs are given what was written before the flush. A flush that has fewer parts is
+/// done earlier.
 #[test]
 fn reads_between_parts(rt: HostRuntime) -> Result<(), Fail> {
     let told = [
-        told_of_parts(rt.alloc(), 0)?,
-        told_of_parts(rt.alloc(), 1)?,
-        told_of_parts(rt.alloc(), 2)?,
-        told_of_parts(rt.alloc(), 3)?,
+        told_of_parts(rt.alloc(), 0, &Event::Flush)?,
+        told_of_parts(rt.alloc(), 1, &Event::Flush)?,
+        told_of_parts(rt.alloc(), 2, &Event::Flush)?,
+        told_of_parts(rt.alloc(), 3, &Event::Flush)?,
     ];
     let wanted = [
         ([None, None], (true, 0)),
@@ -102,55 +144,16 @@ fn reads_between_parts(rt: HostRuntime) -> Result<(), Fail> {
     Ok(())
 }
 
-/// What a message is, as far as it is made.
-type Order = Flushing<Hub<Shelf>, MidMessage<Shelf>>;
-
-/// The next part of a message, with a READ before it.
-fn next_of(part: Order, out: &mut Answers) -> (Order, Option<Read>) {
-    match part {
-        Flushing::Done(hub, answer) => (Flushing::Done(hub, answer), None),
-        Flushing::Midway(mid) => {
-            out.clear();
-            mid.sync_ahead();
-            let ran = mid.ask_shared(0, READ, out);
-            let read = told_of_read(ran, out);
-            (mid.go_on(), Some(read))
-        }
-    }
-}
-
-/// Whether the message was done, and how many syncs there were between its parts.
-fn last_of(part: Order) -> (bool, u64) {
-    match part {
-        Flushing::Done(hub, answer) => (answer.is_ok(), hub.into_pool().synced().0),
-        Flushing::Midway(mid) => {
-            let (hub, answer) = mid.end();
-            (answer.is_ok(), hub.into_pool().synced().0)
-        }
-    }
-}
-
-/// What becomes of a message whose flush has so many parts and a last one, with a READ before each of the next two.
-fn told_of_message(alloc: Global, parts: u8) -> Result<([Option<Read>; 2], (bool, u64)), Refusal> {
-    let mut hub = Hub::new(staged_shelf(alloc, parts, false)?);
-    let mut out = Answers::new(alloc);
-    write(alloc, &mut hub, &mut out);
-    let message = Message::SetTransactionId {
-        current: 0,
-        next: 7,
-    };
-    let (part, first) = next_of(hub.begin_message(&message), &mut out);
-    let (part, second) = next_of(part, &mut out);
-    Ok(([first, second], last_of(part)))
-}
+/// A message that the pool takes.
+const MESSAGE: Event<'static> = Event::Message(b"set_transaction_id 0 7");
 
 /// Between two parts of what keeps a message READs are given what they are given before it.
 #[test]
 fn reads_between_the_parts_of_a_message(rt: HostRuntime) -> Result<(), Fail> {
     let told = [
-        told_of_message(rt.alloc(), 0)?,
-        told_of_message(rt.alloc(), 1)?,
-        told_of_message(rt.alloc(), 2)?,
+        told_of_parts(rt.alloc(), 0, &MESSAGE)?,
+        told_of_parts(rt.alloc(), 1, &MESSAGE)?,
+        told_of_parts(rt.alloc(), 2, &MESSAGE)?,
     ];
     let wanted = [
         ([None, None], (true, 0)),
@@ -161,63 +164,45 @@ fn reads_between_the_parts_of_a_message(rt: HostRuntime) -> Result<(), Fail> {
     Ok(())
 }
 
-/// A flush with all its parts, of which there are three at most.
-fn flushed<V: Staged>(hub: Hub<V>) -> (Hub<V>, Result<(), Refusal>) {
-    match hub.begin_flush() {
-        Flushing::Done(hub, answer) => (hub, answer),
-        Flushing::Midway(mid) => match mid.go_on() {
-            Flushing::Done(hub, answer) => (hub, answer),
-            Flushing::Midway(mid) => mid.end_flush(),
-        },
+/// A commit with all its parts, of which there are three at most.
+fn keep_all<V: Managed + Staged>(
+    hub: &mut StagedHub<V, Brand>,
+    event: &Event<'_>,
+    out: &mut Answers,
+)
+    requires { session_of event.now < 64 }
+{
+    if keep(hub, event, false, out) {
+        return;
     }
-}
-
-/// Whether a flush that fails in such a part is refused, and whether the pool has failed behind it.
-fn told_of_fault(part: u8) -> Result<(bool, bool), Refusal> {
-    let (hub, answer) = flushed(Hub::new(failing_in_part(part)?));
-    let mode = hub.mode();
-    let _ = hub.into_pool();
-    Ok((answer == Err(Refusal::Damaged), mode == Mode::Failed))
-}
-
-/// In whichever part it fails, the flush is refused and the pool has failed behind it.
-#[test]
-fn a_fault_in_each_part(rt: HostRuntime) -> Result<(), Fail> {
-    let told = [told_of_fault(0)?, told_of_fault(1)?, told_of_fault(2)?];
-    assert!(rt; told == [(true, true), (true, true), (true, true)]);
-    Ok(())
-}
-
-/// A message with all its parts, of which there are three at most.
-fn ordered<V: Managed + Staged>(hub: Hub<V>, message: &Message) -> (Hub<V>, Result<(), Refusal>) {
-    match hub.begin_message(message) {
-        Flushing::Done(hub, answer) => (hub, answer),
-        Flushing::Midway(mid) => match mid.go_on() {
-            Flushing::Done(hub, answer) => (hub, answer),
-            Flushing::Midway(mid) => mid.end(),
-        },
+    if keep(hub, event, false, out) {
+        return;
     }
+    keep(hub, event, true, out);
 }
 
-/// Whether a message is refused whose flush fails in such a part, and whether the pool has failed behind it.
-fn told_of_faulty_message(part: u8) -> Result<(bool, bool), Refusal> {
-    let hub = Hub::new(failing_in_part(part)?);
-    let (hub, answer) = ordered(hub, &Message::ReserveMetadataSnap);
-    let mode = hub.mode();
-    let _ = hub.into_pool();
-    Ok((answer == Err(Refusal::Damaged), mode == Mode::Failed))
+/// Whether a commit that fails in such a part is refused, and whether the pool has failed behind it.
+fn told_of_fault(alloc: Global, part: u8, event: &Event<'_>) -> Result<(bool, bool), Refusal>
+    requires { session_of event.now < 64 }
+{
+    let mut hub: StagedHub<FailingShelf, Brand> = StagedHub::new(Hub::new(failing_in_part(part)?));
+    let mut out = Answers::new(alloc);
+    keep_all(&mut hub, event, &mut out);
+    let has_failed = hub.failed_pool().is_some();
+    let _ = hub.into_hub().into_pool();
+    let is_refused = out.marks() == [refused(Refusal::Damaged)].as_slice();
+    Ok((is_refused, has_failed))
 }
 
-/// In whichever part what keeps it fails, the message is refused and the pool has failed behind it.
-#[test]
-fn a_fault_in_each_part_of_a_message(rt: HostRuntime) -> Result<(), Fail> {
-    let told = [
-        told_of_faulty_message(0)?,
-        told_of_faulty_message(1)?,
-        told_of_faulty_message(2)?,
-    ];
-    assert!(rt; told == [(true, true), (true, true), (true, true)]);
-    Ok(())
+/// The same of each of the three parts.
+fn told_of_faults(alloc: Global, event: &Event<'_>) -> Result<[(bool, bool); 3], Refusal>
+    requires { session_of event.now < 64 }
+{
+    Ok([
+        told_of_fault(alloc, 0, event)?,
+        told_of_fault(alloc, 1, event)?,
+        told_of_fault(alloc, 2, event)?,
+    ])
 }
 
 /// Whether a flush that an event asks for is refused, over a pool whose flush fails.
@@ -229,10 +214,12 @@ fn told_of_asked(alloc: Global) -> Result<bool, Refusal> {
     Ok(out.marks() == [refused(Refusal::Damaged)].as_slice())
 }
 
-/// An event that asks for a flush is told that it is refused.
+/// In whichever part it fails, a flush is refused, and a message that it keeps, and the pool has failed behind it. An event that asks for a flush is told so.
 #[test]
-fn a_flush_that_fails_is_refused(rt: HostRuntime) -> Result<(), Fail> {
+fn a_fault_in_each_part(rt: HostRuntime) -> Result<(), Fail> {
+    let of_flush = told_of_faults(rt.alloc(), &Event::Flush)?;
+    let of_message = told_of_faults(rt.alloc(), &Event::Message(b"reserve_metadata_snap"))?;
     let is_refused = told_of_asked(rt.alloc())?;
-    assert!(rt; is_refused);
+    assert!(rt; (of_flush, of_message, is_refused) == ([(true, true); 3], [(true, true); 3], true));
     Ok(())
 }

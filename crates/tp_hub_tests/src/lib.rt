@@ -8,10 +8,6 @@ mod clones;
 #[cfg(test)]
 mod flushes;
 #[cfg(test)]
-mod holes;
-#[cfg(test)]
-mod hubs;
-#[cfg(test)]
 mod lines;
 #[cfg(test)]
 mod pieces;
@@ -23,8 +19,6 @@ mod script;
 mod statuses;
 #[cfg(test)]
 mod talk;
-#[cfg(test)]
-mod watched;
 
 /// A library has a public item at least: this crate has nothing but tests.
 pub fn tests_only() {}

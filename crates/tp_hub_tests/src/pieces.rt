@@ -1,8 +1,8 @@
 //! Pieces of several requests: reads that are shared, and a long request whose parts are made one by one.
 
-use crate::hubs::{blank_hub, wide_hub};
 use crate::talk::{
-    DONE, GIVEN, GO_0, GO_1, GONE, GREETED, HALF, READ, WRITE, reads_and_a_write, refused, sent,
+    DONE, GIVEN, GO_0, GO_1, GONE, GREETED, HALF, READ, WRITE, blank_hub, reads_and_a_write,
+    refused, sent, wide_hub,
 };
 use nbd_session::Profile;
 use std::alloc::Global;

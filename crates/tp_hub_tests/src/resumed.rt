@@ -1,7 +1,8 @@
 //! Runs that stop where the buffer is full or memory is refused, and go on from there.
 
-use crate::hubs::blank_hub;
-use crate::talk::{ALL_GIVEN, GIVEN, GO_0, GONE, GREETED, READ, numbered_reads, repeated};
+use crate::talk::{
+    ALL_GIVEN, GIVEN, GO_0, GONE, GREETED, READ, blank_hub, numbered_reads, repeated,
+};
 use nbd_session::Profile;
 use std::alloc::{AllocError, Global};
 use std::test::Fail;
@@ -109,31 +110,18 @@ fn came_of_reads(alloc: Global, out: Answers) -> Result<(usize, Came), Refusal> 
 }
 
 /// Where the buffer is full a run stops, and the next one gives the rest of the same output: each reply comes once and in its order, and the
-/// message behind them is done once.
+/// message behind them is done once. Where the answers have no bound but memory, one run takes all of it, and one more finds nothing left.
 #[test]
 fn a_full_buffer_loses_no_answer(rt: HostRuntime) -> Result<(), Fail> {
-    let out = Answers::of_a_turn(rt.alloc());
-    let (answered, came) = came_of_reads(rt.alloc(), out)?;
-    let told = (answered, came.in_order, came.messages, came.bytes);
-    let is_in_bounds = came.runs > 2 && came.most <= MOST_BYTES;
+    let (answered, parts) = came_of_reads(rt.alloc(), Answers::of_a_turn(rt.alloc()))?;
+    let (answered_too, whole) = came_of_reads(rt.alloc(), Answers::new(rt.alloc()))?;
+    let told = [
+        (answered, parts.in_order, parts.messages, parts.bytes),
+        (answered_too, whole.in_order, whole.messages, whole.bytes),
+    ];
+    let is_in_bounds = parts.runs > 2 && parts.most <= MOST_BYTES && whole.runs == 1;
     let gone = GREETED + GONE;
-    assert!(rt; (told, is_in_bounds) == ((gone, READS, 1, gone + READS * ALL_GIVEN), true));
-    Ok(())
-}
-
-/// Where the answers have no bound but memory, one run takes all of it, and one more finds nothing left.
-#[test]
-fn a_run_takes_what_memory_holds(rt: HostRuntime) -> Result<(), Fail> {
-    let (answered, came) = came_of_reads(rt.alloc(), Answers::new(rt.alloc()))?;
-    let told = (
-        answered,
-        came.in_order,
-        came.messages,
-        came.bytes,
-        came.runs,
-    );
-    let gone = GREETED + GONE;
-    assert!(rt; told == (gone, READS, 1, gone + READS * ALL_GIVEN, 1));
+    assert!(rt; (told, is_in_bounds) == ([(gone, READS, 1, gone + READS * ALL_GIVEN); 2], true));
     Ok(())
 }
 

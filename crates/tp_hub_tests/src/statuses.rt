@@ -1,13 +1,16 @@
 //! BLOCK_STATUSes that are answered while others look at the hub.
 
-use crate::hubs::blank_hub;
-use crate::talk::sent;
+ghost use Rattle.std.specs.Prelude.{◌<◌};
+ghost use Rattle.tp_hub.specs.Runs.{session_of};
+
+use crate::flushes::keep;
+use crate::talk::{blank_hub, sent};
 use nbd_session::Profile;
 use std::alloc::Global;
+use std::marker::Brand;
 use std::test::Fail;
-use tp_hub::{Answers, Event, Hub, MidHub, MidMessage, Ran};
-use tp_model::{Flushing, Refusal};
-use tp_msg::Message;
+use tp_hub::{Answers, Event, Hub, Mark, Ran, StagedHub};
+use tp_model::Refusal;
 use tp_shelf::{Shelf, staged_shelf};
 
 /// The client flags, STRUCTURED_REPLY, SET_META_CONTEXT of volume 0 by the name of the context, and GO of it.
@@ -49,56 +52,62 @@ fn enter(alloc: Global, hub: &mut Hub<Shelf>, text: &[u8], out: &mut Answers) {
     out.clear();
 }
 
-/// What is taken of two BLOCK_STATUSes while others look, and whether they are answered so, and as by a run.
-fn told_beside(alloc: Global, hub: &mut Hub<Shelf>) -> (Option<Ran>, bool, bool, bool) {
+/// What is taken of a piece while others look, of a client that asked by this text for contexts; and whether it is given so many bytes by each
+/// answer, and these, as by a run.
+fn told_beside(
+    alloc: Global,
+    hub: &mut Hub<Shelf>,
+    text: &[u8],
+    piece: &[u8],
+    (marks, wanted): (&[Mark], &[u8]),
+) -> (Option<Ran>, [bool; 3]) {
     let mut out = Answers::new(alloc);
-    enter(alloc, hub, ENTER, &mut out);
-    let asked = hub.ask_shared(0, STATUSES, &mut out);
+    enter(alloc, hub, text, &mut out);
+    let asked = hub.ask_shared(0, piece, &mut out);
     let mut told = Answers::new(alloc);
-    hub.run(alloc, &[Event::Bytes(0, STATUSES)], &mut told);
-    let are_given = out.marks() == [sent(0, 32), sent(0, 32)].as_slice();
-    (asked, are_given, out.bytes() == TOLD, told.bytes() == TOLD)
+    hub.run(alloc, &[Event::Bytes(0, piece)], &mut told);
+    let are_given = [
+        out.marks() == marks,
+        out.bytes() == wanted,
+        told.bytes() == wanted,
+    ];
+    (asked, are_given)
 }
 
-/// Where there is data is told to those who look at once, as by a run.
+/// Where there is data, and what may be other than in an older volume, is told to those who look at once, as by a run.
 #[test]
 fn statuses_of_a_piece_are_shared(rt: HostRuntime) -> Result<(), Fail> {
-    let told = told_beside(rt.alloc(), &mut blank_hub(rt.alloc())?);
-    assert!(rt; told == (Some(WHOLE), true, true, true));
+    let alloc = rt.alloc();
+    let (two, both) = ([sent(0, 32), sent(0, 32)], [sent(0, COMPARED.len())]);
+    let told = told_beside(alloc, &mut blank_hub(alloc)?, ENTER, STATUSES, (&two, TOLD));
+    let compared = told_beside(
+        alloc,
+        &mut blank_hub(alloc)?,
+        ENTER_SINCE,
+        STATUS,
+        (&both, COMPARED),
+    );
+    assert!(rt; [told, compared] == [(Some(WHOLE), [true; 3]); 2]);
     Ok(())
 }
 
-/// What is taken of one in both contexts while others look, and whether it is answered so, and as by a run.
-fn compared_beside(alloc: Global, hub: &mut Hub<Shelf>) -> (Option<Ran>, bool, bool) {
-    let mut out = Answers::new(alloc);
-    enter(alloc, hub, ENTER_SINCE, &mut out);
-    let asked = hub.ask_shared(0, STATUS, &mut out);
-    let mut told = Answers::new(alloc);
-    hub.run(alloc, &[Event::Bytes(0, STATUS)], &mut told);
-    (asked, out.bytes() == COMPARED, told.bytes() == COMPARED)
-}
-
-/// What may be other than in an older volume is told to those who look at once, as by a run.
-#[test]
-fn what_may_be_other_is_shared(rt: HostRuntime) -> Result<(), Fail> {
-    let told = compared_beside(rt.alloc(), &mut blank_hub(rt.alloc())?);
-    assert!(rt; told == (Some(WHOLE), true, true));
-    Ok(())
-}
-
-/// What is taken of them between two parts of a flush, and how many volumes are held behind it.
-fn told_by_part(
-    part: Flushing<Hub<Shelf>, MidHub<Shelf>>,
+/// What is taken of a piece behind the first part of the commit that an event asks for, with the answers
+/// to it alone, and how many volumes are held behind the commit.
+fn told_between(
+    hub: Hub<Shelf>,
+    event: &Event<'_>,
+    piece: &[u8],
     out: &mut Answers,
-) -> (Option<Ran>, usize) {
-    match part {
-        Flushing::Done(hub, _) => (None, hub.into_pool().held()),
-        Flushing::Midway(mid) => {
-            let ran = mid.ask_shared(0, STATUSES, out);
-            let (hub, _) = mid.end_flush();
-            (ran, hub.into_pool().held())
-        }
+) -> (Option<Ran>, usize)
+    requires { session_of event.now < 64 }
+{
+    let mut shared: StagedHub<Shelf, Brand> = StagedHub::new(hub);
+    if keep(&mut shared, event, false, out) {
+        return (None, shared.into_hub().into_pool().held());
     }
+    out.clear();
+    let ran = shared.ask_shared(0, piece, out);
+    (ran, shared.into_hub().into_pool().held())
 }
 
 /// The same of a hub of its own, and whether they are answered so.
@@ -106,53 +115,31 @@ fn told_midway(alloc: Global) -> Result<((Option<Ran>, usize), bool), Refusal> {
     let mut hub = Hub::new(staged_shelf(alloc, 1, false)?);
     let mut out = Answers::new(alloc);
     enter(alloc, &mut hub, ENTER, &mut out);
-    let told = told_by_part(hub.begin_flush(), &mut out);
+    let told = told_between(hub, &Event::Flush, STATUSES, &mut out);
     Ok((told, out.bytes() == TOLD))
 }
 
-/// Between two parts of a flush it is told as before the flush.
-#[test]
-fn statuses_between_parts(rt: HostRuntime) -> Result<(), Fail> {
-    let told = told_midway(rt.alloc())?;
-    assert!(rt; told == ((Some(WHOLE), 0), true));
-    Ok(())
-}
-
-/// What is taken of a BLOCK_STATUS in the midst of a message, and how many volumes are held behind it.
-fn told_by_order(
-    part: Flushing<Hub<Shelf>, MidMessage<Shelf>>,
-    out: &mut Answers,
-) -> (Option<Ran>, usize) {
-    match part {
-        Flushing::Done(hub, _) => (None, hub.into_pool().held()),
-        Flushing::Midway(mid) => {
-            let ran = mid.ask_shared(0, STATUS, out);
-            let (hub, _) = mid.end();
-            (ran, hub.into_pool().held())
-        }
-    }
-}
-
-/// The same of a hub of its own, of whose volume a client asked by this text for contexts, and how many bytes it is answered.
+/// What is taken of a BLOCK_STATUS in the midst of a message, by a hub of its own of whose volume a
+/// client asked by this text for contexts, and how many bytes it is answered.
 fn told_in_message(alloc: Global, text: &[u8]) -> Result<((Option<Ran>, usize), usize), Refusal> {
     let mut hub = Hub::new(staged_shelf(alloc, 1, false)?);
     let mut out = Answers::new(alloc);
     enter(alloc, &mut hub, text, &mut out);
-    let message = Message::SetTransactionId {
-        current: 0,
-        next: 7,
-    };
-    let told = told_by_order(hub.begin_message(&message), &mut out);
+    let event = Event::Message(b"set_transaction_id 0 7");
+    let told = told_between(hub, &event, STATUS, &mut out);
     Ok((told, out.bytes().len()))
 }
 
-/// In the midst of a message one waits whose session is told since an older volume, and no other one does.
+/// Between two parts of a flush it is told as before the flush. In the midst of a message one waits whose session is told since an older volume, and no
+/// other one does.
 #[test]
 fn statuses_in_the_midst_of_a_message(rt: HostRuntime) -> Result<(), Fail> {
-    let told = [
+    let of_flush = told_midway(rt.alloc())?;
+    let of_message = [
         told_in_message(rt.alloc(), ENTER)?,
         told_in_message(rt.alloc(), ENTER_SINCE)?,
     ];
-    assert!(rt; told == [((Some(WHOLE), 0), 32), ((None, 0), 0)]);
+    assert!(rt; of_flush == ((Some(WHOLE), 0), true));
+    assert!(rt; of_message == [((Some(WHOLE), 0), 32), ((None, 0), 0)]);
     Ok(())
 }

@@ -1,8 +1,9 @@
-//! What clients send.
+//! What clients send, and hubs for them.
 
 use std::alloc::{AllocError, Global};
-use tp_hub::Mark;
+use tp_hub::{Hub, Mark};
 use tp_model::Refusal;
+use tp_shelf::{Shelf, blank_shelf, wide_shelf};
 
 /// The client flags, and GO of volume 0, and of volume 1.
 pub(crate) const GO_0: &[u8] = b"\0\0\0\x03IHAVEOPT\0\0\0\x07\0\0\0\x07\0\0\0\x010\0\0";
@@ -108,4 +109,14 @@ pub(crate) fn sent(session: u8, len: usize) -> Mark {
 /// An event that is refused.
 pub(crate) fn refused(reason: Refusal) -> Mark {
     Mark::Refused { reason }
+}
+
+/// A hub over two volumes of zeros.
+pub(crate) fn blank_hub(alloc: Global) -> Result<Hub<Shelf>, Refusal> {
+    Ok(Hub::new(blank_shelf(alloc)?))
+}
+
+/// The same, whose volumes have 4 MiB each.
+pub(crate) fn wide_hub(alloc: Global) -> Result<Hub<Shelf>, Refusal> {
+    Ok(Hub::new(wide_shelf(alloc)?))
 }

@@ -223,15 +223,10 @@ where
         + Sync
         + Alloc<A = Global>,
 {
-    let Ok((input, output)) = session_texts(rt.alloc()) else {
-        return Outcome::Before;
-    };
-    let ask = Ask {
-        words: &["thinpool", "feed", IMAGE],
-        input: &input,
-        output: &output,
-    };
-    outcome_behind(rt, &[FORMAT, CREATE], &ask)
+    match session_texts(rt.alloc()) {
+        Ok(texts) => outcome_behind(rt, &[FORMAT, CREATE], &feed_of(&texts)),
+        Err(_) => Outcome::Before,
+    }
 }
 
 #[test]

@@ -10,8 +10,6 @@ mod ask_tests;
 #[cfg(test)]
 mod beside;
 #[cfg(test)]
-mod check_tests;
-#[cfg(test)]
 mod command_tests;
 #[cfg(test)]
 mod commands;
@@ -33,8 +31,6 @@ mod pools;
 mod server_tests;
 #[cfg(test)]
 mod servers;
-#[cfg(test)]
-mod session_tests;
 #[cfg(test)]
 mod talk;
 

@@ -1,9 +1,11 @@
-//! Formatting and opening a pool.
+//! Formatting, opening and checking a pool, and opening a session.
 
 use crate::disks::{Before, noted};
 use crate::outcome::Outcome;
 use crate::pools::{disk_of_volume, is_empty, is_of_volume, is_of_volume_to_read, sizes};
+use nbd_session::{Phase, Profile, Session};
 use std::alloc::Global;
+use tp_check::{CheckError, check};
 use tp_disk::MemDisk;
 use tp_model::Refusal;
 use tp_samples::{MemServed, ROOM};
@@ -119,5 +121,67 @@ fn open(rt: HostRuntime) {
 #[test]
 fn open_read_only(rt: HostRuntime) {
     let outcome = tried(rt.alloc(), Call::OpenReadOnly);
+    assert!(rt; outcome.is_right(&mut rt.stdout()));
+}
+
+/// What a check of a disk comes to that has what it had.
+fn outcome_of_check_on(alloc: Global, before: &Before, disk: &mut MemDisk) -> Outcome {
+    match check(alloc, disk) {
+        Ok(()) => Outcome::done(before.is_kept(disk)),
+        Err(CheckError::Memory) => {
+            let is_kept = before.is_kept(disk);
+            Outcome::refused(is_kept, check(alloc, disk).is_ok())
+        }
+        Err(_) => Outcome::Wrong,
+    }
+}
+
+/// The same of the disk of a pool with a volume.
+fn outcome_of_check(alloc: Global) -> Outcome {
+    let Ok(mut disk) = disk_of_volume(alloc) else {
+        return Outcome::Before;
+    };
+    match noted(alloc, &disk) {
+        Some(before) => outcome_of_check_on(alloc, &before, &mut disk),
+        None => Outcome::Before,
+    }
+}
+
+/// The same, tried again where memory was refused before the call.
+fn tried_check(alloc: Global) -> Outcome {
+    match outcome_of_check(alloc) {
+        Outcome::Before => Outcome::before(outcome_of_check(alloc)),
+        outcome => outcome,
+    }
+}
+
+#[test]
+fn check_an_image(rt: HostRuntime) {
+    let outcome = tried_check(rt.alloc());
+    assert!(rt; outcome.is_right(&mut rt.stdout()));
+}
+
+/// Whether a session waits for its client's flags, as a new one does.
+fn is_new(asked: Result<Session, Refusal>) -> bool {
+    match asked {
+        Ok(session) => matches!(session.phase(), Phase::Flags { .. }),
+        Err(_) => false,
+    }
+}
+
+/// What opening a session comes to.
+fn outcome_of_session(alloc: Global) -> Outcome {
+    match Session::open(alloc, Profile::Strict) {
+        Err(Refusal::Memory) => Outcome::refused(
+            true,
+            is_new(Session::open(alloc, Profile::Strict)),
+        ),
+        asked => Outcome::done(is_new(asked)),
+    }
+}
+
+#[test]
+fn open_a_session(rt: HostRuntime) {
+    let outcome = outcome_of_session(rt.alloc());
     assert!(rt; outcome.is_right(&mut rt.stdout()));
 }

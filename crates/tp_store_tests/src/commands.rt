@@ -352,3 +352,47 @@ fn two_thousand_commands(rt: HostRuntime) {
     let difference = told_of_disk(rt.alloc(), SECTORS, first_difference_on);
     assert_eq!(rt; difference, Ok(None));
 }
+
+/// The free metadata blocks and the disk's calls so far: after a volume was made and kept, and after each of three
+/// virtual blocks got a data block.
+fn counted_on<M: Mapping>(
+    mapping: &mut M,
+    disk: &mut MemDisk,
+    geometry: &Geometry,
+    device: DevId,
+) -> Result<[(u32, u64); 4], Refusal>
+    requires { M.geometry mapping.old ≡ geometry.now }
+{
+    add(mapping, disk, geometry, device, None)?;
+    mapping.keep();
+    let kept = (mapping.free_metadata(), disk.calls());
+    map(mapping, disk, geometry, device, Vb::new(5))?;
+    let first = (mapping.free_metadata(), disk.calls());
+    map(mapping, disk, geometry, device, Vb::new(2))?;
+    let second = (mapping.free_metadata(), disk.calls());
+    map(mapping, disk, geometry, device, Vb::new(5))?;
+    let third = (mapping.free_metadata(), disk.calls());
+    Ok([kept, first, second, third])
+}
+
+/// The same of trees.
+fn counted_in_trees(alloc: Global, disk: &mut MemDisk) -> Result<[(u32, u64); 4], Refusal> {
+    let geometry = Geometry::new(128, 16, 2048, 40)?;
+    match format(alloc, disk, geometry) {
+        Ok(tm) => {
+            let mut trees = TreeMapping::new(tm, Mb::new(geometry.fixed_part()));
+            counted_on(&mut trees, disk, &geometry, DevId::new(9))
+        }
+        Err(refusal) => Err(refusal),
+    }
+}
+
+/// The first change after a commit takes a block for the device leaf and one for the volume's leaf, and later ones none.
+#[test]
+fn a_volume_is_changed_where_it_stands(rt: HostRuntime) {
+    let counted = told_of_disk(rt.alloc(), SECTORS, counted_in_trees);
+    assert_eq!(rt;
+        counted,
+        Ok([(2038, 16), (2036, 25), (2036, 34), (2036, 43)])
+    );
+}

@@ -6,13 +6,9 @@
 #[cfg(test)]
 mod commands;
 #[cfg(test)]
-mod faults;
-#[cfg(test)]
 mod forest;
 #[cfg(test)]
 mod guarded;
-#[cfg(test)]
-mod mapping;
 #[cfg(test)]
 mod meta;
 #[cfg(test)]

@@ -149,21 +149,6 @@ fn told_of_two(tm: &mut Tm, disk: &mut MemDisk) -> Result<(Told, Told), Refusal>
     Ok((empty, write_and_read(tm, disk, 1)?))
 }
 
-#[test]
-fn a_node_comes_back(rt: HostRuntime) -> Result<(), Fail> {
-    let told = told_of_store(rt.alloc(), told_of_two)?;
-    // What is named once and not kept is changed where it stands.
-    let (first, second) = (Mb::new(0), Mb::new(1));
-    assert_eq!(rt;
-        told,
-        Ok((
-            (first, Some(1), (0, 0), (first, 0)),
-            (second, Some(1), (0, 1), (second, 1))
-        ))
-    );
-    Ok(())
-}
-
 /// A leaf in block 0 that two references name.
 fn shared_leaf<D: Disk>(tm: &mut Tm, disk: &mut D) -> Result<Mb, Refusal> {
     let block = fresh_of(tm)?;
@@ -187,23 +172,6 @@ fn told_of_a_copy(
     Ok(((to, entries), (before, between, all_named(tm))))
 }
 
-#[test]
-fn a_shared_node_is_copied(rt: HostRuntime) -> Result<(), Fail> {
-    let told = told_of_store(rt.alloc(), told_of_a_copy)?;
-    assert_eq!(rt;
-        told,
-        Ok((
-            (Mb::new(1), 1),
-            (
-                [Some(2), Some(0), Some(1)],
-                [Some(1), Some(1), Some(2)],
-                [Some(0), Some(1), Some(1)]
-            )
-        ))
-    );
-    Ok(())
-}
-
 /// Of a shared leaf that is given up twice: how often blocks are named behind each time, its block, and the one that is fresh
 /// then.
 fn told_of_releases(tm: &mut Tm, disk: &mut MemDisk) -> Result<((Times, Times), Mb, Mb), Refusal> {
@@ -215,10 +183,20 @@ fn told_of_releases(tm: &mut Tm, disk: &mut MemDisk) -> Result<((Times, Times), 
 }
 
 #[test]
-fn the_last_release_frees(rt: HostRuntime) -> Result<(), Fail> {
-    let told = told_of_store(rt.alloc(), told_of_releases)?;
+fn a_shared_node_is_copied(rt: HostRuntime) -> Result<(), Fail> {
+    let copied = told_of_store(rt.alloc(), told_of_a_copy)?;
+    let released = told_of_store(rt.alloc(), told_of_releases)?;
+    let before = [Some(2), Some(0), Some(1)];
+    let between = [Some(1), Some(1), Some(2)];
+    let behind = [Some(0), Some(1), Some(1)];
     let (once, twice) = ([Some(1), Some(0), Some(1)], [Some(0), Some(0), Some(0)]);
-    assert_eq!(rt; told, Ok(((once, twice), Mb::new(0), Mb::new(0))));
+    assert_eq!(rt;
+        (copied, released),
+        (
+            Ok(((Mb::new(1), 1), (before, between, behind))),
+            Ok(((once, twice), Mb::new(0), Mb::new(0))),
+        )
+    );
     Ok(())
 }
 
@@ -236,18 +214,6 @@ fn answers_of_zeros(tm: &mut Tm, disk: &mut MemDisk) -> Result<Answers, Refusal>
     let shadowed = shadow_on(tm, disk, block);
     let first = release_on(tm, disk, block);
     Ok((read, shadowed, [first, release_on(tm, disk, block)]))
-}
-
-#[test]
-fn other_bytes_are_damaged(rt: HostRuntime) -> Result<(), Fail> {
-    let told = told_of_store(rt.alloc(), answers_of_zeros)?;
-    // The first of two references is given up without a look at the block.
-    let released = [Ok(()), Err(Refusal::Damaged)];
-    assert_eq!(rt;
-        told,
-        Ok((Err(Refusal::Damaged), Err(Refusal::Damaged), released))
-    );
-    Ok(())
 }
 
 fn give_back(tm: &mut Tm, place: u32) -> Result<(), Refusal> {
@@ -268,14 +234,6 @@ fn told_of_fresh(tm: &mut Tm) -> ([Option<Pb>; 4], (u64, u64)) {
     (fresh, (tm.used_data(), tm.free_data()))
 }
 
-#[test]
-fn data_blocks_come_and_go(rt: HostRuntime) -> Result<(), Fail> {
-    let (fresh, left) = told_of_fresh(&mut store_of(rt.alloc())?);
-    let wanted = [Some(Pb::new(0)), Some(Pb::new(1)), Some(Pb::new(3)), None];
-    assert_eq!(rt; (fresh, left), (wanted, (4, 0)));
-    Ok(())
-}
-
 /// Which data block is fresh once one is given back that no commit names, once it is given back behind a commit of it, and
 /// behind the next commit; and what giving it back a second time answers.
 fn told_of_giving_back(tm: &mut Tm) -> Result<([Option<Pb>; 3], Result<(), Refusal>), Refusal> {
@@ -293,11 +251,16 @@ fn told_of_giving_back(tm: &mut Tm) -> Result<([Option<Pb>; 3], Result<(), Refus
 }
 
 #[test]
-fn a_kept_data_block_is_free_after_the_next_commit(rt: HostRuntime) -> Result<(), Fail> {
-    let told = told_of_giving_back(&mut store_of(rt.alloc())?);
+fn data_blocks_come_and_go(rt: HostRuntime) -> Result<(), Fail> {
+    let told = told_of_fresh(&mut store_of(rt.alloc())?);
+    let wanted = [Some(Pb::new(0)), Some(Pb::new(1)), Some(Pb::new(3)), None];
+    let given_back = told_of_giving_back(&mut store_of(rt.alloc())?);
     // What no commit names is free at once.
     let fresh = [Some(Pb::new(1)), None, Some(Pb::new(1))];
-    assert_eq!(rt; told, Ok((fresh, Err(Refusal::Damaged))));
+    assert_eq!(rt;
+        (told, given_back),
+        ((wanted, (4, 0)), Ok((fresh, Err(Refusal::Damaged))))
+    );
     Ok(())
 }
 
@@ -548,9 +511,26 @@ fn told_of_faults(tm: &mut Tm, disk: &mut MemDisk) -> Result<(Writes, Reads), Re
 }
 
 #[test]
-fn a_fault_is_told(rt: HostRuntime) -> Result<(), Fail> {
-    let told = told_of_store(rt.alloc(), told_of_faults)?;
-    let writes = [Err(Refusal::Fault), Ok(())];
-    assert_eq!(rt; told, Ok((writes, [Err(Refusal::Fault), Ok((0, 1))])));
+fn nodes_are_written_and_read(rt: HostRuntime) -> Result<(), Fail> {
+    let told = told_of_store(rt.alloc(), told_of_two)?;
+    let faults = told_of_store(rt.alloc(), told_of_faults)?;
+    let zeros = told_of_store(rt.alloc(), answers_of_zeros)?;
+    // What is named once and not kept is changed where it stands.
+    let (first, second) = (Mb::new(0), Mb::new(1));
+    let wanted = (
+        (first, Some(1), (0, 0), (first, 0)),
+        (second, Some(1), (0, 1), (second, 1)),
+    );
+    let (fault, damaged) = (Refusal::Fault, Refusal::Damaged);
+    // The first of two references to zeros is given up without a look at the block.
+    let released = [Ok(()), Err(damaged)];
+    assert_eq!(rt;
+        (told, faults, zeros),
+        (
+            Ok(wanted),
+            Ok(([Err(fault), Ok(())], [Err(fault), Ok((0, 1))])),
+            Ok((Err(damaged), Err(damaged), released)),
+        )
+    );
     Ok(())
 }

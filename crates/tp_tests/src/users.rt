@@ -52,22 +52,13 @@ fn the_first_session_is_served(rt: HostRuntime) -> Result<(), Fail> {
 
 #[test]
 fn kept_bytes_are_read_again(rt: HostRuntime) -> Result<(), Fail> {
-    let alloc = rt.alloc();
-    let id = DevId::new(3);
-    let mut flushed = [0; 512];
+    let (alloc, id) = (rt.alloc(), DevId::new(3));
+    let (mut flushed, mut closed) = ([0; 512], [0; 512]);
     flushed_bytes_are_read(alloc, id, 5, &WRITTEN, &[], &mut flushed)?;
-    let mut closed = [0; 512];
     closed_bytes_are_read(alloc, id, 5, &WRITTEN, &mut closed)?;
-    assert_eq!(rt; (fill_of(&flushed), fill_of(&closed)), (Some(7), Some(7)));
-    Ok(())
-}
-
-#[test]
-fn grown_blocks_are_zero(rt: HostRuntime) -> Result<(), Fail> {
-    let id = DevId::new(3);
     let (mut before, mut behind) = ([1; 512], [1; 512]);
     grown_blocks_read_zero(
-        rt.alloc(),
+        alloc,
         id,
         2047,
         &WRITTEN,
@@ -77,7 +68,8 @@ fn grown_blocks_are_zero(rt: HostRuntime) -> Result<(), Fail> {
         &mut before,
         &mut behind,
     )?;
-    assert_eq!(rt; (fill_of(&before), fill_of(&behind)), (Some(0), Some(0)));
+    let read = [&flushed, &closed, &before, &behind].map(|sector| fill_of(sector));
+    assert_eq!(rt; read, [Some(7), Some(7), Some(0), Some(0)]);
     Ok(())
 }
 
@@ -104,17 +96,10 @@ fn held_bytes_are_read(rt: HostRuntime) -> Result<(), Fail> {
         fill_of(&now_again),
         fill_of(&held_again),
     ];
-    assert_eq!(rt; read, [Some(8), Some(7), Some(8), Some(7)]);
+    let released = released_blocks_are_free(rt.alloc(), id, 5, &WRITTEN, &ANEW);
+    assert_eq!(rt;
+        (read, released.is_ok()),
+        ([Some(8), Some(7), Some(8), Some(7)], true)
+    );
     Ok(())
-}
-
-/// Whether a mapping that is held is given up.
-fn is_released(alloc: Global) -> bool {
-    released_blocks_are_free(alloc, DevId::new(3), 5, &WRITTEN, &ANEW).is_ok()
-}
-
-#[test]
-fn a_held_mapping_is_released(rt: HostRuntime) {
-    let is_so = is_released(rt.alloc());
-    assert!(rt; is_so);
 }

@@ -57,15 +57,16 @@ fn fill_both<D: Disk>(disk: &mut D, blocks: &mut Blocks, first: Pb, second: Pb) 
     blocks.write_part(disk, first, 127, &[7; 512])
 }
 
+/// The bytes at five places of each of two blocks.
+type Both = ([Option<u8>; 5], [Option<u8>; 5]);
+
 /// The bytes at five places of each of both.
-fn filled_and_read<D: Disk>(
-    alloc: Global,
-    disk: &mut D,
-    blocks: &mut Blocks,
-) -> Result<([Option<u8>; 5], [Option<u8>; 5]), Fault>
+fn filled_and_read<D: Disk>(alloc: Global, disk: &mut D, blocks: &mut Blocks) -> Result<Both, Fault>
     requires disk { sectors_of_image blocks.old ≤ (D.state disk.old).size }
     requires size { blocks.old.block_sectors ≡ 128 }
     requires blocks { blocks.old.data_blocks ≡ 4 }
+    ensures disk { OnOk result ((D.state disk.new).size ≡ (D.state disk.old).size) }
+    ensures geometry { blocks.new ≡ blocks.old }
 {
     let (first, second) = (Pb::new(1), Pb::new(3));
     fill_both(disk, blocks, first, second)?;
@@ -73,38 +74,6 @@ fn filled_and_read<D: Disk>(
     let of_first = read_at(alloc, disk, blocks, first, &places)?;
     let places = [0, 3 * 512, 4 * 512, 5 * 512, 127 * 512];
     Ok((of_first, read_at(alloc, disk, blocks, second, &places)?))
-}
-
-/// The same of new blocks.
-fn filled_on<D: Disk>(
-    alloc: Global,
-    disk: &mut D,
-) -> Result<([Option<u8>; 5], [Option<u8>; 5]), Fault> {
-    let Ok(geometry) = Geometry::new(128, 16, 2048, 4) else {
-        return Err(Fault);
-    };
-    if disk.sectors() < geometry.image_sectors() {
-        return Err(Fault);
-    }
-    match Blocks::new(alloc, geometry) {
-        Ok(mut blocks) => filled_and_read(alloc, disk, &mut blocks),
-        Err(_) => Err(Fault),
-    }
-}
-
-/// The same of a new disk.
-fn told_of_filled(alloc: Global) -> Result<([Option<u8>; 5], [Option<u8>; 5]), Fault> {
-    match MemDisk::new(alloc, SECTORS) {
-        Ok(mut disk) => filled_on(alloc, &mut disk),
-        Err(_) => Err(Fault),
-    }
-}
-
-#[test]
-fn blocks_are_filled_written_and_read(rt: HostRuntime) {
-    let first = [Some(0), Some(5), Some(5), Some(0), Some(7)];
-    let second = [Some(0), Some(5), Some(6), Some(0), Some(0)];
-    assert!(rt; told_of_filled(rt.alloc()) == Ok((first, second)));
 }
 
 /// Fills the middle block of three, then writes a run that begins in it and ends in the last one.
@@ -160,30 +129,33 @@ fn written_and_read<D: Disk>(
     }
 }
 
-/// The same of new blocks.
-fn written_on<D: Disk>(alloc: Global, disk: &mut D) -> Result<[Option<u8>; 5], Fault> {
+/// Both of new blocks.
+fn told_on<D: Disk>(alloc: Global, disk: &mut D) -> Result<(Both, [Option<u8>; 5]), Fault> {
     let Ok(geometry) = Geometry::new(128, 16, 2048, 4) else {
         return Err(Fault);
     };
     if disk.sectors() < geometry.image_sectors() {
         return Err(Fault);
     }
-    match Blocks::new(alloc, geometry) {
-        Ok(mut blocks) => written_and_read(alloc, disk, &mut blocks),
-        Err(_) => Err(Fault),
-    }
+    let Ok(mut blocks) = Blocks::new(alloc, geometry) else {
+        return Err(Fault);
+    };
+    let both = filled_and_read(alloc, disk, &mut blocks)?;
+    Ok((both, written_and_read(alloc, disk, &mut blocks)?))
 }
 
 /// The same of a new disk.
-fn told_of_written(alloc: Global) -> Result<[Option<u8>; 5], Fault> {
+fn told_of_new(alloc: Global) -> Result<(Both, [Option<u8>; 5]), Fault> {
     match MemDisk::new(alloc, SECTORS) {
-        Ok(mut disk) => written_on(alloc, &mut disk),
+        Ok(mut disk) => told_on(alloc, &mut disk),
         Err(_) => Err(Fault),
     }
 }
 
 #[test]
-fn a_run_goes_on_over_blocks(rt: HostRuntime) {
-    let wanted = [Some(8), Some(8), Some(8), Some(0), None];
-    assert!(rt; told_of_written(rt.alloc()) == Ok(wanted));
+fn blocks_are_filled_written_and_read(rt: HostRuntime) {
+    let first = [Some(0), Some(5), Some(5), Some(0), Some(7)];
+    let second = [Some(0), Some(5), Some(6), Some(0), Some(0)];
+    let over = [Some(8), Some(8), Some(8), Some(0), None];
+    assert!(rt; told_of_new(rt.alloc()) == Ok(((first, second), over)));
 }

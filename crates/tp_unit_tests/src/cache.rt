@@ -193,13 +193,6 @@ fn seen(alloc: Global, calls: usize, first: u64, last: u64) -> Result<(u64, u64)
     Ok((all?, image))
 }
 
-#[test]
-fn a_cache_answers_as_its_disk(rt: HostRuntime) -> Result<(), Fail> {
-    let want = wanted(rt.alloc(), 2000)?;
-    assert!(rt; seen(rt.alloc(), 2000, 0, 0) == Ok(want));
-    Ok(())
-}
-
 // The first call of which, where it and the three behind it fail, a cache answers something else than this.
 fn first_other(alloc: Global, want: (u64, u64)) -> Result<Option<u64>, Fault> {
     for first in 1..60u64 {
@@ -212,9 +205,11 @@ fn first_other(alloc: Global, want: (u64, u64)) -> Result<Option<u64>, Fault> {
 
 // Four calls one after another fail, at each place of the run in turn.
 #[test]
-fn faults_lose_nothing_of_a_cache(rt: HostRuntime) -> Result<(), Fail> {
-    let want = wanted(rt.alloc(), 40)?;
-    assert!(rt; first_other(rt.alloc(), want) == Ok(None));
+fn a_cache_answers_as_its_disk(rt: HostRuntime) -> Result<(), Fail> {
+    let want = wanted(rt.alloc(), 2000)?;
+    let few = wanted(rt.alloc(), 40)?;
+    let told = (seen(rt.alloc(), 2000, 0, 0), first_other(rt.alloc(), few));
+    assert!(rt; told == (Ok(want), Ok(None)));
     Ok(())
 }
 
@@ -279,28 +274,6 @@ fn shared_block<D: SharedDisk>(disk: &D, block: u64) -> Option<u8> {
     Some(bytes[0])
 }
 
-// Shared reads of a dirty block, of one behind the metadata, and of a metadata block before an ordinary read of it and after that.
-fn shared_reads<D: SharedDisk>(disk: &mut D) -> Result<[Option<u8>; 4], Fault> {
-    fill_block(disk, 3)?;
-    let dirty = shared_block(disk, 3);
-    let data = shared_block(disk, 9);
-    let before = shared_block(disk, 4);
-    first_of_block(disk, 4)?;
-    Ok([dirty, data, before, shared_block(disk, 4)])
-}
-
-// The same of a cache.
-fn shared_reads_of_cache(alloc: Global) -> Result<[Option<u8>; 4], Fault> {
-    let mut cache = cached(alloc, 0, 0)?;
-    shared_reads(&mut cache)
-}
-
-#[test]
-fn shared_reads_give_what_is_in_memory(rt: HostRuntime) {
-    let told = shared_reads_of_cache(rt.alloc());
-    assert!(rt; told == Ok([Some(3), Some(0), None, Some(0)]));
-}
-
 // The first bytes of the last sector of block 2 and of the first one of block 3, where a shared read gives them.
 fn shared_sectors<D: SharedDisk>(disk: &D) -> Option<(u8, u8)> {
     let mut bytes = [9; 1024];
@@ -313,19 +286,26 @@ fn shared_sectors<D: SharedDisk>(disk: &D) -> Option<(u8, u8)> {
     Some((bytes[0], bytes[512]))
 }
 
-// The same behind a write of block 3.
-fn filled_and_shared<D: SharedDisk>(disk: &mut D) -> Result<Option<(u8, u8)>, Fault> {
+// Shared reads of a dirty block, of one behind the metadata, and of a metadata block before an ordinary read of it and after that; and of sectors of the block
+// before the dirty one and of that.
+fn shared_reads<D: SharedDisk>(disk: &mut D) -> Result<([Option<u8>; 4], Option<(u8, u8)>), Fault> {
     fill_block(disk, 3)?;
-    Ok(shared_sectors(disk))
+    let sectors = shared_sectors(disk);
+    let dirty = shared_block(disk, 3);
+    let data = shared_block(disk, 9);
+    let before = shared_block(disk, 4);
+    first_of_block(disk, 4)?;
+    Ok(([dirty, data, before, shared_block(disk, 4)], sectors))
 }
 
 // The same of a cache.
-fn shared_of_cache(alloc: Global) -> Result<Option<(u8, u8)>, Fault> {
+fn shared_reads_of_cache(alloc: Global) -> Result<([Option<u8>; 4], Option<(u8, u8)>), Fault> {
     let mut cache = cached(alloc, 0, 0)?;
-    filled_and_shared(&mut cache)
+    shared_reads(&mut cache)
 }
 
 #[test]
-fn shared_reads_give_dirty_sectors(rt: HostRuntime) {
-    assert!(rt; shared_of_cache(rt.alloc()) == Ok(Some((0, 3))));
+fn shared_reads_give_what_is_in_memory(rt: HostRuntime) {
+    let told = shared_reads_of_cache(rt.alloc());
+    assert!(rt; told == Ok(([Some(3), Some(0), None, Some(0)], Some((0, 3)))));
 }

@@ -324,15 +324,6 @@ fn answers_on_blank(alloc: Global) -> Result<(Answers, Answers), Refusal> {
     answers_of_both(alloc, &mut disk)
 }
 
-#[test]
-fn a_fault_is_told(rt: HostRuntime) {
-    // The counts of metadata are two blocks, those of data are one.
-    let fault = Err(Refusal::Fault);
-    let of_metadata = [[fault; 2], [fault; 2], [Ok(()); 2]];
-    let of_data = [[fault; 2], [Ok(()); 2], [Ok(()); 2]];
-    assert!(rt; answers_on_blank(rt.alloc()) == Ok((of_metadata, of_data)));
-}
-
 /// Stores counts into area A of a disk, on which the call of this number fails while others are stored into area B. The
 /// fourth and the fifth call write the two blocks.
 fn fail_in_a_store(
@@ -428,8 +419,20 @@ fn reads_on_blank(alloc: Global) -> Result<[Result<(), Refusal>; 2], Fault> {
 }
 
 #[test]
-fn other_bytes_are_damaged(rt: HostRuntime) {
-    assert!(rt; reads_on_blank(rt.alloc()) == Ok([Err(Refusal::Damaged), Ok(())]));
+fn faults_and_damage_are_told(rt: HostRuntime) {
+    // The counts of metadata are two blocks, those of data are one.
+    let fault = Err(Refusal::Fault);
+    let of_metadata = [[fault; 2], [fault; 2], [Ok(()); 2]];
+    let of_data = [[fault; 2], [Ok(()); 2], [Ok(()); 2]];
+    let told = (answers_on_blank(rt.alloc()), reads_on_blank(rt.alloc()));
+    assert!(rt;
+        told == (
+            Ok((of_metadata, of_data)),
+            Ok([Err(Refusal::Damaged), Ok(())])
+        )
+    );
+    let errors = [StoreError::from(Fault), StoreError::from(Damaged)].map(Refusal::from);
+    assert!(rt; errors == [Refusal::Fault, Refusal::Damaged]);
 }
 
 /// The least block that is zero in both.
@@ -560,12 +563,6 @@ fn over_new_runs(alloc: Global) -> Result<[Option<u64>; 6], Refusal> {
     Ok(over_runs(&mut counts))
 }
 
-#[test]
-fn full_runs_are_passed_over(rt: HostRuntime) {
-    let wanted = [None, Some(2050), Some(3), Some(2050), Some(2050), Some(3)];
-    assert!(rt; over_new_runs(rt.alloc()) == Ok(wanted));
-}
-
 /// As many data blocks as a pool has at most: 1024 runs.
 const MOST: u64 = 1_048_576;
 
@@ -607,18 +604,15 @@ fn are_found_in_full(alloc: Global, blocks: &[u64], turns: u32) -> Result<bool, 
     Ok(are_found_again(&mut counts, blocks, turns))
 }
 
-/// A look begins where the last one ended. It takes a second; where each began at the first block it would be minutes.
-#[test]
-fn a_look_begins_where_the_last_one_ended(rt: HostRuntime) {
-    let found = are_found_in_full(rt.alloc(), &[MOST - 1], 60_000_000);
-    assert!(rt; found == Ok(true));
-}
-
-/// Of a run in which no block is free a look is at one block. It takes a second; where it was at sixteen after sixteen of them it would be minutes.
+/// A look begins where the last one ended, and of a run in which no block is free it is at one block. Each takes a second; where a look began at the first
+/// block, or was at sixteen after sixteen of a full run, it would be minutes.
 #[test]
 fn a_full_run_is_one_step(rt: HostRuntime) {
-    let found = are_found_in_full(rt.alloc(), &[0, MOST - 1], 400_000);
-    assert!(rt; found == Ok(true));
+    let found = [
+        are_found_in_full(rt.alloc(), &[MOST - 1], 60_000_000),
+        are_found_in_full(rt.alloc(), &[0, MOST - 1], 400_000),
+    ];
+    assert!(rt; found == [Ok(true); 2]);
 }
 
 /// What `find_free` says of so many blocks that are all named but this one.
@@ -646,12 +640,7 @@ fn first_not_found(alloc: Global) -> Result<Option<(u64, u64)>, Refusal> {
 
 #[test]
 fn one_free_block_is_found_wherever_it_is(rt: HostRuntime) {
-    assert!(rt; first_not_found(rt.alloc()) == Ok(None));
-}
-
-#[test]
-fn errors_become_refusals(rt: HostRuntime) {
-    let errors = [StoreError::from(Fault), StoreError::from(Damaged)];
-    let told = [Refusal::from(errors[0]), Refusal::from(errors[1])];
-    assert!(rt; told == [Refusal::Fault, Refusal::Damaged]);
+    let found = (over_new_runs(rt.alloc()), first_not_found(rt.alloc()));
+    let wanted = [None, Some(2050), Some(3), Some(2050), Some(2050), Some(3)];
+    assert!(rt; found == (Ok(wanted), Ok(None)));
 }

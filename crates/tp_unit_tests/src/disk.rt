@@ -90,12 +90,6 @@ fn told_of_new<T, F: FnOnce(Global, &mut MemDisk) -> Result<T, Fault> + Drop>(
     }
 }
 
-#[test]
-fn a_disk_in_memory_is_a_disk(rt: HostRuntime) {
-    let told = told_of_new(rt.alloc(), |_, disk| told_and_calls(disk));
-    assert!(rt; told == Ok((0, A_DISK, 13)));
-}
-
 // How many sectors a disk has and how many calls it had, and then the fillings of sectors 3, 4 and 5.
 fn shown(disk: &mut MemDisk) -> Result<(u64, u64, [u8; 3]), Fault> {
     let (sectors, calls) = (disk.sectors(), disk.calls());
@@ -152,11 +146,6 @@ fn first_not_picked(alloc: Global, disk: &mut MemDisk) -> Result<Option<usize>, 
     Ok(None)
 }
 
-#[test]
-fn a_stop_leaves_what_is_picked(rt: HostRuntime) {
-    assert!(rt; told_of_new(rt.alloc(), first_not_picked) == Ok(None));
-}
-
 // What sector 3 of what a stop leaves is filled with, or this where there is no memory for it.
 fn left_or(
     alloc: Global,
@@ -177,18 +166,6 @@ fn keep_two(disk: &mut MemDisk) -> Result<(), Fault> {
     disk.flush()
 }
 
-// What sectors 3 and 4 are filled with in what a stop leaves of such a disk that picks none of the newest writes.
-fn left_of_two(alloc: Global, disk: &mut MemDisk) -> Result<[u8; 3], Fault> {
-    keep_two(disk)?;
-    let (_, _, left) = shown_behind(alloc, disk, &[0; 8])?;
-    Ok(left)
-}
-
-#[test]
-fn a_flush_keeps_what_was_written(rt: HostRuntime) {
-    assert!(rt; told_of_new(rt.alloc(), left_of_two) == Ok([2, 5, 0]));
-}
-
 // Fills sector 3 with 6: what a stop leaves in it then, and what it is filled with.
 fn filled_and_left(alloc: Global, disk: &mut MemDisk) -> Result<[u8; 2], Fault> {
     fill(disk, 3, 6)?;
@@ -204,16 +181,23 @@ fn filled_and_left_of_left(alloc: Global, disk: &MemDisk) -> Result<[u8; 2], Fau
     }
 }
 
-// The same of what a stop left of a disk, and then what sector 3 of this disk is filled with.
-fn beside_the_left(alloc: Global, disk: &mut MemDisk) -> Result<[u8; 3], Fault> {
+// What sectors 3 and 4 are filled with in what a stop leaves of such a disk that picks none of the newest writes; what is told of what a stop
+// leaves by `filled_and_left`, and then what sector 3 of this disk is filled with.
+fn left_of_two(alloc: Global, disk: &mut MemDisk) -> Result<[[u8; 3]; 2], Fault> {
     keep_two(disk)?;
-    let [left, filled] = filled_and_left_of_left(alloc, disk)?;
-    Ok([left, filled, filling(disk, 3)?])
+    let (_, _, left) = shown_behind(alloc, disk, &[0; 8])?;
+    let [kept, filled] = filled_and_left_of_left(alloc, disk)?;
+    Ok([left, [kept, filled, filling(disk, 3)?]])
 }
 
+// It keeps what was flushed, and is a disk of its own.
 #[test]
-fn what_a_stop_left_is_a_disk_of_its_own(rt: HostRuntime) {
-    assert!(rt; told_of_new(rt.alloc(), beside_the_left) == Ok([2, 6, 2]));
+fn a_stop_leaves_what_is_picked(rt: HostRuntime) {
+    let told = (
+        told_of_new(rt.alloc(), first_not_picked),
+        told_of_new(rt.alloc(), left_of_two),
+    );
+    assert!(rt; told == (Ok(None), Ok([[2, 5, 0], [2, 6, 2]])));
 }
 
 // How many calls a disk had, what two writes, a flush and a read of sector 3 answered of which the last three were to fail, and how many
@@ -228,13 +212,6 @@ fn failed_three(disk: &mut MemDisk) -> Result<Failed, Fault> {
     let answers = [fill(disk, 3, 2), fill(disk, 3, 7), disk.flush()];
     let read = filling(disk, 3);
     Ok((before, answers, read, disk.calls()))
-}
-
-#[test]
-fn the_calls_that_were_asked_for_fail(rt: HostRuntime) {
-    let told = told_of_new(rt.alloc(), |_, disk| failed_three(disk));
-    let answers = [Ok(()), Err(Fault), Err(Fault)];
-    assert!(rt; told == Ok((2, answers, Err(Fault), 6)));
 }
 
 // What sector 3 is filled with behind three stops, each of which picks another write of it.
@@ -252,12 +229,6 @@ fn picked_and_filled(alloc: Global, disk: &mut MemDisk) -> Result<([u8; 3], u8),
     Ok((left_by_picks(alloc, disk)?, filling(disk, 3)?))
 }
 
-// The failed write is the newest value, and the failed flush kept nothing.
-#[test]
-fn a_failed_call_keeps_nothing(rt: HostRuntime) {
-    assert!(rt; told_of_new(rt.alloc(), picked_and_filled) == Ok(([1, 2, 7], 7)));
-}
-
 // What sector 3 of such a disk is filled with, and what a flush and a read answer behind two new ranges.
 fn behind_new_ranges(disk: &mut MemDisk) -> Result<[u8; 2], Fault> {
     let _ = failed_three(disk)?;
@@ -268,11 +239,22 @@ fn behind_new_ranges(disk: &mut MemDisk) -> Result<[u8; 2], Fault> {
     Ok([first, filling(disk, 3)?])
 }
 
-// A new range is in place of the one before, also where it names calls of the past.
+// The failed write is the newest value, and the failed flush kept nothing. A new range is in place of the one before, also where it names calls of
+// the past.
 #[test]
-fn a_new_range_of_failures_replaces_the_old(rt: HostRuntime) {
-    let told = told_of_new(rt.alloc(), |_, disk| behind_new_ranges(disk));
-    assert!(rt; told == Ok([7, 7]));
+fn the_calls_that_were_asked_for_fail(rt: HostRuntime) {
+    let failed = told_of_new(rt.alloc(), |_, disk| failed_three(disk));
+    let left = told_of_new(rt.alloc(), picked_and_filled);
+    let behind = told_of_new(rt.alloc(), |_, disk| behind_new_ranges(disk));
+    let answers = [Ok(()), Err(Fault), Err(Fault)];
+    assert!(rt;
+        (failed, left, behind)
+            == (
+                Ok((2, answers, Err(Fault), 6)),
+                Ok(([1, 2, 7], 7)),
+                Ok([7, 7])
+            )
+    );
 }
 
 // Fills sector 3 with 1 to 4: what it held behind each of these calls, and what it had to hold by those that were accepted.
@@ -354,8 +336,10 @@ fn made_and_opened<R: Files<File = File> + Alloc<A = Global>>(
 }
 
 #[test]
-fn a_file_keeps_what_was_written(rt: HostRuntime) {
-    assert!(rt; made_and_opened(&rt) == Ok((A_DISK, (8, SOME))));
+fn disks_keep_what_was_written(rt: HostRuntime) {
+    let told = told_of_new(rt.alloc(), |_, disk| told_and_calls(disk));
+    let of_file = made_and_opened(&rt);
+    assert!(rt; (told, of_file) == (Ok((0, A_DISK, 13)), Ok((A_DISK, (8, SOME)))));
 }
 
 // So many sectors, each filled with the remainder of its number.

@@ -106,36 +106,17 @@ fn calls_of(alloc: Global, is_failing: bool) -> (bool, [Option<FileCall>; 8]) {
 const OPENED: [Option<FileCall>; 2] = [Some(FileCall::SyncAll), Some(FileCall::DropCached)];
 
 /// Opening syncs the file before it drops its cached pages. Each flush is a sync after the last write,
-/// and there is no other sync.
+/// and there is no other sync. A flush fails if its sync fails.
 #[test]
 fn a_flush_is_a_sync_after_the_last_write(rt: HostRuntime) {
-    let told = calls_of(rt.alloc(), false);
-    let synced = [
-        OPENED[0],
-        OPENED[1],
-        Some(FileCall::Write),
-        Some(FileCall::SyncData),
-        Some(FileCall::Write),
-        Some(FileCall::SyncData),
-        None,
-        None,
-    ];
-    assert_eq!(rt; told, (true, synced));
-}
-
-/// A flush fails if its sync fails.
-#[test]
-fn a_failed_sync_fails_the_flush(rt: HostRuntime) {
-    let told = calls_of(rt.alloc(), true);
-    let failed = [
-        OPENED[0],
-        OPENED[1],
-        Some(FileCall::Write),
-        Some(FileCall::SyncData),
-        None,
-        None,
-        None,
-        None,
-    ];
-    assert_eq!(rt; told, (false, failed));
+    let told = [calls_of(rt.alloc(), false), calls_of(rt.alloc(), true)];
+    let (write, sync) = (Some(FileCall::Write), Some(FileCall::SyncData));
+    let [first, second] = OPENED;
+    assert_eq!(rt;
+        told,
+        [
+            (true, [first, second, write, sync, write, sync, None, None]),
+            (false, [first, second, write, sync, None, None, None, None]),
+        ]
+    );
 }

@@ -30,11 +30,6 @@ fn part_of_a_sector<R: Files<File = File> + Alloc<A = Global>>(rt: &R) -> Result
     removed(rt, "part.img", sectors)
 }
 
-#[test]
-fn a_part_of_a_sector_is_not_counted(rt: HostRuntime) {
-    assert!(rt; part_of_a_sector(&rt) == Ok(3));
-}
-
 // Fills sector 1 of a disk that is opened.
 fn fill_opened(opened: Result<FileDisk<LockedFile>, OpenError>) -> Result<(), Fault> {
     match opened {
@@ -74,10 +69,10 @@ fn made_again<R: Files<File = File> + Alloc<A = Global>>(
     Ok((told, removed(rt, "again.img", length)?))
 }
 
-// Creating sets the length of a file that is there, and what it held stays.
+// A part of a sector is not counted. Creating sets the length of a file that is there, and what it held stays.
 #[test]
 fn a_file_that_is_there_stays(rt: HostRuntime) {
-    assert!(rt; made_again(&rt) == Ok(((5, [3, 0]), 5 * 512)));
+    assert!(rt; (part_of_a_sector(&rt), made_again(&rt)) == (Ok(3), Ok(((5, [3, 0]), 5 * 512))));
 }
 
 // What two others are told that would open a file or set its length, how long it is then, and how many sectors its disk has.
@@ -92,23 +87,11 @@ fn beside_another<R: Files<File = File> + Alloc<A = Global>>(
     removed(rt, "one.img", Ok([refused, resized, length, sectors]))
 }
 
-// A file is one disk's alone: another one neither opens it nor sets its length.
-#[test]
-fn a_file_is_one_disk_at_a_time(rt: HostRuntime) {
-    let wanted = [Err(Fault), Err(Fault), Ok(8 * 512), Ok(8)];
-    assert!(rt; beside_another(&rt) == Ok(wanted));
-}
-
 // How many sectors a file has that is made, and then opened.
 fn made_then_opened<R: Files<File = File> + Alloc<A = Global>>(rt: &R) -> Result<[u64; 2], Fault> {
     let made = sectors_of(FileDisk::create(rt, "free.img", 8))?;
     let opened = sectors_of(FileDisk::open(rt, "free.img"));
     Ok([made, removed(rt, "free.img", opened)?])
-}
-
-#[test]
-fn a_file_is_free_behind_its_disk(rt: HostRuntime) {
-    assert!(rt; made_then_opened(&rt) == Ok([8, 8]));
 }
 
 // By what mode a file is made.
@@ -127,12 +110,6 @@ fn folder_and_made<R: Files<File = File> + Alloc<A = Global>>(
     let sectors = sectors_of(FileDisk::create(rt, "owned.img", 8))?;
     let mode = mode_of(rt, "owned.img");
     Ok((refused, sectors, removed(rt, "owned.img", mode)?))
-}
-
-// A directory is no disk, and a file that is made is its owner's.
-#[test]
-fn an_image_is_a_file_of_its_owner(rt: HostRuntime) {
-    assert!(rt; folder_and_made(&rt) == Ok((Err(Fault), 8, 0o600)));
 }
 
 // What the last two sectors of a disk are filled with whose file is shortened to three sectors and a part of one.
@@ -166,10 +143,17 @@ fn refusals<R: Files<File = File> + Alloc<A = Global>>(rt: &R) -> [Result<u64, F
     ]
 }
 
+// A directory is no disk, and a file that is made is its owner's.
 #[test]
 fn a_refusal_of_the_system_is_a_fault(rt: HostRuntime) {
-    assert!(rt; refusals(&rt) == [Err(Fault); 4]);
-    assert!(rt; shortened(&rt) == Ok([Ok(0), Err(Fault)]));
+    let told = (refusals(&rt), shortened(&rt), folder_and_made(&rt));
+    assert!(rt;
+        told == (
+            [Err(Fault); 4],
+            Ok([Ok(0), Err(Fault)]),
+            Ok((Err(Fault), 8, 0o600))
+        )
+    );
 }
 
 // Whether this is told of a file that is not opened.
@@ -207,11 +191,6 @@ fn are_told<R: Files<File = File> + Alloc<A = Global>>(rt: &R, alloc: Global) ->
             "is larger than 2^54 sectors of 512 bytes",
         ),
     ]
-}
-
-#[test]
-fn why_a_file_is_not_opened_is_told(rt: HostRuntime) {
-    assert!(rt; are_told(&rt, rt.alloc()) == [true; 4]);
 }
 
 // Whether it is told of a file that another disk has.
@@ -252,12 +231,6 @@ fn in_use_and_made<R: Files<File = File> + Alloc<A = Global>>(
         Ok((sectors, is_there)) => Ok((in_use, sectors, is_there)),
         Err(_) => Err(Fault),
     }
-}
-
-// A link to a file that is absent makes none.
-#[test]
-fn a_file_in_use_is_told_and_no_link_makes_a_file(rt: HostRuntime) {
-    assert!(rt; in_use_and_made(&rt, rt.alloc()) == Ok((true, Err(Fault), false)));
 }
 
 // Whether a disk has no trouble before it fails, and this is told of it behind a read of this sector.
@@ -305,9 +278,14 @@ fn is_trouble_of_file_told<R: Files<File = File> + Alloc<A = Global>>(
     removed(rt, "trouble.img", told)
 }
 
+// A link to a file that is absent makes none.
 #[test]
 fn what_the_system_said_is_told(rt: HostRuntime) {
-    assert!(rt; is_trouble_of_file_told(&rt, rt.alloc()) == Ok((true, true)));
+    let opened = (are_told(&rt, rt.alloc()), in_use_and_made(&rt, rt.alloc()));
+    let trouble = is_trouble_of_file_told(&rt, rt.alloc());
+    assert!(rt;
+        (opened, trouble) == (([true; 4], Ok((true, Err(Fault), false))), Ok((true, true)))
+    );
 }
 
 // How many sectors a disk has, what a write and a flush of it answer, and what the sector is filled with that was written.
@@ -353,11 +331,6 @@ fn made_and_read_by_two<R: Files<File = File> + Alloc<A = Global>>(
     removed(rt, "shared.img", Ok((sectors, read_by_two(rt))))
 }
 
-#[test]
-fn disks_that_are_opened_to_read_share_a_file(rt: HostRuntime) {
-    assert!(rt; made_and_read_by_two(&rt) == Ok((4, [Ok(4), Ok(4), Err(Fault)])));
-}
-
 // What is told of a file that is opened to read while it is written, of one that is absent and of a directory, and how many sectors the first one has.
 fn read_beside_a_writer<R: Files<File = File> + Alloc<A = Global>>(
     rt: &R,
@@ -370,8 +343,13 @@ fn read_beside_a_writer<R: Files<File = File> + Alloc<A = Global>>(
     removed(rt, "written.img", Ok([written, absent, folder, sectors]))
 }
 
+// A file is one disk's alone: another one neither opens it, nor sets its length, nor reads it. It is free behind that disk, and disks that are opened to
+// read share it.
 #[test]
-fn a_file_that_is_written_is_not_opened_to_read(rt: HostRuntime) {
-    let wanted = [Err(Fault), Err(Fault), Err(Fault), Ok(4)];
-    assert!(rt; read_beside_a_writer(&rt) == Ok(wanted));
+fn a_file_is_one_disk_at_a_time(rt: HostRuntime) {
+    let alone = (beside_another(&rt), read_beside_a_writer(&rt));
+    let wanted = [Err(Fault), Err(Fault), Ok(8 * 512), Ok(8)];
+    assert!(rt; alone == (Ok(wanted), Ok([Err(Fault), Err(Fault), Err(Fault), Ok(4)])));
+    let shared = (made_then_opened(&rt), made_and_read_by_two(&rt));
+    assert!(rt; shared == (Ok([8, 8]), Ok((4, [Ok(4), Ok(4), Err(Fault)]))));
 }

@@ -81,20 +81,6 @@ fn fresh(held_root: Mb) -> Result<Superblock, Refusal> {
     })
 }
 
-#[test]
-fn fresh_superblock(rt: HostRuntime) -> Result<(), Fail> {
-    let stored = is_stored(&fresh(Mb::new(0))?, &fresh_but(&[]), SlotId::Zero);
-    assert!(rt; stored == [true; 4]);
-    Ok(())
-}
-
-#[test]
-fn slots_have_their_number_and_sector(rt: HostRuntime) {
-    let (zero, one) = (SlotId::Zero, SlotId::One);
-    let sectors = (zero.sector(), one.sector());
-    assert_eq!(rt; (zero.other(), one.number(), sectors), (one, 1, (0, 8)));
-}
-
 /// A superblock of the first version that needs a check, with the greatest sequence, sizes and root.
 fn later() -> Result<Superblock, Refusal> {
     Ok(Superblock {
@@ -116,17 +102,16 @@ fn later_sector() -> [u8; 512] {
 }
 
 #[test]
-fn superblock_of_a_later_commit(rt: HostRuntime) -> Result<(), Fail> {
-    let stored = is_stored(&later()?, &later_sector(), SlotId::One);
-    assert!(rt; stored == [true; 4]);
-    Ok(())
-}
-
-#[test]
-fn superblock_with_a_held_root(rt: HostRuntime) -> Result<(), Fail> {
-    let sector = fresh_but(&[(56, 0xff), (57, 7)]);
-    let stored = is_stored(&fresh(Mb::new(2047))?, &sector, SlotId::Zero);
-    assert!(rt; stored == [true; 4]);
+fn superblocks_in_their_slots(rt: HostRuntime) -> Result<(), Fail> {
+    let held = fresh_but(&[(56, 0xff), (57, 7)]);
+    let stored = [
+        is_stored(&fresh(Mb::new(0))?, &fresh_but(&[]), SlotId::Zero),
+        is_stored(&later()?, &later_sector(), SlotId::One),
+        is_stored(&fresh(Mb::new(2047))?, &held, SlotId::Zero),
+    ];
+    let (zero, one) = (SlotId::Zero, SlotId::One);
+    let slots = (zero.other(), one.number(), (zero.sector(), one.sector()));
+    assert!(rt; (stored, slots) == ([[true; 4]; 3], (one, 1, (0, 8))));
     Ok(())
 }
 
@@ -179,12 +164,6 @@ fn of_another_kind() -> Option<(Change, Change)> {
     None
 }
 
-#[test]
-fn kinds_of_slot(rt: HostRuntime) {
-    let zeros = read_super(&[0; 512], SlotId::Zero);
-    assert_eq!(rt; (zeros, of_another_kind()), (Slot::Foreign, None));
-}
-
 /// Rules of a slot, and a change by which the fresh slot breaks each.
 const BAD: [(&str, Change); 20] = [
     ("flag 1", (12, 2)),
@@ -220,8 +199,10 @@ fn rule_without_effect() -> Option<&'static str> {
 }
 
 #[test]
-fn bad_slot_by_each_rule(rt: HostRuntime) {
-    assert_eq!(rt; rule_without_effect(), None);
+fn kinds_of_slot(rt: HostRuntime) {
+    let zeros = read_super(&[0; 512], SlotId::Zero);
+    let others = (of_another_kind(), rule_without_effect());
+    assert_eq!(rt; (zeros, others), (Slot::Foreign, (None, None)));
 }
 
 /// A count block with three counts.
@@ -232,29 +213,25 @@ fn three_counts() -> [u8; 4096] {
 }
 
 #[test]
-fn counts_come_back(rt: HostRuntime) {
-    let block = three_counts();
+fn counts_of_a_block(rt: HostRuntime) {
+    let mut block = three_counts();
     let mut wanted = [0; 4096];
     wanted[..12].copy_from_slice(&[1, 0, 0, 0, 4, 3, 2, 1, 5, 0, 0, 0]);
-    let mut counts = [0u32; 3];
-    let read = read_counts(&block, &mut counts);
     assert!(rt; block == wanted);
-    assert_eq!(rt; (read, counts), (Ok(()), [1, 0x0102_0304, 5]));
-}
-
-#[test]
-fn bytes_behind_the_counts_are_damage(rt: HostRuntime) {
-    let mut block = three_counts();
-    let mut fewer = [9u32; 2];
+    let (mut counts, mut fewer, mut all) = ([0u32; 3], [9u32; 2], [0u32; COUNTS_PER_BLOCK]);
+    let good = read_counts(&block, &mut counts);
     let two = read_counts(&block, &mut fewer);
     block[4095] = 1;
-    let mut counts = [0u32; 3];
-    let three = read_counts(&block, &mut counts);
-    let mut all = [0u32; COUNTS_PER_BLOCK];
+    let three = read_counts(&block, &mut [0; 3]);
     let whole = read_counts(&block, &mut all);
     assert_eq!(rt;
-        ([two, three, whole], fewer, all[1023]),
-        ([Err(Damaged), Err(Damaged), Ok(())], [9, 9], 0x0100_0000)
+        ([good, two, three, whole], counts, fewer, all[1023]),
+        (
+            [Ok(()), Err(Damaged), Err(Damaged), Ok(())],
+            [1, 0x0102_0304, 5],
+            [9, 9],
+            0x0100_0000
+        )
     );
 }
 
@@ -279,14 +256,6 @@ fn shown(view: &NodeView<'_>, key: u64) -> Shown {
 fn shown_of_leaf(bytes: &[u8; 4096]) -> Result<(Shown, bool), Damaged> {
     let view = NodeView::read(bytes, Mb::new(8), TreeKind::Device)?;
     Ok((shown(&view, 5), written_again(&view) == *bytes))
-}
-
-#[test]
-fn empty_device_leaf(rt: HostRuntime) {
-    let mut bytes = [0; 4096];
-    bytes[..20].copy_from_slice(&LEAF);
-    let wanted = ((TreeKind::Device, 0, Mb::new(8)), (true, 0, None));
-    assert!(rt; shown_of_leaf(&bytes) == Ok((wanted, true)));
 }
 
 /// The entry at a place and its key.
@@ -361,16 +330,8 @@ fn four_kinds_of_node(rt: HostRuntime) {
         read_of(&device, TreeKind::Device, &entries),
         read_of(&long, TreeKind::Device, &records),
     ];
-    assert!(rt; read == [good(3), good(3), good(3), good(2)]);
-}
-
-#[test]
-fn fields_are_of_eight_bytes(rt: HostRuntime) {
-    let leaf = block_of((2, 0, 9, 3), &SHORT);
-    assert_eq!(rt;
-        &leaf[80..96],
-        [7, 0, 0, 0, 0, 0, 0, 0, 5, 0, 0, 0, 0, 0, 0, 0].as_slice()
-    );
+    let is_short = &leaf[80..96] == [7, 0, 0, 0, 0, 0, 0, 0, 5, 0, 0, 0, 0, 0, 0, 0].as_slice();
+    assert!(rt; (read, is_short) == ([good(3), good(3), good(3), good(2)], true));
 }
 
 /// Keys, and their ranks in a node with the keys 10, 20, 30 and 40.
@@ -464,9 +425,15 @@ fn sizes_of(block: &[u8; 4096]) -> Result<(Option<u64>, Option<u64>, bool), Dama
 }
 
 #[test]
-fn sizes_of_records(rt: HostRuntime) {
+fn leaves_of_the_device_tree(rt: HostRuntime) {
+    let mut empty = [0; 4096];
+    empty[..20].copy_from_slice(&LEAF);
     let block = block_of((1, 0, 9, 2), &[10, 11, 12, 13, 20, 21, 22, 1 << 63]);
-    assert!(rt; sizes_of(&block) == Ok((Some(13), Some(1 << 63), true)));
+    let wanted = ((TreeKind::Device, 0, Mb::new(8)), (true, 0, None));
+    assert!(rt;
+        (shown_of_leaf(&empty), sizes_of(&block))
+            == (Ok((wanted, true)), Ok((Some(13), Some(1 << 63), true)))
+    );
 }
 
 /// A block of a node of this kind, level and number of entries, of which entry i has key 3 * i.
@@ -499,22 +466,15 @@ fn read_full(
 fn full_nodes(rt: HostRuntime) -> Result<(), Fail> {
     let records = full_block(rt, 1, 0, 126)?;
     let short = full_block(rt, 2, 3, 252)?;
-    let read = [
-        read_full(&records, TreeKind::Device, (375, 374)),
-        read_full(&short, TreeKind::Mapping, (753, 752)),
-    ];
-    assert!(rt; read == [Ok((126, 126, 125, true)), Ok((252, 252, 251, true))]);
-    Ok(())
-}
-
-#[test]
-fn a_node_is_neither_too_full_nor_too_high(rt: HostRuntime) -> Result<(), Fail> {
     let over = full_block(rt, 2, 3, 253)?;
     let high = full_block(rt, 2, 4, 252)?;
     let read = [
-        NodeView::read(&over, Mb::new(9), TreeKind::Mapping).err(),
-        NodeView::read(&high, Mb::new(9), TreeKind::Mapping).err(),
+        read_full(&records, TreeKind::Device, (375, 374)),
+        read_full(&short, TreeKind::Mapping, (753, 752)),
+        read_full(&over, TreeKind::Mapping, (0, 0)),
+        read_full(&high, TreeKind::Mapping, (0, 0)),
     ];
-    assert!(rt; read == [Some(Damaged); 2]);
+    let full = [Ok((126, 126, 125, true)), Ok((252, 252, 251, true))];
+    assert!(rt; read == [full[0], full[1], Err(Damaged), Err(Damaged)]);
     Ok(())
 }

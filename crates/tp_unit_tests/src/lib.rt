@@ -8,8 +8,6 @@ mod blocks;
 #[cfg(test)]
 mod cache;
 #[cfg(test)]
-mod contexts;
-#[cfg(test)]
 mod counts;
 #[cfg(test)]
 mod disk;
@@ -19,8 +17,6 @@ mod file_calls;
 mod files;
 #[cfg(test)]
 mod layout;
-#[cfg(test)]
-mod messages;
 #[cfg(test)]
 mod model;
 #[cfg(test)]

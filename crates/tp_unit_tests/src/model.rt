@@ -1,36 +1,7 @@
 use std::alloc::{AllocError, Global};
 use std::test::Fail;
-use tp_model::{DevId, Geometry, Mb, NbdError, Pb, Refusal, Vb};
-
-#[test]
-fn geometry_of_the_example_pool(rt: HostRuntime) -> Result<(), Fail> {
-    let geometry = Geometry::new(128, 16, 2048, 4)?;
-    let counts = [
-        geometry.metadata_count_blocks(),
-        geometry.data_count_blocks(),
-        geometry.area_blocks(),
-        geometry.fixed_part(),
-    ];
-    let sectors = [
-        geometry.data_sector(Pb::new(0)),
-        geometry.data_sector(Pb::new(3)),
-        geometry.image_sectors(),
-        Mb::new(8).first_sector(),
-    ];
-    let bytes = [
-        geometry.volume_sectors() * 512,
-        geometry.image_sectors() * 512,
-    ];
-    assert!(rt;
-        (counts, sectors, bytes)
-            == (
-                [2, 1, 3, 8],
-                [16_384, 16_768, 16_896, 64],
-                [1_048_576, 8_650_752],
-            )
-    );
-    Ok(())
-}
+use tp_model::{DevId, Geometry, Mb, Mode, NbdError, Pb, Refusal, Vb};
+use tp_msg::{PoolStatus, print_status};
 
 /// Sectors of a block, blocks of a volume, metadata blocks and data blocks that a pool may have.
 const WITHIN: [[u64; 4]; 4] = [
@@ -68,10 +39,26 @@ fn first_other(sizes: &[[u64; 4]], wanted: Option<Refusal>) -> Option<[u64; 4]> 
 }
 
 #[test]
-fn geometries_at_their_limits(rt: HostRuntime) {
+fn geometries(rt: HostRuntime) -> Result<(), Fail> {
+    let geometry = Geometry::new(128, 16, 2048, 4)?;
+    let counts = [
+        geometry.metadata_count_blocks(),
+        geometry.data_count_blocks(),
+        geometry.area_blocks(),
+        geometry.fixed_part(),
+    ];
+    let sectors = [
+        geometry.data_sector(Pb::new(0)),
+        geometry.data_sector(Pb::new(3)),
+        geometry.image_sectors(),
+        geometry.volume_sectors(),
+        Mb::new(8).first_sector(),
+    ];
+    assert!(rt; (counts, sectors) == ([2, 1, 3, 8], [16_384, 16_768, 16_896, 2048, 64]));
     let within = first_other(&WITHIN, None);
     let outside = first_other(&OUTSIDE, Some(Refusal::BadGeometry));
     assert!(rt; (within, outside) == (None, None));
+    Ok(())
 }
 
 #[test]
@@ -130,47 +117,43 @@ fn is_made(made: Result<String, AllocError>, text: &str) -> bool {
     }
 }
 
-/// The number of the first refusal that is printed as another text.
-fn first_of_other_text(alloc: Global) -> Option<u8> {
-    for (refusal, text, _) in &REFUSALS {
-        if !is_made(format!(in alloc; "{refusal}"), text) {
-            return Some(refusal.number());
-        }
-    }
-    None
-}
-
-/// The number of the first refusal of which its number and name are another text.
-fn first_of_other_name(alloc: Global) -> Option<u8> {
-    for (refusal, text, _) in &REFUSALS {
-        if !is_made(format!(in alloc; "{} {refusal:?}", refusal.number()), text) {
-            return Some(refusal.number());
+/// The number of the first refusal that is printed as another text, or has another number, name or error on the wire.
+fn first_other_refusal(alloc: Global) -> Option<u8> {
+    for (refusal, text, code) in &REFUSALS {
+        let number = refusal.number();
+        if !is_made(format!(in alloc; "{refusal}"), text)
+            || !is_made(format!(in alloc; "{number} {refusal:?}"), text)
+            || refusal.nbd_error().code() != *code
+        {
+            return Some(number);
         }
     }
     None
 }
 
 #[test]
-fn refusals_tell_their_number_and_name(rt: HostRuntime) {
-    let others = (
-        first_of_other_text(rt.alloc()),
-        first_of_other_name(rt.alloc()),
-    );
-    assert!(rt; others == (None, None));
-}
-
-/// The number of the first refusal that has another error on the wire.
-fn first_of_other_error() -> Option<u8> {
-    for (refusal, _, code) in &REFUSALS {
-        if refusal.nbd_error().code() != *code {
-            return Some(refusal.number());
-        }
-    }
-    None
-}
-
-#[test]
-fn refusals_have_an_error_on_the_wire(rt: HostRuntime) {
-    let told = (first_of_other_error(), NbdError::Invalid.code());
+fn refusals_have_a_number_a_name_and_an_error(rt: HostRuntime) {
+    let told = (first_other_refusal(rt.alloc()), NbdError::Invalid.code());
     assert!(rt; told == (None, 22));
+}
+
+/// The longest status line.
+#[test]
+fn line_of_a_held_root(rt: HostRuntime) {
+    let status = PoolStatus {
+        transaction_id: u64::MAX,
+        used_metadata: u32::MAX,
+        metadata_blocks: u32::MAX,
+        used_data: u32::MAX,
+        data_blocks: u32::MAX,
+        mode: Mode::Writable,
+        needs_check: true,
+        held_root: u32::MAX,
+    };
+    let mut out = [0; 192];
+    let length = print_status(&status, &mut out);
+    let (line, _) = out.split_at(length);
+    assert!(rt;
+        line == b"18446744073709551615 4294967295/4294967295 4294967295/4294967295 4294967295 out_of_data_space no_discard_passdown error_if_no_space needs_check 512".as_slice()
+    );
 }

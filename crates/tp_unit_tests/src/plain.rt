@@ -1,144 +1,21 @@
-use std::alloc::{AllocError, Global};
 use tp_model::{Mode, NbdError, Refusal};
 use tp_plain::{
-    Asked, Change, Facts, PoolStatus, Request, Slot, VolumeStatus, form_error, is_exclusive, need,
-    pool_line, refusal_of, used, volume_line,
+    Asked, Change, Facts, Request, Slot, form_error, is_exclusive, need, refusal_of, used,
 };
-
-const FRESH: PoolStatus = PoolStatus {
-    transaction_id: 0,
-    used_metadata: 9,
-    metadata_blocks: 2048,
-    used_data: 0,
-    data_blocks: 4,
-    mode: Mode::Writable,
-    needs_check: false,
-    held_root: 0,
-};
-
-const FULL: PoolStatus = PoolStatus {
-    used_metadata: 10,
-    used_data: 4,
-    ..FRESH
-};
-
-const CHECKED: PoolStatus = PoolStatus {
-    used_metadata: 10,
-    mode: Mode::ReadOnly,
-    needs_check: true,
-    ..FRESH
-};
-
-const FAILED_POOL: PoolStatus = PoolStatus {
-    mode: Mode::Failed,
-    ..FRESH
-};
-
-/// What is told of pools, and their lines.
-const POOLS: [(PoolStatus, &str); 4] = [
-    (
-        FRESH,
-        "0 9/2048 0/4 - rw no_discard_passdown error_if_no_space - 512",
-    ),
-    (
-        FULL,
-        "0 10/2048 4/4 - out_of_data_space no_discard_passdown error_if_no_space - 512",
-    ),
-    (
-        CHECKED,
-        "0 10/2048 0/4 - ro no_discard_passdown error_if_no_space needs_check 512",
-    ),
-    (FAILED_POOL, "Fail"),
-];
-
-/// Whether this line was made.
-fn is_made(made: Result<String, AllocError>, line: &str) -> bool {
-    match made {
-        Ok(made) => made.as_str() == line,
-        Err(_) => false,
-    }
-}
-
-/// The first of these pools that has another line.
-fn first_other_pool(alloc: Global) -> Option<usize> {
-    for (i, (status, line)) in POOLS.iter().enumerate() {
-        if !is_made(pool_line(alloc, status), line) {
-            return Some(i);
-        }
-    }
-    None
-}
-
-#[test]
-fn lines_of_pools(rt: HostRuntime) {
-    assert!(rt; first_other_pool(rt.alloc()) == None);
-}
-
-/// The mode, the number of mapped blocks and the highest one of volumes, and their lines.
-const VOLUMES: [(Mode, u32, Option<u32>, &str); 5] = [
-    (Mode::Writable, 0, None, "0 -"),
-    (Mode::Writable, 2, Some(1), "256 255"),
-    (Mode::ReadOnly, 1, Some(0), "128 127"),
-    (Mode::Writable, 2, Some(2), "256 383"),
-    (Mode::Failed, 2, Some(2), "Fail"),
-];
-
-/// The first of these volumes that has another line.
-fn first_other_volume(alloc: Global) -> Option<usize> {
-    for (i, (mode, mapped_blocks, highest_block, line)) in VOLUMES.iter().enumerate() {
-        let status = VolumeStatus {
-            mode: *mode,
-            block_sectors: 128,
-            mapped_blocks: *mapped_blocks,
-            highest_block: *highest_block,
-        };
-        if !is_made(volume_line(alloc, &status), line) {
-            return Some(i);
-        }
-    }
-    None
-}
-
-#[test]
-fn lines_of_volumes(rt: HostRuntime) {
-    assert!(rt; first_other_volume(rt.alloc()) == None);
-}
 
 #[test]
 fn room_of_requests(rt: HostRuntime) {
-    let empty = [None; 16];
-    let across = Change::Write {
-        sector: 127,
-        count: 2,
-    };
-    let whole = Change::Write {
-        sector: 0,
-        count: 2048,
-    };
-    let needs = (
-        need(128, &[], 0, &empty, across),
-        need(128, &[], 0, &empty, whole),
-    );
-    assert!(rt; needs == (2, 16));
-}
-
-#[test]
-fn room_beside_other_volumes(rt: HostRuntime) {
     let slots = [(0, 0, 7), (0, 1, 8), (1, 0, 7)].map(|(volume, block, label)| Slot {
         volume,
         block,
         label,
     });
     let labels = [Some(7), Some(8), None];
-    let exclusive = (
+    let exclusive = [
         is_exclusive(&slots, 0, 0, Some(7)),
         is_exclusive(&slots, 0, 1, Some(8)),
-    );
-    let told = (used(&[7, 8, 7]), exclusive);
-    let both = Change::Write {
-        sector: 0,
-        count: 256,
-    };
+    ];
+    let write = |sector, count| Change::Write { sector, count };
     let zeroes = |no_hole| Change::WriteZeroes {
         sector: 1,
         count: 383,
@@ -149,12 +26,14 @@ fn room_beside_other_volumes(rt: HostRuntime) {
         count: 384,
     };
     let needs = [
-        need(128, &slots, 0, &labels, both),
+        need(128, &[], 0, &[None; 16], write(127, 2)),
+        need(128, &[], 0, &[None; 16], write(0, 2048)),
+        need(128, &slots, 0, &labels, write(0, 256)),
         need(128, &slots, 0, &labels, zeroes(false)),
         need(128, &slots, 0, &labels, zeroes(true)),
         need(128, &slots, 0, &labels, trim),
     ];
-    assert!(rt; (told, needs) == ((2, (false, true)), [1, 1, 2, 0]));
+    assert!(rt; (used(&[7, 8, 7]), exclusive, needs) == (2, [false, true], [2, 16, 1, 1, 2, 0]));
 }
 
 /// The kind, the flags, the offset and the length of requests, and their error.
@@ -257,7 +136,18 @@ fn first_other_case(cases: &[Case]) -> Option<usize> {
     None
 }
 
-const CASES: [Case; 15] = [
+const NO_ORIGIN: Asked = Asked::CreateSnap {
+    origin_exists: false,
+};
+
+const STALE: Asked = Asked::SetTransactionId { current: 6 };
+
+const CURRENT: Asked = Asked::SetTransactionId { current: 7 };
+
+const CASES: [Case; 18] = [
+    (FACTS, NO_ORIGIN, Some(Refusal::NoSuchDevice)),
+    (FACTS, STALE, Some(Refusal::StaleTransactionId)),
+    (FACTS, CURRENT, None),
     (FACTS, WRITE, Some(Refusal::NoMetadataSpace)),
     (FACTS, Asked::Trim { sectors: 1 }, None),
     (FACTS, Asked::CreateThin, Some(Refusal::Exists)),
@@ -274,11 +164,6 @@ const CASES: [Case; 15] = [
     (READ_ONLY, Asked::Walk, None),
     (ABSENT, Asked::Walk, Some(Refusal::NoSuchDevice)),
 ];
-
-#[test]
-fn tests_come_in_their_order(rt: HostRuntime) {
-    assert!(rt; first_other_case(&CASES) == None);
-}
 
 /// Of a volume that nobody holds, the growth to the blocks that it has, and to fewer, the most that it may have, and more.
 const GROW: Asked = Asked::Grow {
@@ -320,68 +205,36 @@ const GROWTHS: [Case; 10] = [
     (ROOMY, GROW_MOST, None),
 ];
 
-#[test]
-fn tests_of_growth_come_in_their_order(rt: HostRuntime) {
-    assert!(rt; first_other_case(&GROWTHS) == None);
-}
-
 const DELETE: Asked = Asked::Delete { is_held: false };
+
+const RESERVE: Asked = Asked::ReserveMetadataSnap;
+
+const RELEASE: Asked = Asked::ReleaseMetadataSnap;
 
 const HELD_ROOTS: [Case; 15] = [
     (FAILED, Asked::HeldRead, Some(Refusal::Failed)),
     (READ_ONLY, Asked::HeldRead, Some(Refusal::NoHeldRoot)),
     (HELD, Asked::HeldRead, Some(Refusal::NoSuchDevice)),
     (COPIED, Asked::HeldRead, None),
-    (FAILED, Asked::ReserveMetadataSnap, Some(Refusal::Failed)),
-    (
-        READ_ONLY,
-        Asked::ReserveMetadataSnap,
-        Some(Refusal::ReadOnly),
-    ),
-    (
-        HELD,
-        Asked::ReserveMetadataSnap,
-        Some(Refusal::HeldRootExists),
-    ),
-    (
-        FACTS,
-        Asked::ReserveMetadataSnap,
-        Some(Refusal::NoMetadataSpace),
-    ),
-    (ROOMY, Asked::ReserveMetadataSnap, None),
-    (
-        READ_ONLY,
-        Asked::ReleaseMetadataSnap,
-        Some(Refusal::ReadOnly),
-    ),
-    (ROOMY, Asked::ReleaseMetadataSnap, Some(Refusal::NoHeldRoot)),
-    (HELD_AND_FULL, Asked::ReleaseMetadataSnap, None),
+    (FAILED, RESERVE, Some(Refusal::Failed)),
+    (READ_ONLY, RESERVE, Some(Refusal::ReadOnly)),
+    (HELD, RESERVE, Some(Refusal::HeldRootExists)),
+    (FACTS, RESERVE, Some(Refusal::NoMetadataSpace)),
+    (ROOMY, RESERVE, None),
+    (READ_ONLY, RELEASE, Some(Refusal::ReadOnly)),
+    (ROOMY, RELEASE, Some(Refusal::NoHeldRoot)),
+    (HELD_AND_FULL, RELEASE, None),
     (HELD, DELETE, None),
     (HELD_AND_FULL, DELETE, Some(Refusal::NoMetadataSpace)),
     (HELD_AND_FULL, DELETE_HELD, Some(Refusal::Busy)),
 ];
 
 #[test]
-fn tests_of_a_held_root_come_in_their_order(rt: HostRuntime) {
-    assert!(rt; first_other_case(&HELD_ROOTS) == None);
-}
-
-#[test]
-fn tests_of_messages(rt: HostRuntime) {
-    let no_origin = Asked::CreateSnap {
-        origin_exists: false,
-    };
-    let stale = Asked::SetTransactionId { current: 6 };
-    let current = Asked::SetTransactionId { current: 7 };
-    let refusals = [
-        refusal_of(&FACTS, no_origin),
-        refusal_of(&FACTS, stale),
-        refusal_of(&FACTS, current),
+fn refusals_come_in_their_order(rt: HostRuntime) {
+    let others = [
+        first_other_case(&CASES),
+        first_other_case(&GROWTHS),
+        first_other_case(&HELD_ROOTS),
     ];
-    let wanted = [
-        Some(Refusal::NoSuchDevice),
-        Some(Refusal::StaleTransactionId),
-        None,
-    ];
-    assert!(rt; refusals == wanted);
+    assert!(rt; others == [None; 3]);
 }

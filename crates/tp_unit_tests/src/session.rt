@@ -75,20 +75,13 @@ fn longest(alloc: Global) -> Result<(usize, usize), Refusal> {
     Ok((most, more))
 }
 
-#[test]
-fn the_longest_list_fits_and_one_of_more_ends_the_session(rt: HostRuntime) {
-    assert!(rt; longest(rt.alloc()) == Ok((2_097_172, 0)));
-}
-
-#[test]
-fn a_refused_size_ends_the_session(rt: HostRuntime) {
-    let sent = told_of(rt.alloc(), 9, 2, None, INFO);
-    assert!(rt; length_of(sent) == Ok(0));
-}
-
+/// The longest list fits. One of more, a refused size and a refused hold end the session.
 #[test]
 fn a_refused_hold_ends_the_session(rt: HostRuntime) {
-    assert!(rt; length_of(told(rt.alloc(), 9, 2, GO)) == Ok(0));
+    let alloc = rt.alloc();
+    let size = length_of(told_of(alloc, 9, 2, None, INFO));
+    let hold = length_of(told(alloc, 9, 2, GO));
+    assert!(rt; (longest(alloc), size, hold) == (Ok((2_097_172, 0)), Ok(0), Ok(0)));
 }
 
 /// So many zero bytes.
@@ -146,20 +139,15 @@ fn is_put(told: Result<(Vec<u8>, usize), Refusal>, wanted: &[u8]) -> Result<bool
 }
 
 #[test]
-fn an_answer_is_put_into_a_given_buffer(rt: HostRuntime) {
-    let put = is_put(
-        put_in(rt.alloc(), 9, ABORT, SHORT_ANSWER),
-        b"\0\x03\xe8\x89\x04\x55\x65\xa9\0\0\0\x02\0\0\0\x01\0\0\0\0",
-    );
-    assert!(rt; put == Ok(true));
-}
-
-#[test]
 fn only_a_long_buffer_has_room_for_a_list(rt: HostRuntime) {
-    let short = is_put(put_in(rt.alloc(), 9, LIST, SHORT_ANSWER), b"");
+    let acknowledged = b"\0\x03\xe8\x89\x04\x55\x65\xa9\0\0\0\x02\0\0\0\x01\0\0\0\0";
     let list = b"\0\x03\xe8\x89\x04\x55\x65\xa9\0\0\0\x03\0\0\0\x02\0\0\0\x05\0\0\0\x019\
 \0\x03\xe8\x89\x04\x55\x65\xa9\0\0\0\x03\0\0\0\x02\0\0\0\x06\0\0\0\x0210\
 \0\x03\xe8\x89\x04\x55\x65\xa9\0\0\0\x03\0\0\0\x01\0\0\0\0";
-    let long = is_put(put_in(rt.alloc(), 9, LIST, MAX_ANSWER), list);
-    assert!(rt; (short, long) == (Err(Refusal::Memory), Ok(true)));
+    let put = [
+        is_put(put_in(rt.alloc(), 9, ABORT, SHORT_ANSWER), acknowledged),
+        is_put(put_in(rt.alloc(), 9, LIST, SHORT_ANSWER), b""),
+        is_put(put_in(rt.alloc(), 9, LIST, MAX_ANSWER), list),
+    ];
+    assert!(rt; put == [Ok(true), Err(Refusal::Memory), Ok(true)]);
 }

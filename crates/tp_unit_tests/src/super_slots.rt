@@ -184,11 +184,6 @@ fn first_other_choice(alloc: Global) -> Result<Option<usize>, Fault> {
     Ok(None)
 }
 
-#[test]
-fn slots_give_one_answer(rt: HostRuntime) {
-    assert_eq!(rt; first_other_choice(rt.alloc()), Ok(None));
-}
-
 /// How many sectors a disk has, what stands in its first slot, and the sequence that its slots give, of which the second one has 1.
 const ENDS: [(u64, Written, Result<u64, Refusal>); 4] = [
     (9, Written::Good(0), Ok(1)),
@@ -205,11 +200,6 @@ fn first_other_end(alloc: Global) -> Result<Option<usize>, Fault> {
         }
     }
     Ok(None)
-}
-
-#[test]
-fn a_slot_may_be_past_the_end(rt: HostRuntime) {
-    assert_eq!(rt; first_other_end(rt.alloc()), Ok(None));
 }
 
 /// Slots of which a read fails.
@@ -235,9 +225,15 @@ fn first_untold(alloc: Global) -> Result<Option<usize>, Fault> {
     Ok(None)
 }
 
+/// A slot may be past the end, and a fault is told first.
 #[test]
-fn a_fault_is_told_first(rt: HostRuntime) {
-    assert_eq!(rt; first_untold(rt.alloc()), Ok(None));
+fn slots_give_one_answer(rt: HostRuntime) {
+    let others = [
+        first_other_choice(rt.alloc()),
+        first_other_end(rt.alloc()),
+        first_untold(rt.alloc()),
+    ];
+    assert_eq!(rt; others, [Ok(None); 3]);
 }
 
 /// The sequence on what a stop of a disk leaves that picks these writes.
