@@ -153,6 +153,36 @@ def copies_between_volumes(host):
             want((used == (at + 2) * 3 * 16, f"{words[0]}: {used} blocks are mapped"))
 
 
+def keeps_holes_of_the_image(host):
+    """4 KiB are written to 256 new blocks of 64 KiB, and the file has 8 KiB for each at most."""
+    image = host.pool()
+    with host.up(image) as server:
+        qemu_io(server.uri("0"), "write -P 1 0 64k", "flush")
+        before = os.stat(image).st_blocks
+        qemu_io(server.uri("0"), *(f"write -P 2 {at * 65536 + 20480} 4k" for at in range(1, 257)), "flush")
+        kib = (os.stat(image).st_blocks - before) // 2
+        want((kib <= 256 * 8, f"the file has grown by {kib} KiB"))
+        qemu_io(server.uri("0"), *(f"read -P {byte} {at} {size}" for at, byte, size in around(256)))
+        return f"{kib} KiB for 256 blocks"
+
+
+def around(block):
+    """What a block holds of which 4 KiB were written: offsets, bytes and lengths."""
+    at = block * 65536
+    return (at, 0, 20480), (at + 20480, 2, 4096), (at + 24576, 0, 40960)
+
+
+def reads_no_deleted_bytes(host):
+    """All data blocks were written, half of them are deleted with their volume, and a new volume gets these."""
+    with host.up(host.pool()) as server:
+        for volume in "01":
+            qemu_io(server.uri(volume), "write -P 97 0 64M", "flush")
+        for line in ("delete 1", "create_thin 1"):
+            want((server.control(line) == "ok", line))
+        qemu_io(server.uri("1"), *(f"write -P 2 {at * 65536 + 20480} 4k" for at in range(0, BLOCKS, 8)))
+        qemu_io(server.uri("1"), *(f"read -P {byte} {at} {size}" for block in range(0, BLOCKS, 8) for at, byte, size in around(block)))
+
+
 CASES = [
     ("libnbd asks where there is data, beside a plain map", against_a_plain_map),
     ("a strict server has no structured replies", strict_has_none),
@@ -160,4 +190,6 @@ CASES = [
     ("nbdinfo and qemu-img print what may differ from a snapshot", tells_changes),
     ("nbdcopy and qemu-img read what is mapped alone", reads_what_is_mapped),
     ("one volume is copied to another with its holes", copies_between_volumes),
+    ("a first write leaves holes in the image", keeps_holes_of_the_image),
+    ("a new volume has no bytes of a deleted one", reads_no_deleted_bytes),
 ]

@@ -6,6 +6,7 @@ ghost use Rattle.tp_disk.specs.HandedOut.{IsHandedOut};
 ghost use Rattle.tp_disk.specs.Syncs.{writes_of};
 ghost use Rattle.tp_model.specs.Disk.{IsSettled, IsWellFormed, after_flush};
 
+use crate::blank::zeros;
 use crate::disk::{MOST_SECTORS, SECTOR};
 use crate::image_file::ImageFile;
 use crate::opening::{
@@ -24,6 +25,11 @@ use std::rt::Files;
 /// The most bytes that one call of the system writes. Linux keeps what one call wrote in a folio of that size where it can, and a later write of a part of a folio looks at
 /// all of it: 4 KiB take some 17 microseconds in one of a MiB, and 3 in one of 64 KiB. Long writes are no slower in such pieces.
 const MOST_WRITTEN: usize = 65_536;
+
+/// The bytes of a page of the system's cache, and its sectors.
+const PAGE: usize = 4096;
+
+const PAGE_SECTORS: u64 = 8;
 
 /// A disk over a regular file or a block device: sector i is the 512 bytes from byte 512 * i on. Reads and writes are at their places in the
 /// file, with no buffer between, and a flush waits until the system has brought the data to the device, unless nothing was written since the last sync that
@@ -162,10 +168,48 @@ impl<F: ImageFile + Drop> FileDisk<F> {
     }
 }
 
+/// The bytes without the pages of zeros at their start.
+fn without_first_zeros(bytes: &[u8]) -> &[u8] {
+    let page = zeros(PAGE_SECTORS);
+    let mut rest = bytes;
+    for _ in 0..bytes.len() / PAGE {
+        match rest.strip_prefix(page) {
+            None => break,
+            Some(behind) => rest = behind,
+        }
+    }
+    rest
+}
+
+/// The bytes without the pages of zeros at their end.
+fn without_last_zeros(bytes: &[u8]) -> &[u8] {
+    let page = zeros(PAGE_SECTORS);
+    let mut rest = bytes;
+    for _ in 0..bytes.len() / PAGE {
+        match rest.strip_suffix(page) {
+            None => break,
+            Some(before) => rest = before,
+        }
+    }
+    rest
+}
+
+/// Writes a piece to a file from a byte of it on. If all of it is a hole of the file, the pages of zeros at
+/// its start and its end stay holes.
+fn write_piece<F: ImageFile>(file: &F, at: u64, piece: &[u8]) -> io::Result<()> {
+    let rest = without_first_zeros(piece);
+    let data = without_last_zeros(rest);
+    if data.len() < piece.len() && file.is_hole(at, piece.len() as u64) {
+        let skipped = piece.len().saturating_sub(rest.len()) as u64;
+        return file.write_all_at(data, at.saturating_add(skipped));
+    }
+    file.write_all_at(piece, at)
+}
+
 /// Writes bytes to a file from a byte of it on, in pieces.
 fn write_pieces<F: ImageFile>(file: &F, mut at: u64, bytes: &[u8]) -> io::Result<()> {
     for piece in bytes.chunks(MOST_WRITTEN) {
-        file.write_all_at(piece, at)?;
+        write_piece(file, at, piece)?;
         at = at.saturating_add(piece.len() as u64);
     }
     Ok(())

@@ -14,4 +14,7 @@ pub trait ImageFile: FileExt {
     /// Drops the cached pages of the file that are on its device, so that the next reads come from
     /// there.
     fn drop_cached(&self) -> io::Result<()>;
+
+    /// Whether a range of the file is a hole, which reads as zeros. False if the system cannot tell.
+    fn is_hole(&self, from: u64, len: u64) -> bool;
 }

@@ -17,6 +17,11 @@ const OWNER_ONLY: u32 = 0o600;
 /// The descriptors of the standard streams are 0 to this one.
 const LAST_STREAM: i32 = 2;
 
+/// By `lseek`: the next byte at an offset or behind it that is data, and the next that is in a hole.
+const SEEK_DATA: i32 = 3;
+
+const SEEK_HOLE: i32 = 4;
+
 /// A system call that opening a file as a disk makes.
 #[derive(Clone, Copy, Debug, PartialEq, Eq)]
 pub enum OpenStep {
@@ -271,6 +276,21 @@ impl ImageFile for LockedFile {
         match libc::posix_fadvise(self.file.as_raw_fd(), 0, 0, libc::POSIX_FADV_DONTNEED) {
             0 => Ok(()),
             code => Err(io::Error::from_raw_os_error(code)),
+        }
+    }
+
+    /// A block device refuses both calls. They move the position of the file, which nothing here uses.
+    fn is_hole(&self, from: u64, len: u64) -> bool {
+        let fd = self.file.as_raw_fd();
+        let Ok(offset) = i64::try_from(from) else {
+            return false;
+        };
+        if libc::lseek(fd, offset, SEEK_HOLE) != offset {
+            return false;
+        }
+        match u64::try_from(libc::lseek(fd, offset, SEEK_DATA)) {
+            Err(_) => true,
+            Ok(data) => data >= from.saturating_add(len),
         }
     }
 }

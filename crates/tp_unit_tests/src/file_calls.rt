@@ -9,7 +9,7 @@ use tp_disk::{Disk, Fault, FileDisk, ImageFile, SharedDisk};
 /// A call of a file.
 #[derive(Clone, Copy, Debug, PartialEq, Eq)]
 enum FileCall {
-    Write,
+    Write { offset: u64, len: usize },
     SyncAll,
     SyncData,
     DropCached,
@@ -21,6 +21,8 @@ struct RecordedFile<'a> {
     calls: &'a Mutex<Vec<FileCall>>,
     /// Whether `sync_data` fails.
     is_failing: bool,
+    /// Whether all of it is a hole, as far as it tells.
+    is_hole: bool,
 }
 
 impl RecordedFile<'_> {
@@ -37,8 +39,9 @@ impl FileExt for RecordedFile<'_> {
         Ok(buf.len())
     }
 
-    fn write_at(&self, buf: &[u8], _offset: u64) -> io::Result<usize> {
-        self.record(FileCall::Write);
+    fn write_at(&self, buf: &[u8], offset: u64) -> io::Result<usize> {
+        let len = buf.len();
+        self.record(FileCall::Write { offset, len });
         Ok(buf.len())
     }
 }
@@ -60,6 +63,10 @@ impl ImageFile for RecordedFile<'_> {
     fn drop_cached(&self) -> io::Result<()> {
         self.record(FileCall::DropCached);
         Ok(())
+    }
+
+    fn is_hole(&self, _from: u64, _len: u64) -> bool {
+        self.is_hole
     }
 }
 
@@ -95,6 +102,7 @@ fn calls_of(alloc: Global, is_failing: bool) -> (bool, [Option<FileCall>; 8]) {
     let file = RecordedFile {
         calls: &calls,
         is_failing,
+        is_hole: false,
     };
     let is_done = match FileDisk::over(alloc, file, 2) {
         Ok(mut disk) => write_and_flush(&mut disk).is_ok(),
@@ -110,13 +118,55 @@ const OPENED: [Option<FileCall>; 2] = [Some(FileCall::SyncAll), Some(FileCall::D
 #[test]
 fn a_flush_is_a_sync_after_the_last_write(rt: HostRuntime) {
     let told = [calls_of(rt.alloc(), false), calls_of(rt.alloc(), true)];
-    let (write, sync) = (Some(FileCall::Write), Some(FileCall::SyncData));
+    let sync = Some(FileCall::SyncData);
+    let one = Some(FileCall::Write { offset: 0, len: 512 });
+    let other = Some(FileCall::Write { offset: 512, len: 512 });
     let [first, second] = OPENED;
     assert_eq!(rt;
         told,
         [
-            (true, [first, second, write, sync, write, sync, None, None]),
-            (false, [first, second, write, sync, None, None, None, None]),
+            (true, [first, second, one, sync, other, sync, None, None]),
+            (false, [first, second, one, sync, None, None, None, None]),
+        ]
+    );
+}
+
+/// Writes 16 KiB of which the second page has a byte of data, and then 8 KiB of zeros behind it.
+fn write_zeros<D: Disk>(disk: &mut D) -> Result<(), Fault> {
+    if disk.sectors() < 48 {
+        return Err(Fault);
+    }
+    let mut bytes = [0; 16_384];
+    bytes[5000] = 1;
+    disk.write(0, &bytes)?;
+    disk.write(32, &[0; 8192])
+}
+
+/// The calls of a file of 48 sectors that [`write_zeros`] makes.
+fn zeros_of(alloc: Global, is_hole: bool) -> [Option<FileCall>; 8] {
+    let calls = Mutex::new(Vec::new(alloc));
+    let file = RecordedFile {
+        calls: &calls,
+        is_failing: false,
+        is_hole,
+    };
+    if let Ok(mut disk) = FileDisk::over(alloc, file, 48) {
+        _ = write_zeros(&mut disk);
+    }
+    first_calls(&calls)
+}
+
+/// Pages of zeros around data are not written where the file has a hole, and are written elsewhere.
+#[test]
+fn a_hole_stays_where_zeros_are_written(rt: HostRuntime) {
+    let told = [zeros_of(rt.alloc(), true), zeros_of(rt.alloc(), false)];
+    let [first, second] = OPENED;
+    let write = |offset, len| Some(FileCall::Write { offset, len });
+    assert_eq!(rt;
+        told,
+        [
+            [first, second, write(4096, 4096), None, None, None, None, None],
+            [first, second, write(0, 16_384), write(16_384, 8192), None, None, None, None],
         ]
     );
 }
