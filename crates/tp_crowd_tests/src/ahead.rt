@@ -67,24 +67,29 @@ where
     send_until_closed(rt.alloc(), &mut client, text, ends_there)
 }
 
-/// Reads by way of a buffer until so many bytes came, or a read brings none, and adds them.
+/// Reads by way of a buffer until so many bytes came, or a read brings none, and adds them: how
+/// many reads brought some.
 fn add_until<R: Threads>(
     socket: &mut Socket<'_, R>,
     buffer: &mut Vec<u8>,
     read: &mut Vec<u8>,
     count: usize,
-) -> Result<(), AllocError> {
+) -> Result<u64, AllocError> {
+    let mut reads = 0u64;
     for _ in 0..1u32 << 20 {
         if buffer.is_empty() || read.len() >= count {
             break;
         }
         match socket.receive(buffer) {
-            Received::Got(len) => read.extend_from_slice(&buffer[..len])?,
+            Received::Got(len) => {
+                read.extend_from_slice(&buffer[..len])?;
+                reads = reads.saturating_add(1);
+            }
             Received::NotNow => {}
             Received::End | Received::Broken => break,
         }
     }
-    Ok(())
+    Ok(reads)
 }
 
 /// The same by way of a new buffer.
@@ -93,7 +98,7 @@ fn add_by_new_buffer<R: Threads>(
     socket: &mut Socket<'_, R>,
     read: &mut Vec<u8>,
     count: usize,
-) -> Result<(), AllocError> {
+) -> Result<u64, AllocError> {
     let mut buffer = Vec::from_elem(alloc, 0u8, ROOM)?;
     add_until(socket, &mut buffer, read, count)
 }
@@ -124,10 +129,12 @@ fn accept_and_read<R: Threads + Clock>(
     Ok(read?)
 }
 
-/// Whether a stream comes to its end though nobody reads it by this handle. It looks at most 2^20 times.
-fn comes_to_its_end(stream: &TcpStream) -> bool {
+/// Whether a stream comes to the write of the letter `c` though nobody reads it by this handle. It
+/// looks at most 2^20 times.
+fn comes_to_third(stream: &TcpStream) -> bool {
+    let mut front = [0; 29];
     for _ in 0..1u32 << 20 {
-        if matches!(stream.peek(&mut [0]), Ok(0)) {
+        if matches!(stream.peek(&mut front), Ok(29)) && front[28] == b'c' {
             return true;
         }
         thread::yield_now();
@@ -135,7 +142,8 @@ fn comes_to_its_end(stream: &TcpStream) -> bool {
     false
 }
 
-/// Reads until so many bytes came, and tells whether what follows them is read without being asked for, and then given behind them.
+/// Reads until so many bytes came, and tells whether the write that follows them is read without
+/// being asked for, and then given behind them, and the third one whole.
 fn is_given_in_order<R: Threads>(
     alloc: Global,
     socket: &mut Socket<'_, R>,
@@ -146,9 +154,9 @@ fn is_given_in_order<R: Threads>(
 ) -> Result<bool, AllocError> {
     add_by_new_buffer(alloc, socket, read, count)?;
     let is_first = read.len() == count;
-    let is_read_ahead = comes_to_its_end(other);
-    add_by_new_buffer(alloc, socket, read, usize::MAX)?;
-    Ok(is_first && is_read_ahead && read.as_slice() == text)
+    let is_read_ahead = comes_to_third(other);
+    let reads = add_by_new_buffer(alloc, socket, read, usize::MAX)?;
+    Ok(is_first && is_read_ahead && reads == 2 && read.as_slice() == text)
 }
 
 /// The same of what nothing was read of.
@@ -217,20 +225,21 @@ where
     Ok((sent.is_ok(), is_read_ahead?))
 }
 
-/// The same of two long writes, of which the first one is read first.
-fn told_of_two_writes<H>(rt: &H) -> io::Result<(bool, bool)>
+/// The same of three long writes, of which the first one is read first.
+fn told_of_three_writes<H>(rt: &H) -> io::Result<(bool, bool)>
 where
     H: Net<Listener = TcpListener, Stream = TcpStream> + Threads + Clock + Sync + Alloc<A = Global>,
 {
     let count = FLAGS.len() + HEAD.len() + 524_288;
-    let text = long_writes(rt.alloc(), b"ab", b"")?;
+    let text = long_writes(rt.alloc(), b"abc", b"")?;
     told_of_what_follows(rt, &text, count)
 }
 
-/// What a client sends behind a long write is read while that write could be asked, where there is a processor for it: who is gone has none.
+/// What a client sends behind a long write is read while that write could be asked, where there is
+/// a processor for it: who is gone has none. The read behind it ends with a write, too.
 #[test]
 fn what_follows_a_long_write_is_read_ahead(rt: HostRuntime) -> Result<(), Fail> {
-    let told = told_of_two_writes(&rt)?;
+    let told = told_of_three_writes(&rt)?;
     assert_eq!(rt; told, (true, true));
     Ok(())
 }

@@ -6,7 +6,7 @@ use crate::talk::{
     ANSWERED_FLUSH, ANSWERED_GO, ANSWERED_READ, ANSWERED_WRITE, FLUSH, GO, READ, write,
 };
 use crate::waiting::{Seen, Waiting};
-use std::alloc::Global;
+use std::alloc::{AllocError, Global};
 use std::sync::Wait;
 use std::test::Fail;
 use std::thread::Threads;
@@ -184,9 +184,35 @@ fn reads_at_once(rt: HostRuntime) -> Result<(), Fail> {
     Ok(())
 }
 
+/// So many clients that go to a volume, and end.
+fn clients_that_go<'a>(
+    alloc: Global,
+    count: u32,
+    mine: &'a Seen,
+    other: &'a Seen,
+) -> Result<Vec<Waiting<'a>>, AllocError> {
+    let mut clients = Vec::new(alloc);
+    for _ in 0..count {
+        clients.push(Waiting::new([GO, b""], usize::MAX, mine, other, 0))?;
+    }
+    Ok(clients)
+}
+
+/// What is left of so many of them, and how many bytes they were written.
+fn left_of_many<H>(rt: &H, count: u32) -> Result<(Left, u64), Fail>
+where
+    H: Threads + Wait + Sync + Alloc<A = Global>,
+{
+    let (mine, other) = (Seen::nothing(), Seen::nothing());
+    let clients = clients_that_go(rt.alloc(), count, &mine, &other)?;
+    let (left, _) = served_all(rt, 0, clients)?;
+    Ok((left, mine.bytes()))
+}
+
+/// Of more than 64 clients 64 are taken, and of no client none.
 #[test]
-fn no_client_at_all(rt: HostRuntime) -> Result<(), Fail> {
-    let (left, _) = served_all(&rt, 0, Vec::new(rt.alloc()))?;
-    assert_eq!(rt; left, (0, 0, 0));
+fn no_client_and_one_too_many(rt: HostRuntime) -> Result<(), Fail> {
+    let told = [left_of_many(&rt, 0)?, left_of_many(&rt, 65)?];
+    assert_eq!(rt; told, [((0, 0, 0), 0), ((64, 0, 0), 64 * ANSWERED_GO)]);
     Ok(())
 }

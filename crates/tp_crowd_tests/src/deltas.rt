@@ -174,14 +174,50 @@ where
     told_at_address(rt, &control, lines)
 }
 
-/// Pages are joined, their runs and the holes between them printed, and nothing of a volume that the server does not know.
+/// Accepts a client, and answers its line that the pool is damaged.
+fn tell_damage(listener: &TcpListener) -> io::Result<()> {
+    let (mut client, _) = listener.accept()?;
+    client.read(&mut [0; 64])?;
+    client.write_all(b"refused 2\n")
+}
+
+/// What is told at a place where that is answered.
+fn told_of_damage_at<H>(rt: &H, listener: &TcpListener, place: &str) -> Result<Told, Fail>
+where
+    H: Net<Listener = TcpListener, Stream = TcpStream> + Threads + Sync + Alloc<A = Global>,
+{
+    let (told, answered) = join(
+        rt,
+        || told(rt, place, 1, false, b""),
+        || tell_damage(listener),
+    );
+    answered?;
+    Ok(told)
+}
+
+/// The same of a listener of loopback.
+fn told_of_damage<H>(rt: &H) -> Result<Told, Fail>
+where
+    H: Net<Listener = TcpListener, Stream = TcpStream> + Threads + Sync + Alloc<A = Global>,
+{
+    let (listener, lines) = listening(rt)?;
+    let place = format!(in rt.alloc(); "{lines}")?;
+    told_of_damage_at(rt, &listener, &place)
+}
+
+/// Pages are joined, their runs and the holes between them printed, and nothing of a volume that
+/// the server does not know, or of a damaged pool.
 #[test]
 fn a_delta_of_a_pool_that_is_served(rt: HostRuntime) -> Result<(), Fail> {
     let told = told_of_deltas(&rt)?;
+    let damaged = told_of_damage(&rt)?;
     let unknown = Some(Refusal::NoSuchDevice);
     assert_eq!(rt;
-        told,
-        (((None, true), (None, true), (unknown, true)), (1, 0))
+        (told, damaged),
+        (
+            (((None, true), (None, true), (unknown, true)), (1, 0)),
+            (Some(Refusal::Damaged), true)
+        )
     );
     Ok(())
 }

@@ -24,7 +24,8 @@ fn read_trim_read(alloc: Global) -> Result<Vec<u8>, AllocError> {
     Ok(text)
 }
 
-/// What is asked of this text in three asks, each from where the one before it ended, and whether the marks of two reads' replies with one between them were given.
+/// What is asked of this text by session 1 in three asks, each from where the one before it ended,
+/// and whether the marks of two reads' replies with one between them were given.
 fn ask_all<H>(rt: &H, hub: &HubLock<'_, Shelf, Seen, Brand>, text: &[u8]) -> ([Ran; 3], bool)
 where
     H: Wait + Sync + Alloc<A = Global>,
@@ -35,13 +36,13 @@ where
         alloc: rt.alloc(),
         hub,
     };
-    desk.ask(Event::Open(0, Profile::Extended), &mut out);
-    desk.ask(Event::Bytes(0, GO), &mut out);
+    desk.ask(Event::Open(1, Profile::Extended), &mut out);
+    desk.ask(Event::Bytes(1, GO), &mut out);
     out.clear();
     let took = [
-        desk.ask(Event::Bytes(0, text), &mut out),
-        desk.ask(Event::Bytes(0, text.get(28..).unwrap_or(&[])), &mut out),
-        desk.ask(Event::Bytes(0, text.get(56..).unwrap_or(&[])), &mut out),
+        desk.ask(Event::Bytes(1, text), &mut out),
+        desk.ask(Event::Bytes(1, text.get(28..).unwrap_or(&[])), &mut out),
+        desk.ask(Event::Bytes(1, text.get(56..).unwrap_or(&[])), &mut out),
     ];
     let marks = [sent(528), sent(16), sent(528)];
     (took, out.marks() == marks.as_slice())
@@ -49,7 +50,7 @@ where
 
 /// An answer of so many bytes.
 fn sent(len: usize) -> Mark {
-    Mark::Sent { session: 0, len }
+    Mark::Sent { session: 1, len }
 }
 
 /// The same of a lock of its own, and how many trims were made behind it.

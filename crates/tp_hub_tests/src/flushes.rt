@@ -125,7 +125,7 @@ fn told_of_parts(
 const GAVE: Option<Read> = Some((true, true, Some(0x61)));
 
 /// Between two parts READs are given what was written before the flush. A flush that has fewer parts is
-/// done earlier.
+/// done earlier. An event that asks for no commit has no part.
 #[test]
 fn reads_between_parts(rt: HostRuntime) -> Result<(), Fail> {
     let told = [
@@ -133,12 +133,14 @@ fn reads_between_parts(rt: HostRuntime) -> Result<(), Fail> {
         told_of_parts(rt.alloc(), 1, &Event::Flush)?,
         told_of_parts(rt.alloc(), 2, &Event::Flush)?,
         told_of_parts(rt.alloc(), 3, &Event::Flush)?,
+        told_of_parts(rt.alloc(), 0, &Event::Status)?,
     ];
     let wanted = [
         ([None, None], (true, 0)),
         ([GAVE, None], (true, 1)),
         ([GAVE, GAVE], (true, 2)),
         ([GAVE, GAVE], (true, 2)),
+        ([GAVE, GAVE], (false, 0)),
     ];
     assert!(rt; told == wanted);
     Ok(())
@@ -147,7 +149,23 @@ fn reads_between_parts(rt: HostRuntime) -> Result<(), Fail> {
 /// A message that the pool takes.
 const MESSAGE: Event<'static> = Event::Message(b"set_transaction_id 0 7");
 
-/// Between two parts of what keeps a message READs are given what they are given before it.
+/// Another one.
+const HOLD: Event<'static> = Event::Message(b"reserve_metadata_snap");
+
+/// Whether a message is answered by its first part, another one behind that, and the first one by
+/// its last part.
+fn told_of_other(alloc: Global) -> Result<[bool; 3], Refusal> {
+    let mut hub: Shared = StagedHub::new(Hub::new(staged_shelf(alloc, 1, false)?));
+    let mut out = Answers::new(alloc);
+    let begun = keep(&mut hub, &MESSAGE, false, &mut out);
+    let other = keep(&mut hub, &HOLD, true, &mut out);
+    let ended = keep(&mut hub, &MESSAGE, true, &mut out);
+    let _ = hub.into_hub().into_pool();
+    Ok([begun, other, ended])
+}
+
+/// Between two parts of what keeps a message READs are given what they are given before it, and
+/// another message has no part.
 #[test]
 fn reads_between_the_parts_of_a_message(rt: HostRuntime) -> Result<(), Fail> {
     let told = [
@@ -160,7 +178,8 @@ fn reads_between_the_parts_of_a_message(rt: HostRuntime) -> Result<(), Fail> {
         ([GAVE, None], (true, 1)),
         ([GAVE, GAVE], (true, 2)),
     ];
-    assert!(rt; told == wanted);
+    let of_other = told_of_other(rt.alloc())?;
+    assert!(rt; (told, of_other) == (wanted, [false, false, true]));
     Ok(())
 }
 
@@ -218,7 +237,7 @@ fn told_of_asked(alloc: Global) -> Result<bool, Refusal> {
 #[test]
 fn a_fault_in_each_part(rt: HostRuntime) -> Result<(), Fail> {
     let of_flush = told_of_faults(rt.alloc(), &Event::Flush)?;
-    let of_message = told_of_faults(rt.alloc(), &Event::Message(b"reserve_metadata_snap"))?;
+    let of_message = told_of_faults(rt.alloc(), &HOLD)?;
     let is_refused = told_of_asked(rt.alloc())?;
     assert!(rt; (of_flush, of_message, is_refused) == ([(true, true); 3], [(true, true); 3], true));
     Ok(())

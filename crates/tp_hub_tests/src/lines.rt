@@ -56,15 +56,18 @@ struct Drips {
     taken: usize,
     /// How many bytes were taken at the last flush.
     flushed: usize,
+    /// Each flush fails.
+    fails_to_flush: bool,
 }
 
 impl Drips {
-    fn new() -> Drips {
+    fn new(fails_to_flush: bool) -> Drips {
         Drips {
             is_ready: false,
             kept: [0; 8],
             taken: 0,
             flushed: 0,
+            fails_to_flush,
         }
     }
 }
@@ -87,6 +90,9 @@ impl Write for Drips {
 
     fn flush(&mut self) -> io::Result<()> {
         self.flushed = self.taken;
+        if self.fails_to_flush {
+            return Err(io::Error::from(ErrorKind::BrokenPipe));
+        }
         Ok(())
     }
 }
@@ -139,15 +145,18 @@ fn attend_all<D: Desk, R: Read, W: Write>(
     ending
 }
 
-/// How many empty lines are played, and how as many control lines end.
-fn read_all<D: Desk>(alloc: Global, desk: &mut D) -> (Ended, LinesEnd) {
-    let ended = play_all(alloc, desk, &mut EmptyLines::new(), &mut Drips::new());
-    let ending = attend_all(alloc, desk, &mut EmptyLines::new(), &mut Drips::new());
-    (ended, ending)
+/// How many empty lines are played, how as many control lines end, and how one does whose answer is
+/// written but not flushed.
+fn read_all<D: Desk>(alloc: Global, desk: &mut D) -> (Ended, [LinesEnd; 2]) {
+    let ended = play_all(alloc, desk, &mut EmptyLines::new(), &mut Drips::new(false));
+    let ending = attend_all(alloc, desk, &mut EmptyLines::new(), &mut Drips::new(false));
+    let mut line: &[u8] = b"flush\n";
+    let unflushed = attend_all(alloc, desk, &mut line, &mut Drips::new(true));
+    (ended, [ending, unflushed])
 }
 
 /// The same over a hub of two volumes.
-fn read_all_alone(alloc: Global) -> Result<(Ended, LinesEnd), Fail> {
+fn read_all_alone(alloc: Global) -> Result<(Ended, [LinesEnd; 2]), Fail> {
     let mut hub = Hub::new(blank_shelf(alloc)?);
     let mut desk = HubDesk {
         alloc,
@@ -159,7 +168,8 @@ fn read_all_alone(alloc: Global) -> Result<(Ended, LinesEnd), Fail> {
     Ok(told)
 }
 
-/// An interrupted read is made again. The end of a script ends its last line, so that is one line more.
+/// An interrupted read is made again. The end of a script ends its last line, so that is one line
+/// more. A flush that fails is a failure of the output.
 #[test]
 fn any_number_of_reads(rt: HostRuntime) -> Result<(), Fail> {
     let told = read_all_alone(rt.alloc())?;
@@ -167,13 +177,14 @@ fn any_number_of_reads(rt: HostRuntime) -> Result<(), Fail> {
         result: Ok(()),
         played: LINES + 1,
     };
-    assert_eq!(rt; told, (ended, LinesEnd::EndOfInput));
+    let endings = [LinesEnd::EndOfInput, LinesEnd::OutputFailed];
+    assert_eq!(rt; told, (ended, endings));
     Ok(())
 }
 
 /// Whether a writer is sent this, what it took, and how many bytes at the last flush.
 fn sent_slowly(text: &[u8]) -> (bool, [u8; 8], usize) {
-    let mut output = Drips::new();
+    let mut output = Drips::new(false);
     let is_sent = send_text(&mut EmptyLines::new(), &mut output, text);
     (is_sent, output.kept, output.flushed)
 }

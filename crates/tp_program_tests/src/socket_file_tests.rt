@@ -9,7 +9,7 @@ use std::fs::{self, File};
 use std::io;
 use std::net::{Net, TcpListener, TcpStream};
 use std::os::fd::OwnedFd;
-use std::os::unix::fs::PermissionsExt;
+use std::os::unix::fs::{MetadataExt, PermissionsExt, chown};
 use std::os::unix::net::{UnixListener, UnixStream};
 use std::rt::Files;
 use std::sync::Wait;
@@ -23,8 +23,9 @@ const CLIENTS: &str = "clients.sock";
 
 const CONTROL: &str = "control.sock";
 
-/// Runs the program that serves clients of an image at both, and gives volume 0 to those who name none: how it ends.
-fn serve<H>(rt: &H, image: &str) -> Status
+/// Runs the program that serves clients of an image at both, which are of this group, and gives
+/// volume 0 to those who name none: how it ends.
+fn serve<H>(rt: &H, image: &str, group: &str) -> Status
 where
     H: Files<File = File>
         + Net<Listener = TcpListener, Stream = TcpStream>
@@ -44,6 +45,8 @@ where
         "unix:control.sock",
         "--default",
         "0",
+        "--socket-group",
+        group,
     ];
     let mut input: &[u8] = b"";
     run(rt, &words, &mut input).status
@@ -112,8 +115,35 @@ where
     Ok(())
 }
 
-/// The same where such a file was left before, and how the program ends.
-fn told_of_server<H>(rt: &H, image: &str) -> Result<(Status, [bool; 2]), Fail>
+/// A group that may be given to this file: the one behind its own, where the system lets it, and
+/// else its own.
+fn group_for<F: Files>(files: &F, path: &str) -> io::Result<u32> {
+    let own = fs::symlink_metadata(files, path)?.gid();
+    let next = own.saturating_add(1);
+    if chown(files, path, None, Some(next)).is_ok() {
+        return Ok(next);
+    }
+    Ok(own)
+}
+
+/// What is told while it serves at files of a group, and how the program ends.
+fn told_of_group<H>(rt: &H, image: &str, group: u32) -> Result<(Status, [bool; 2]), Fail>
+where
+    H: Files<File = File>
+        + Net<Listener = TcpListener, Stream = TcpStream>
+        + Threads
+        + Wait
+        + Clock
+        + Sync
+        + Alloc<A = Global>,
+{
+    let text = format!(in rt.alloc(); "{group}")?;
+    let (told, status) = join(rt, || told_at_files(rt), || serve(rt, image, &text));
+    Ok((status, told?))
+}
+
+/// The same where such a file was left before; and the group.
+fn told_of_server<H>(rt: &H, image: &str) -> Result<((Status, [bool; 2]), u32), Fail>
 where
     H: Files<File = File>
         + Net<Listener = TcpListener, Stream = TcpStream>
@@ -124,28 +154,34 @@ where
         + Alloc<A = Global>,
 {
     leave_stale(rt, CLIENTS)?;
-    let (told, status) = join(rt, || told_at_files(rt), || serve(rt, image));
-    Ok((status, told?))
+    let group = group_for(rt, CLIENTS)?;
+    Ok((told_of_group(rt, image, group)?, group))
 }
 
-/// Whether a file is for its owner alone. It is removed.
-fn is_for_owner<F: Files>(files: &F, path: &str) -> io::Result<bool> {
+/// Whether a file is for its owner alone, and of this group. It is removed.
+fn is_for_owner<F: Files>(files: &F, path: &str, group: u32) -> io::Result<bool> {
+    let of_group = fs::symlink_metadata(files, path)?.gid();
     let mode = fs::symlink_metadata(files, path)?.permissions().mode();
     fs::remove_file(files, path)?;
-    Ok(mode & 0o777 == 0o600)
+    Ok(mode & 0o777 == 0o600 && of_group == group)
 }
 
-/// Whether both files are for their owner alone. They are removed.
-fn are_for_owner<F: Files>(files: &F) -> io::Result<[bool; 2]> {
-    Ok([is_for_owner(files, CLIENTS)?, is_for_owner(files, CONTROL)?])
+/// Whether both files are so. They are removed.
+fn are_for_owner<F: Files>(files: &F, group: u32) -> io::Result<[bool; 2]> {
+    Ok([
+        is_for_owner(files, CLIENTS, group)?,
+        is_for_owner(files, CONTROL, group)?,
+    ])
 }
 
-/// A socket file that a dead server left is replaced, and each is for its owner alone. Who names no volume has the default one, and is offered several connections.
+/// A socket file that a dead server left is replaced, and each is for its owner alone, and of the
+/// group that was named by its number. Who names no volume has the default one, and is offered
+/// several connections.
 #[test]
 fn socket_files_are_taken_over_from_the_dead(rt: HostRuntime) -> Result<(), Fail> {
     make_calls(&rt, "files.img", MADE)?;
-    let told = told_of_server(&rt, "files.img")?;
-    let are_for_owner = are_for_owner(&rt)?;
+    let (told, group) = told_of_server(&rt, "files.img")?;
+    let are_for_owner = are_for_owner(&rt, group)?;
     make_last_calls(&rt, "files.img", CLEAN)?;
     assert_eq!(rt;
         (told, are_for_owner),
