@@ -20,11 +20,7 @@ mod disks;
 #[cfg(test)]
 mod guests;
 #[cfg(test)]
-mod hub_tests;
-#[cfg(test)]
 mod outcome;
-#[cfg(test)]
-mod pool_tests;
 #[cfg(test)]
 mod pools;
 #[cfg(test)]

@@ -1,4 +1,4 @@
-//! A pool with a volume that is written, and what is told of pools.
+//! A pool with a volume that is written.
 
 use crate::disks::{Before, noted};
 use std::alloc::Global;
@@ -9,7 +9,7 @@ use tp_msg::{Managed, Message};
 use tp_samples::{MemServed, ROOM, opened_hub};
 
 /// The sizes of the pool: 16 virtual blocks over 4 data blocks of 128 sectors.
-pub(crate) fn sizes() -> Result<Geometry, Refusal> {
+fn sizes() -> Result<Geometry, Refusal> {
     Geometry::new(128, 16, 1032, 4)
 }
 
@@ -48,7 +48,7 @@ fn closed(pool: MemServed, filled: Result<(), Refusal>) -> Result<MemDisk, Refus
 }
 
 /// The disk of a pool with volume 0, closed.
-pub(crate) fn disk_of_volume(alloc: Global) -> Result<MemDisk, Refusal> {
+fn disk_of_volume(alloc: Global) -> Result<MemDisk, Refusal> {
     let mut pool = formatted(alloc, sizes()?)?;
     let filled = fill(&mut pool);
     closed(pool, filled)
@@ -74,44 +74,4 @@ pub(crate) fn hub_of_volume(alloc: Global) -> Option<(Hub<MemServed>, Before)> {
 /// Whether the disk of a hub has all that it had, and was not written since.
 pub(crate) fn is_kept(hub: Hub<MemServed>, before: &Before) -> bool {
     before.is_kept(&hub.into_pool().into_disk())
-}
-
-/// Whether this is the status line of a pool.
-fn has_line(pool: &mut MemServed, line: &[u8]) -> bool {
-    let mut text = [0; 192];
-    let count = pool.status(&mut text);
-    text.get(..count) == Some(line)
-}
-
-/// Whether the first sector of volume 0 is as it was filled.
-fn has_letters(pool: &mut MemServed) -> bool {
-    let mut sector = [0; 512];
-    if pool.geometry().volume_sectors() == 0 {
-        return false;
-    }
-    pool.read(DevId::new(0), 0, &mut sector).is_ok() && sector == [0x61; 512]
-}
-
-/// Whether a pool is the empty one.
-pub(crate) fn is_empty(pool: &mut MemServed) -> bool {
-    has_line(
-        pool,
-        b"0 9/1032 0/4 - rw no_discard_passdown error_if_no_space - 512",
-    )
-}
-
-/// Whether a pool is that with volume 0.
-pub(crate) fn is_of_volume(pool: &mut MemServed) -> bool {
-    has_line(
-        pool,
-        b"0 10/1032 1/4 - rw no_discard_passdown error_if_no_space - 512",
-    ) && has_letters(pool)
-}
-
-/// Whether a pool is that with volume 0, to be read alone.
-pub(crate) fn is_of_volume_to_read(pool: &mut MemServed) -> bool {
-    has_line(
-        pool,
-        b"0 10/1032 1/4 - ro no_discard_passdown error_if_no_space - 512",
-    ) && has_letters(pool)
 }

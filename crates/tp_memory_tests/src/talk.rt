@@ -73,7 +73,7 @@ fn repeated(
 }
 
 /// A whole session: GO, a write, a read of the same, a flush, and DISC.
-pub(crate) fn session(alloc: Global) -> Result<Vec<u8>, AllocError> {
+fn session(alloc: Global) -> Result<Vec<u8>, AllocError> {
     joined(alloc, &[GO, WRITE_HEAD, LETTERS, READ, FLUSH, DISC])
 }
 
@@ -98,7 +98,7 @@ pub(crate) fn session_texts(alloc: Global) -> Result<(Vec<u8>, Vec<u8>), AllocEr
 pub(crate) const READS: usize = 40;
 
 /// GO, and so many reads of a sector.
-pub(crate) fn reads(alloc: Global, count: usize) -> Result<Vec<u8>, AllocError> {
+fn reads(alloc: Global, count: usize) -> Result<Vec<u8>, AllocError> {
     repeated(alloc, &[GO], &[READ], count)
 }
 

@@ -57,7 +57,7 @@ impl World {
         let Stage::Server(server) = &mut self.stage else {
             return false;
         };
-        receive(self.alloc, server, number, bytes.as_slice(), &mut self.out);
+        self.has_resumed = receive(self.alloc, server, number, bytes.as_slice(), &mut self.out);
         true
     }
 
@@ -82,6 +82,7 @@ impl World {
             connection.has_flags = true;
         }
         add_sent(&mut bytes, call, cookie);
+        self.note_memory(bytes.is_whole());
         bytes
     }
 
@@ -324,6 +325,7 @@ impl World {
     fn play_bytes(&mut self, number: u8, text: &[u8]) -> Answer {
         let mut bytes = Buffer::new(self.alloc);
         add_spelled(&mut bytes, text);
+        self.note_memory(bytes.is_whole());
         self.play_raw(number, &bytes)
     }
 

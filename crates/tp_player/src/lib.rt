@@ -14,6 +14,7 @@ mod image;
 mod lifetimes;
 mod look;
 mod matrix;
+mod memory;
 mod option_lines;
 mod play;
 mod pool_lines;

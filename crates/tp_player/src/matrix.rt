@@ -375,6 +375,12 @@ fn new_viewer(alloc: Global, kind: Kind) -> Result<Viewer, AllocError> {
     })
 }
 
+/// Returns whether a crash at the end of a lifetime may leave its disk as it was last written.
+pub(crate) fn is_left_right(life: &World) -> Result<bool, AllocError> {
+    let mut viewer = new_viewer(life.alloc, Kind::Faults)?;
+    Ok(viewer.see(life, CrashImage::Newest, &[])?.is_some())
+}
+
 /// Plays a matrix on a closed pool.
 pub(crate) fn play_matrix(
     alloc: Global,

@@ -30,7 +30,9 @@ impl World {
         let Stage::Server(server) = &mut self.stage else {
             return Answer::Misplaced;
         };
-        connect(self.alloc, server, number, offer, &mut self.out);
+        if !connect(self.alloc, server, number, offer, &mut self.out) {
+            return Answer::Failed(Refusal::Memory);
+        }
         let answer = greeting_reply(&self.out);
         if answer == Answer::Done {
             *self.connection_mut(number) = Connection::opened(offer);
@@ -67,7 +69,9 @@ impl World {
         let Stage::Server(server) = &mut self.stage else {
             return Answer::Misplaced;
         };
-        hang_up(self.alloc, server, number, &mut self.out);
+        if !hang_up(self.alloc, server, number, &mut self.out) {
+            return Answer::Failed(Refusal::Memory);
+        }
         let answer = raw_reply(&self.out, &mut self.report);
         let expected = if self.connection(number).is_open {
             Answer::Closed

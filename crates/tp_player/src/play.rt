@@ -3,6 +3,7 @@
 use crate::counts::{Counts, Kind};
 use crate::lifetimes::Kept;
 use crate::matrix::{Plan, play_matrix};
+use crate::memory::play_refusable;
 use crate::report::Report;
 use crate::trials::{Changed, play_trial};
 use crate::world::World;
@@ -73,18 +74,33 @@ fn required<'a>(line: &Line<'a>) -> &'a [u8] {
     }
 }
 
+/// Judges the answer of a line. Returns whether it is right.
+pub(crate) fn judge_call(
+    report: &mut Report,
+    world: &World,
+    line: &Line<'_>,
+    answer: Answer,
+    text: &[u8],
+) -> bool {
+    let is_right = is_expected(line, answer, text);
+    if !is_right {
+        report.fail(line, required(line), text);
+    } else if !world.mismatch.is_empty() {
+        report.fail(line, world.mismatch.as_slice(), text);
+    }
+    is_right && world.mismatch.is_empty()
+}
+
 /// Plays a line that is a call. Returns whether it is right.
-fn play_call(report: &mut Report, world: &mut World, line: &Line<'_>) -> Result<bool, AllocError> {
+pub(crate) fn play_call(
+    report: &mut Report,
+    world: &mut World,
+    line: &Line<'_>,
+) -> Result<bool, AllocError> {
     report.count_checks(1);
     let mut text = Buffer::new(report.alloc);
     let answer = world.play_spelled(line, &mut text)?;
-    let is_right = is_expected(line, answer, text.as_slice());
-    if !is_right {
-        report.fail(line, required(line), text.as_slice());
-    } else if !world.mismatch.is_empty() {
-        report.fail(line, world.mismatch.as_slice(), text.as_slice());
-    }
-    Ok(is_right && world.mismatch.is_empty())
+    Ok(judge_call(report, world, line, answer, text.as_slice()))
 }
 
 /// Adds a number, with `*FACTOR` before the text `FACTOR` times the number, and with `+MORE` the
@@ -391,6 +407,7 @@ fn play_block(
             let plan = plan_of(inner, picks, Kind::Faults);
             play_plan(report, world, line, inner.end, &plan)
         }
+        Block::EachAllocation => play_refusable(report, world, line, inner.steps),
         Block::Random(seed, steps) => play_random(report, world, line, seed, steps),
         Block::Trial => Ok(true),
         _ => play_line(report, world, line),

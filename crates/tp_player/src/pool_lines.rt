@@ -87,6 +87,7 @@ impl World {
         self.take_used_metadata();
         let mut line = Buffer::new(self.alloc);
         let answer = self.add_status(&mut line);
+        self.note_memory(line.is_whole());
         self.report.add(line.as_slice());
         if answer != Answer::Misplaced {
             self.compare_status(answer);

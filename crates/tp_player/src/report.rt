@@ -86,6 +86,14 @@ impl Report {
         self.text.add(b"\n");
     }
 
+    /// Adds what became of a block of which an allocation may be refused.
+    pub(crate) fn add_outcome(&mut self, line: &Line<'_>, word: &[u8]) {
+        self.add_place(line.number);
+        self.text.add(b"memory: ");
+        self.text.add(word);
+        self.text.add(b"\n");
+    }
+
     /// Adds that a line is not one of a script.
     pub(crate) fn fail_line(&mut self, number: usize) {
         self.count_failure();

@@ -4,9 +4,9 @@ ghost use Rattle.std.specs.Prelude.{◌<◌};
 
 use crate::idle::MemServed;
 use nbd_session::Profile;
-use std::alloc::Global;
+use std::alloc::{AllocError, Global};
 use tp_hub::{Answers, Event, Hub, Mark};
-use tp_model::DevId;
+use tp_model::{DevId, Refusal};
 use tp_script::{
     Answer, Buffer, ClientCall, ExportName, Offer, add_contexts, add_head, add_info_option,
     add_option, add_request, add_spelled,
@@ -83,27 +83,37 @@ fn profile_of(offer: Offer) -> Profile {
     }
 }
 
+/// Connects a client. Returns whether there was memory for it.
 pub(crate) fn connect(
     alloc: Global,
     server: &mut Hub<MemServed>,
     number: u8,
     offer: Offer,
     out: &mut Answers,
-) {
+) -> bool {
     out.clear();
     let event = Event::Open(session_of(number), profile_of(offer));
-    server.run(alloc, &[event], out);
+    server.run(alloc, &[event], out).events > 0
 }
 
+/// The server receives bytes of a client, and once more what it left of them since it was refused
+/// memory. Returns whether it was.
 pub(crate) fn receive(
     alloc: Global,
     server: &mut Hub<MemServed>,
     number: u8,
     bytes: &[u8],
     out: &mut Answers,
-) {
+) -> bool {
     out.clear();
-    server.run(alloc, &[Event::Bytes(session_of(number), bytes)], out);
+    let session = session_of(number);
+    let ran = server.run(alloc, &[Event::Bytes(session, bytes)], out);
+    if ran.events > 0 {
+        return false;
+    }
+    let rest = bytes.get(ran.bytes..).unwrap_or(&[]);
+    server.run(alloc, &[Event::Bytes(session, rest)], out);
+    true
 }
 
 /// Performs one part of a request, or all that comes before its first part.
@@ -135,9 +145,16 @@ pub(crate) fn receive_shared(
     server.ask_shared(session_of(number), bytes, out).is_some()
 }
 
-pub(crate) fn hang_up(alloc: Global, server: &mut Hub<MemServed>, number: u8, out: &mut Answers) {
+/// A client closes its connection. Returns whether there was memory for the answer.
+pub(crate) fn hang_up(
+    alloc: Global,
+    server: &mut Hub<MemServed>,
+    number: u8,
+    out: &mut Answers,
+) -> bool {
     out.clear();
-    server.run(alloc, &[Event::Hangup(session_of(number))], out);
+    let event = Event::Hangup(session_of(number));
+    server.run(alloc, &[event], out).events > 0
 }
 
 fn run_line(alloc: Global, server: &mut Hub<MemServed>, event: Event<'_>, out: &mut Answers) {
@@ -165,6 +182,7 @@ pub(crate) fn handle(
         [Mark::Done] => Answer::Done,
         [Mark::Refused { reason }] => Answer::Failed(*reason),
         [Mark::Line { .. }] => Answer::Reported,
+        [] => Answer::Failed(Refusal::Memory),
         _ => Answer::Strange,
     }
 }
@@ -187,7 +205,9 @@ fn add_named_option(out: &mut Buffer, call: ClientCall<'_>) {
         _ => return,
     };
     let name = name_of(out.alloc(), name);
-    if option == 1 {
+    if !name.is_whole() {
+        out.add_text(Err(AllocError));
+    } else if option == 1 {
         add_option(out, option, name.as_slice());
     } else {
         add_info_option(out, option, name.as_slice());

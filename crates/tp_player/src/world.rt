@@ -60,6 +60,10 @@ pub(crate) struct World {
     pub has_failed: bool,
     /// Whether there was memory for all that the reference model had to do.
     has_memory: bool,
+    /// Whether the server was refused memory in the last line, and then went on.
+    pub has_resumed: bool,
+    /// The last allocation that marks where a tool refuses others.
+    pub mark: Vec<u8>,
     pub connections: [Connection; CONNECTIONS],
     pub out: Answers,
     /// The text that the last line reported.
@@ -96,6 +100,8 @@ impl World {
             history: None,
             has_failed: false,
             has_memory: true,
+            has_resumed: false,
+            mark: Vec::new(alloc),
             connections: [Connection::CLOSED; CONNECTIONS],
             out: Answers::new(alloc),
             report: Buffer::new(alloc),
@@ -183,6 +189,7 @@ impl World {
         self.report.clear();
         self.values.clear();
         self.mismatch.clear();
+        self.has_resumed = false;
     }
 
     /// Notes whether there was memory for what the reference model did.

@@ -24,6 +24,8 @@
 //!   `second`, `in-turn`, `newest-superblocks`, `oldest-superblocks`, `newest-from SECTOR` or `mixed SEED`.
 //! - A matrix: `each call: crash IMAGE.. .. [then ..] end` or `each call: fail ..` plays a block for each of its disk calls; the block
 //!   after `then [IMAGE..]` is a second lifetime on each image that the first one leaves. `end = TEXT` compares the counts.
+//! - Refused memory: `each allocation: refuse .. end` plays calls on a disk or a pool, and reports a word. It is `done` unless `tools/refused_memory`
+//!   refuses one of their allocations: a call may then fail with `Memory`, if it wrote nothing, and is played again.
 //! - `repeat A B LINE` plays the line for each number in place of `$`, with 128 times it for `$*128` and 128 more for `$+128`.
 //!   `random SEED COUNT` plays random calls.
 //!

@@ -196,6 +196,8 @@ pub enum Block<'a> {
     IfCrashed(CrashImage),
     EachCrash(Picks),
     EachFault(Picks),
+    /// Calls of which each allocation may be refused.
+    EachAllocation,
     /// The images of the second lifetime, if they differ from those of the first.
     Then(Picks),
     End,
@@ -226,7 +228,11 @@ impl Verb<'_> {
         matches!(
             self,
             Verb::Block(
-                Block::IfCrashed(_) | Block::EachCrash(_) | Block::EachFault(_) | Block::Trial
+                Block::IfCrashed(_)
+                    | Block::EachCrash(_)
+                    | Block::EachFault(_)
+                    | Block::EachAllocation
+                    | Block::Trial
             )
         )
     }

@@ -33,8 +33,12 @@ fn crash_images(words: &mut Words<'_>) -> Picks {
     picks
 }
 
-/// Reads a line of a matrix, after `each`.
+/// Reads a line after its first word, `each`.
 fn each_call<'a>(words: &mut Words<'_>) -> Block<'a> {
+    if words.take("allocation:") {
+        words.expect("refuse");
+        return Block::EachAllocation;
+    }
     words.expect("call:");
     match words.next_name() {
         "crash" => Block::EachCrash(crash_images(words)),

@@ -6,8 +6,6 @@
 #[cfg(test)]
 mod listing;
 #[cfg(test)]
-mod memory;
-#[cfg(test)]
 mod parts;
 #[cfg(test)]
 mod pools;

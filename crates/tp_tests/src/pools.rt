@@ -41,7 +41,7 @@ pub(crate) fn close(pool: MemServed) -> (Result<(), Refusal>, MemDisk) {
 }
 
 /// Makes a disk the empty pool of this geometry.
-pub(crate) fn formatted(
+fn formatted(
     alloc: Global,
     geometry: Geometry,
     room: Room,
