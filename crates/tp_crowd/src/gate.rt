@@ -58,7 +58,7 @@ pub(crate) struct Gate {
     places: [ClientPlace; 64],
     /// What is offered to each.
     profile: Profile,
-    /// Who has a place of control clients, and who waits for one.
+    /// The places of control clients, and the clients that wait for one.
     control: Queue,
     /// Whether no more is read of the clients that are served.
     is_over: AtomicBool,
@@ -89,7 +89,7 @@ impl Gate {
         }
     }
 
-    /// Who has a place of control clients, and who waits for one.
+    /// The places of control clients, and the clients that wait for one.
     pub(crate) fn control(&self) -> &Queue {
         &self.control
     }

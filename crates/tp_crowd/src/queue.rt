@@ -5,27 +5,26 @@ use std::net::TcpStream;
 use std::sync::atomic::{AtomicU64, Ordering};
 use std::sync::{Mutex, Wait};
 
-/// So many control clients have a place: all their lines are answered. Of any other one only `health`
-/// is.
+/// How many control clients have a place. All their lines are answered, of any other client only
+/// `health`.
 pub(crate) const RULERS: u8 = 4;
 
 /// The most control clients that wait for a place. Further ones are disconnected.
 const MOST_WAITING: usize = 64;
 
-/// The places that are free, and the clients that wait for one, in order. None waits while a place is
-/// free.
+/// The count of free places, and the clients that wait for one, in order. No client waits while a place
+/// is free.
 #[derive(Drop)]
 struct Places {
     free: u8,
     waiting: Vec<TcpStream>,
 }
 
-/// Gives the places to control clients. A thread has a place from where it took one until `next` finds
-/// no client for it.
+/// Assigns the places to control clients. A thread that took a place has it until `next` returns `None`.
 #[derive(Drop)]
 pub(crate) struct Queue {
     places: Mutex<Places>,
-    /// How many clients wait, for those who look without the lock.
+    /// How many clients wait, to be read without the lock.
     waiting: AtomicU64,
 }
 
@@ -54,8 +53,8 @@ impl Queue {
         is_free
     }
 
-    /// Takes a place for a client, and gives it back, or leaves it to wait if none is free. It is
-    /// disconnected if too many wait, or if there is no memory for it.
+    /// Takes a place for a client, and returns the client. If no place is free, the client waits, or is
+    /// disconnected if 64 wait or if there is no memory.
     pub(crate) fn enter<R: Wait>(&self, rt: &R, client: TcpStream) -> Option<TcpStream> {
         let mut places = self.places.lock(rt);
         if places.free > 0 {
@@ -68,7 +67,7 @@ impl Queue {
         None
     }
 
-    /// Gives a place on to the client that has waited longest. If none waits, the place is free.
+    /// Passes a place on to the client that has waited longest. If no client waits, the place is free.
     pub(crate) fn next<R: Wait>(&self, rt: &R) -> Option<TcpStream> {
         let mut places = self.places.lock(rt);
         if places.waiting.is_empty() {

@@ -18,7 +18,7 @@ use std::net::TcpStream;
 use std::sync::atomic::{AtomicBool, Ordering};
 use std::sync::{Mutex, Wait};
 use std::time::Clock;
-use tp_hub::{Answers, Desk, Event, Mark, Ran, Received, SESSIONS, Seat, Stream};
+use tp_hub::{Answers, Desk, Event, Mark, Ran, SESSIONS, Seat, Stream};
 use tp_lines::{LinesEnd, attend_lines};
 use tp_lock::{CENSUS, HEALTH, Health, HubLock, LockedDesk, Start, put_census, put_health};
 use tp_model::{Refusal, Staged};
@@ -30,8 +30,8 @@ pub(crate) type Askers = Mutex<Vec<TcpStream>>;
 /// The line that is answered without a place, as it is sent.
 const HEALTH_LINE: &[u8; 7] = b"health\n";
 
-/// So often it is looked what a client without a place has sent. A look that finds no whole line takes
-/// two tenths of a second at most, so a silent client has a second.
+/// How often it is looked what a client without a place has sent. A look that finds no whole line takes
+/// 0.2 s at most, so a silent client has a second.
 const MOST_LOOKS: u32 = 5;
 
 /// What a control line may want of those who serve.
@@ -135,7 +135,7 @@ fn tell_clients<R: Wait, V: Staged, A: Chronicle<V>, K: Start<V>>(
     WHOLE
 }
 
-/// Tells what was recorded of the pool.
+/// Replies with the line of a record.
 fn tell_record(health: Health, out: &mut Answers)
     requires { HasRoom out.old }
     ensures { IsToldHow health out.old out.new }
@@ -145,7 +145,7 @@ fn tell_record(health: Health, out: &mut Answers)
     out.tell(&line[..end]);
 }
 
-/// The same in the place of a line.
+/// Replies to a line `health` with a record, unless there is no memory for the reply.
 fn tell_health(health: Health, line: &[u8], out: &mut Answers) -> Ran
     ensures { IsAsked (λ took answers. TellsSo line.now (TellsHow health) took answers) (Orders line.now) result.events result.bytes out.old out.new }
 {
@@ -414,8 +414,8 @@ fn answer_health(health: Health, mut stream: &TcpStream) -> bool {
     stream.write_all(&text[..=end]).is_ok()
 }
 
-/// Answers the lines `health` of a client that has no place, up to another line, or until it has been
-/// silent for a second, or for a part of that if a further client comes. False if it has left.
+/// Answers the lines `health` of a client that has no place, up to another line, or until the client
+/// has been silent for a second, or for 0.2 s if a further one connects. False if it has left.
 fn attend_placeless<R, V, A, K>(
     rt: &R,
     hub: &HubLock<'_, V, A, K>,
@@ -449,8 +449,9 @@ where
     true
 }
 
-/// Takes a place for a control client that has come. If none is free, it is answered `health`, and
-/// waits. It is disconnected if no call of it can be bounded in time.
+/// Takes a place for a control client that has connected, and returns the client. If no place is free,
+/// its lines `health` are answered, and then it waits. It is disconnected if its calls cannot be bounded
+/// in time.
 fn place_ruler<R, V, A, K>(
     rt: &R,
     hub: &HubLock<'_, V, A, K>,

@@ -229,7 +229,7 @@ where
 }
 
 /// Tells the pool's status about once a second, and whether a control client waits, until all are gone, and lets go of those who take no answers when it is
-/// over. It is over, too, when the pool has failed, if the chronicle says so.
+/// over. It is over when the pool has failed, too, if the chronicle says so.
 fn watch<'m, R, V, A, K>(
     rt: &'m R,
     alloc: Global,
@@ -425,11 +425,13 @@ where
 /// Serves clients without end, 64 at a time, from when they come to one of the doors, and offers this to each. Who comes when all places are taken waits. Each thread serves one client after
 /// another, always as the session of one number.
 ///
-/// Beside them it answers the lines of control clients, four of them at a time, and `health` of any other one, as [`serve_listener_with_control`](crate::serve_listener_with_control) does. A
+/// Beside them it answers the lines of control clients, four of them at a time, as [`serve_listener_with_control`](crate::serve_listener_with_control) does. Up to
+/// 64 more wait. One of these is answered `health` if it sends that at first, within a second, so that a monitor is answered while the others wait for the pool. A
 /// control client that has sent `stop` or `stop now` gives way to no other one. Five
 /// lines more are no messages to the pool. `flush` is a flush of it, answered `ok` when what was written is kept. `clients` tells how many are served, and the
-/// ids of the volumes that they have in ascending order, one for each who has a volume: `3 of 64: 0 7 7`. `health` is answered `ok`, `failed`, or `stalled` and
-/// for how many seconds, 2 at least, a sync or a change is under way; no lock is taken for it. Behind `stop` nobody is let in any more, and it ends
+/// ids of the volumes that they have in ascending order, one for each who has a volume: `3 of 64: 0 7 7`. `health` is answered `failed` when the
+/// pool has failed, `stalled` and the age in seconds of a sync or a change that began 2 s ago or earlier, and else `ok`; it takes no lock, and no clause states that
+/// the reply is true. When the pool has failed it ends as behind `stop now`, if the chronicle says so. Behind `stop` nobody is let in any more, and it ends
 /// when the last client has gone; behind `stop now` nothing more is read of the clients, half a second later at most, and what was read of them is answered, as
 /// far as they take the answers within some five seconds. Both are answered `ok` at once. Without a control door, and without these lines, it goes on for ever.
 ///

@@ -504,15 +504,7 @@ where
         hub,
         is_manned: _,
         askers: _,
-    } = serve_until_stopped(
-        rt,
-        rt.alloc(),
-        hub,
-        &[],
-        Some(control),
-        profile,
-        &chronicle,
-    );
+    } = serve_until_stopped(rt, rt.alloc(), hub, &[], Some(control), profile, &chronicle);
     Ok(hub.into_pool().mode() == Mode::Failed)
 }
 

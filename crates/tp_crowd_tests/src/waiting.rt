@@ -15,7 +15,7 @@ pub(crate) struct Seen {
     bytes: AtomicU64,
     letters: AtomicU64,
     in_vain: AtomicBool,
-    /// Where it is a chronicle: whether nobody is served any more when the pool has failed.
+    /// Of a chronicle: whether the server ends when the pool has failed.
     ends_on_failure: bool,
 }
 
@@ -33,7 +33,7 @@ impl Seen {
         Seen::of(false)
     }
 
-    /// A chronicle of those who serve until the pool has failed.
+    /// A chronicle of a server that ends when the pool has failed.
     pub(crate) fn until_failed() -> Seen {
         Seen::of(true)
     }
