@@ -241,6 +241,7 @@ def idle_control_clients(host):
         for it in idle[1:]:
             it.sendall(b"clients\n")
             want((line_of(it) == b"0 of 64:\n", "a line is not answered"))
+        want((server.control("health", 5) == "ok", "`health` waits for a place"))
         began = time.monotonic()
         answer = server.control("clients", 2 * SILENT)
         took = time.monotonic() - began

@@ -4,15 +4,16 @@ use Rattle.std.specs.Prelude.{Err, IsOk, Ok, Result, is_err}
 use Rattle.std.proofs.lemmas.Bool.{true≢false}
 use Rattle.tp_model.specs.Clauses.{View}
 use Rattle.tp_hub.specs.declared.seat.Seat.{Seat}
-use Rattle.tp_hub.specs.Told.{Answer, HasRoom, KeepsRoom, Told}
+use Rattle.tp_hub.specs.Told.{Answer, HasRoom, KeepsRoom, Lines, Told}
 use Rattle.tp_hub.specs.Runs.{AsksFlush, Orders}
 use Rattle.tp_hub.specs.Desks.{IsAsked}
 use Rattle.tp_hub.specs.Serving.{Slots}
 use Rattle.tp_hub.proofs.Turning.{grows_behind}
 use Rattle.tp_crowd.specs.declared.ruling.Command.{Command}
 use Rattle.tp_lock.specs.Census.{AreSeats}
+use Rattle.tp_lock.specs.declared.health.Health.{Health}
 use Rattle.tp_lock.specs.Locked.{SomeRuns}
-use Rattle.tp_crowd.specs.Ruling.{IsCommand, IsRuled, IsToldOf, Obeys, TellsSo, TellsWho}
+use Rattle.tp_crowd.specs.Ruling.{IsCommand, IsRuled, IsToldHow, IsToldOf, Obeys, TellsHow, TellsSo, TellsWho}
 
 -- who is served was told in the place of a line
 pub clients_told : (line : List ℕ) (slots : Slots) (seats : List Seat) (before mid after : Told) → AreSeats slots seats → mid.list ≡ before.list → KeepsRoom before mid → before.marks ≤ mid.marks → IsToldOf seats mid after
@@ -24,6 +25,30 @@ clients_told line slots seats before mid after are same room marks (answer, grow
   cut = (refl, refl);
   silent = λ none nothing. absurd (omega (arith, none));
   begun = λ fits. omega arith;
+}
+
+-- how the pool is was told in the place of a line
+pub health_told : (line : List ℕ) (how : Health) (before mid after : Told) → mid.list ≡ before.list → KeepsRoom before mid → before.marks ≤ mid.marks → IsToldHow how mid after
+    → IsAsked (λ took answers. TellsSo line (TellsHow how) took answers) (Orders line) 1 0 before after
+health_told line how before mid after same room marks (text, grows, is) = record {
+  answers = Lines text ∷ [];
+  did = inr (refl, (text, is, refl));
+  adds = grows_behind before mid after (Lines text ∷ []) same room marks grows;
+  cut = (refl, refl);
+  silent = λ none nothing. absurd (omega (arith, none));
+  begun = λ fits. omega arith;
+}
+
+-- it was told of some record
+pub some_health_told : {D : Type 0} (view : View D) (line : List ℕ) (how : Health) (events bytes : ℕ) (before after : Told) → IsAsked (λ took answers. TellsSo line (TellsHow how) took answers) (Orders line) events bytes before after
+    → IsAsked (λ took answers. TellsSo line (Obeys view Command.Health) took answers) (Orders line) events bytes before after
+some_health_told view line how events bytes before after a = record {
+  answers = a.answers;
+  did = elim a.did [ inl none ↦ inl none | inr told ↦ inr (told.0, (how, told.1)) ];
+  adds = a.adds;
+  cut = a.cut;
+  silent = a.silent;
+  begun = a.begun;
 }
 
 -- there was no memory for an answer

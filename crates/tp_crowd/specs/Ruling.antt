@@ -11,8 +11,10 @@ use Rattle.tp_lines.specs.declared.control.LinesEnd.{LinesEnd}
 use Rattle.tp_lines.specs.Controls.{AttendsLines}
 use Rattle.tp_lines.specs.ReadLines.{Leads}
 use Rattle.tp_crowd.specs.declared.ruling.Command.{Command}
-use Rattle.tp_crowd.specs.declared.ruling.Command.TheVariants.{Stop, StopNow, Flush, Clients}
+use Rattle.tp_crowd.specs.declared.ruling.Command.TheVariants.{Stop, StopNow, Flush, Clients, Health}
 use Rattle.tp_lock.specs.Census.{AreSeats, IsCensus}
+use Rattle.tp_lock.specs.Health.{IsHealth}
+use Rattle.tp_lock.specs.declared.health.Health as health
 use Rattle.tp_lock.specs.Locked.{SomeRuns}
 
 -- Control lines are read from a stream, and each is asked for once and answered; what becomes of the hub between two of them is not said. told: the calls of the stream.
@@ -25,21 +27,31 @@ IsCommand line Stop = line ≡ codes "stop"
 IsCommand line StopNow = line ≡ codes "stop now"
 IsCommand line Flush = line ≡ codes "flush"
 IsCommand line Clients = line ≡ codes "clients"
+IsCommand line Health = line ≡ codes "health"
 
 -- what is told of who is served: of some hub; or there was no memory for it
 abbrev pub TellsWho : List Answer → Type 0
 TellsWho answers = ((slots : Slots) × (seats : List Seat) × (line : List ℕ) × AreSeats slots seats × IsCensus seats line × (answers ≡ Lines line ∷ [])) ⊎ (answers ≡ Refuses Memory ∷ [])
 
+-- what is told of this record of a pool: `failed` if the record says that it has failed
+abbrev pub TellsHow : health.Health → List Answer → Type 0
+TellsHow how answers = (line : List ℕ) × IsHealth how line × (answers ≡ Lines line ∷ [])
+
+-- of this record, behind what was told before
+abbrev pub IsToldHow : health.Health → Told → Told → Type 0
+IsToldHow how before after = (line : List ℕ) × Grows before after (Lines line ∷ []) × IsHealth how line
+
 -- of these, behind what was told before
 abbrev pub IsToldOf : List Seat → Told → Told → Type 0
 IsToldOf seats before after = (answer : Answer) × Grows before after (answer ∷ []) × (((line : List ℕ) × IsCensus seats line × (answer ≡ Lines line)) ⊎ (answer ≡ Refuses Memory))
 
--- What is answered: a flush is one of the pool, and its answer.
+-- What is answered: a flush is one of the pool, and its answer; how the pool is, of some record of it. No clause knows what an atomic holds, so none says that the record is right.
 abbrev pub Obeys : {D : Type 0} → View D → Command → List Answer → Type 0
 Obeys view Stop answers = answers ≡ Accepts ∷ []
 Obeys view StopNow answers = answers ≡ Accepts ∷ []
 Obeys view Flush answers = SomeRuns view (AsksFlush ∷ []) answers
 Obeys view Clients answers = TellsWho answers
+Obeys view Health answers = (how : health.Health) × TellsHow how answers
 
 -- A line is answered so; or there was no memory for that, and nothing is told.
 abbrev pub TellsSo : List ℕ → (List Answer → Type 0) → List Incoming → List Answer → Type 0

@@ -56,6 +56,9 @@ pub trait Chronicle<V>: Alarm<V> {
     /// A client of this number named a volume that does not exist, in an option GO.
     fn no_volume(&self, number: u8, name: &[u8]);
 
+    /// Whether the server ends when the pool has failed.
+    fn ends_on_failure(&self) -> bool;
+
     /// A request of a client of this number was refused for lack of space.
     fn no_space(&self, number: u8);
 }

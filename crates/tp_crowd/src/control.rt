@@ -17,7 +17,7 @@ use std::marker::Brand;
 use std::net::{TcpListener, TcpStream};
 use std::os::fd::{AsRawFd, RawFd};
 use std::sync::Wait;
-use std::sync::atomic::{AtomicBool, Ordering};
+use std::sync::atomic::{AtomicBool, AtomicU64, Ordering};
 use std::thread::Threads;
 use std::time::{Clock, Duration};
 use std::{io, thread};
@@ -166,7 +166,7 @@ where
 }
 
 /// Whether a call may be made again: it waited too long, or was interrupted, or the one who came is gone already.
-fn is_for_now(error: &io::Error) -> bool {
+pub(crate) fn is_for_now(error: &io::Error) -> bool {
     matches!(
         error.kind(),
         ErrorKind::WouldBlock
@@ -207,11 +207,13 @@ where
     }
     let is_kept = AtomicBool::new(false);
     let is_one_leaving = AtomicBool::new(false);
+    let waiting = AtomicU64::new(0);
     let mut watched = Watched::new(
         stream,
         are_gone,
         &is_kept,
         control.as_raw_fd(),
+        &waiting,
         &is_one_leaving,
     );
     answer_lines(rt, alloc, hub, &mut watched);
@@ -249,6 +251,8 @@ pub(crate) struct Watched<'a> {
     is_kept: &'a AtomicBool,
     /// The descriptor of the listener at which other control clients wait.
     listener: RawFd,
+    /// How many were accepted there and wait for a place.
+    waiting: &'a AtomicU64,
     /// Whether one gives way, and the next one was not accepted since.
     is_one_leaving: &'a AtomicBool,
     /// How many reads in a row brought nothing.
@@ -264,6 +268,7 @@ impl<'a> Watched<'a> {
         are_gone: &'a AtomicBool,
         is_kept: &'a AtomicBool,
         listener: RawFd,
+        waiting: &'a AtomicU64,
         is_one_leaving: &'a AtomicBool,
     ) -> Watched<'a> {
         Watched {
@@ -272,6 +277,7 @@ impl<'a> Watched<'a> {
             are_gone,
             is_kept,
             listener,
+            waiting,
             is_one_leaving,
             silent: 0,
             looks: 0,
@@ -282,7 +288,7 @@ impl<'a> Watched<'a> {
     fn is_in_the_way(&self) -> bool {
         self.silent >= MOST_SILENT
             && !self.is_kept.load(Ordering::SeqCst)
-            && has_caller(self.listener)
+            && (self.waiting.load(Ordering::SeqCst) > 0 || has_caller(self.listener))
     }
 
     /// Whether it gives way now: of those that are in the way one does, until the next client is

@@ -1,7 +1,9 @@
 //! Which clients are accepted, which are served now, and how both come to an end.
 
 use crate::door::Door;
+use crate::queue::Queue;
 use nbd_session::Profile;
+use std::alloc::Global;
 use std::io;
 use std::net::{Shutdown, SocketAddr, TcpStream};
 use std::sync::atomic::{AtomicBool, Ordering};
@@ -56,6 +58,8 @@ pub(crate) struct Gate {
     places: [ClientPlace; 64],
     /// What is offered to each.
     profile: Profile,
+    /// The places of control clients, and the clients that wait for one.
+    control: Queue,
     /// Whether no more is read of the clients that are served.
     is_over: AtomicBool,
     /// Whether the last client has gone, and no new one will come.
@@ -67,9 +71,10 @@ impl Gate {
     ghost use Rattle.std.specs.Prelude.{◌<◌};
 
     /// Nobody has come yet.
-    pub(crate) fn new(profile: Profile) -> Gate {
+    pub(crate) fn new(alloc: Global, profile: Profile) -> Gate {
         Gate {
             profile,
+            control: Queue::new(alloc),
             porch: Mutex::new(Porch {
                 caller: None,
                 is_shut: false,
@@ -82,6 +87,11 @@ impl Gate {
             is_empty: Mutex::new(false),
             empties: Condvar::new(),
         }
+    }
+
+    /// The places of control clients, and the clients that wait for one.
+    pub(crate) fn control(&self) -> &Queue {
+        &self.control
     }
 
     /// What is offered to each who is let in.

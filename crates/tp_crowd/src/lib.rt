@@ -24,6 +24,7 @@ mod listening;
 mod noticing;
 mod pause;
 mod polled;
+mod queue;
 mod ruling;
 mod sockets;
 mod staying;

@@ -13,6 +13,7 @@ use crate::gate::{Caller, Gate, PLACES};
 use crate::guest::{Guest, GuestDesk};
 use crate::noticing::Unanswered;
 use crate::pause::pause;
+use crate::queue::RULERS;
 use crate::ruling::{Askers, rule};
 use crate::sockets::Socket;
 use nbd_session::Profile;
@@ -31,9 +32,6 @@ use tp_msg::Managed;
 
 /// When clients are told that it is over, so many seconds or so are left to them to take what they are answered.
 const LAST_SECONDS: u32 = 5;
-
-/// So many control clients are answered at a time.
-const RULERS: u8 = 4;
 
 /// What serving without end gives back, when the last client has gone.
 pub struct Stayed<V: Volumes> {
@@ -231,12 +229,13 @@ where
 }
 
 /// Tells the pool's status about once a second, and whether a control client waits, until all are gone, and lets go of those who take no answers when it is
-/// over.
+/// over. It is over when the pool has failed, too, if the chronicle says so.
 fn watch<'m, R, V, A, K>(
     rt: &'m R,
     alloc: Global,
     hub: &'m HubLock<'m, V, A, K>,
     gate: &Gate,
+    doors: &[Door],
     control: Option<&Door>,
 )
 where
@@ -253,11 +252,14 @@ where
         desk.ask(Event::Status, &mut out);
         hub.alarm().status(out.bytes());
         out.clear();
-        let waits = is_waited_at(control);
+        let waits = is_waited_at(gate, control);
         if waited && waits {
             hub.alarm().control_waits();
         }
         waited = waits;
+        if hub.alarm().ends_on_failure() && hub.health().has_failed {
+            gate.clear(rt, doors);
+        }
         if gate.wait_for_end(rt) {
             return;
         }
@@ -265,11 +267,13 @@ where
     }
 }
 
-/// Whether a client has connected to a door of control lines and was not accepted yet.
-fn is_waited_at(control: Option<&Door>) -> bool {
+/// Whether a client has connected to a door of control lines and has no place yet.
+fn is_waited_at(gate: &Gate, control: Option<&Door>) -> bool {
     match control {
         None => false,
-        Some(door) => has_caller(door.descriptor()),
+        Some(door) => {
+            gate.control().waiting().load(Ordering::SeqCst) > 0 || has_caller(door.descriptor())
+        }
     }
 }
 
@@ -290,7 +294,7 @@ where
     K: Start<V> + Send + Sync,
 {
     thread::scope(thread::scope_env(), rt, move |scope| -> bool {
-        let side = move || watch(rt, alloc, hub, gate, control);
+        let side = move || watch(rt, alloc, hub, gate, doors, control);
         let is_watched = scope.spawn(side).is_ok();
         if !is_watched {
             gate.shut(rt, doors);
@@ -372,7 +376,7 @@ where
 {
     thread::scope(thread::scope_env(), rt, move |scope| -> bool {
         let mut is_ruled = true;
-        for _ in 0..RULERS {
+        for _ in 0..=RULERS {
             let side = move || court.rule();
             if scope.spawn(side).is_err() {
                 is_ruled = false;
@@ -421,10 +425,13 @@ where
 /// Serves clients without end, 64 at a time, from when they come to one of the doors, and offers this to each. Who comes when all places are taken waits. Each thread serves one client after
 /// another, always as the session of one number.
 ///
-/// Beside them it answers the lines of control clients, four of them at a time, as [`serve_listener_with_control`](crate::serve_listener_with_control) does. A
-/// control client that has sent `stop` or `stop now` gives way to no other one. Four
+/// Beside them it answers the lines of control clients, four of them at a time, as [`serve_listener_with_control`](crate::serve_listener_with_control) does. Up to
+/// 64 more wait. One of these is answered `health` if it sends that at first, within a second, so that a monitor is answered while the others wait for the pool. A
+/// control client that has sent `stop` or `stop now` gives way to no other one. Five
 /// lines more are no messages to the pool. `flush` is a flush of it, answered `ok` when what was written is kept. `clients` tells how many are served, and the
-/// ids of the volumes that they have in ascending order, one for each who has a volume: `3 of 64: 0 7 7`. Behind `stop` nobody is let in any more, and it ends
+/// ids of the volumes that they have in ascending order, one for each who has a volume: `3 of 64: 0 7 7`. `health` is answered `failed` when the
+/// pool has failed, `stalled` and the age in seconds of a sync or a change that began 2 s ago or earlier, and else `ok`; it takes no lock, and no clause states that
+/// the reply is true. When the pool has failed it ends as behind `stop now`, if the chronicle says so. Behind `stop` nobody is let in any more, and it ends
 /// when the last client has gone; behind `stop now` nothing more is read of the clients, half a second later at most, and what was read of them is answered, as
 /// far as they take the answers within some five seconds. Both are answered `ok` at once. Without a control door, and without these lines, it goes on for ever.
 ///
@@ -477,7 +484,7 @@ where
     ensures asked { IsFrom V.view K.is_start result.hub }
 {
     let shared = HubLock::<V, A, K>::new(hub, chronicle);
-    let gate = Gate::new(profile);
+    let gate = Gate::new(alloc, profile);
     let askers = Mutex::new(Vec::new(alloc));
     let is_manned = match control {
         None => attend_watched(rt, alloc, &shared, &gate, doors, None),

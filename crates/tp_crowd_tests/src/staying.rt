@@ -15,8 +15,8 @@ use std::thread::{Threads, join};
 use std::time::{Clock, Duration};
 use tp_crowd::{Door, Stayed, serve_until_stopped};
 use tp_hub::Hub;
-use tp_model::Refusal;
-use tp_shelf::{Shelf, blank_shelf};
+use tp_model::{Mode, Refusal, Volumes};
+use tp_shelf::{Shelf, blank_shelf, failing_shelf};
 
 /// So many clients come one after the other: more than are served at a time.
 const CLIENTS: u32 = 70;
@@ -104,6 +104,8 @@ where
 const LINES: &[(&[u8], &[u8])] = &[
     (b"clients\n", b"2 of 64: 0\n"),
     (b"flush\n", b"ok\n"),
+    (b"health\n", b"ok\n"),
+    (b"health now\n", b"refused 11\n"),
     (b"flush now\n", b"refused 11\n"),
     (b"size x\n", b"refused 11\n"),
     (b"flushed\n", b"refused 12\n"),
@@ -446,7 +448,7 @@ const WHILE_SERVED: [(Guests, Told); 3] = [
         ((CLIENTS, true), (true, 0, CLIENTS as u64)),
     ),
     (Guests::OneMore, ((2, true), (true, 0, 65))),
-    (Guests::Ask, ((6, true), (true, 0, 2))),
+    (Guests::Ask, ((8, true), (true, 0, 2))),
 ];
 
 /// Where it is to stop now, a client that stays is at its end; one that takes no answers is let go some seconds later; and one that takes them late has all
@@ -486,5 +488,49 @@ fn clients_come_without_end(rt: HostRuntime) -> Result<(), Fail> {
 fn who_stays_is_let_go(rt: HostRuntime) -> Result<(), Fail> {
     let others = first_others(&rt, &AT_A_STOP)?;
     assert_eq!(rt; others, None);
+    Ok(())
+}
+
+/// Serves a pool that fails in its first flush, without an NBD client and until the pool has failed.
+/// Returns whether it has.
+fn served_until_failed<H>(rt: &H, control: &Door) -> Result<bool, Refusal>
+where
+    H: Threads + Wait + Clock + Sync + Alloc<A = Global>,
+{
+    let hub = Hub::new(failing_shelf()?);
+    let chronicle = Seen::until_failed();
+    let profile = Profile::Strict;
+    let Stayed {
+        hub,
+        is_manned: _,
+        askers: _,
+    } = serve_until_stopped(rt, rt.alloc(), hub, &[], Some(control), profile, &chronicle);
+    Ok(hub.into_pool().mode() == Mode::Failed)
+}
+
+/// A control client sends `flush`, by which the pool fails, and `health`. Returns whether the replies
+/// are right, and whether the pool has failed when the server ends by itself.
+fn told_of_failing<H>(rt: &H) -> Result<(bool, bool), Fail>
+where
+    H: Net<Listener = TcpListener, Stream = TcpStream>
+        + Threads
+        + Wait
+        + Clock
+        + Sync
+        + Alloc<A = Global>,
+{
+    let (control, lines) = door_of_loopback(rt)?;
+    let (told, left) = join(
+        rt,
+        || is_answered(rt, lines, b"flush\nhealth\n", b"refused 2\nfailed\n"),
+        || served_until_failed(rt, &control),
+    );
+    Ok((told?, left?))
+}
+
+/// No control line stops the server.
+#[test]
+fn a_failed_pool_ends_all(rt: HostRuntime) -> Result<(), Fail> {
+    assert_eq!(rt; told_of_failing(&rt)?, (true, true));
     Ok(())
 }

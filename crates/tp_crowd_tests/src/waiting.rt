@@ -15,15 +15,27 @@ pub(crate) struct Seen {
     bytes: AtomicU64,
     letters: AtomicU64,
     in_vain: AtomicBool,
+    /// Of a chronicle: whether the server ends when the pool has failed.
+    ends_on_failure: bool,
 }
 
 impl Seen {
-    pub(crate) fn nothing() -> Seen {
+    fn of(ends_on_failure: bool) -> Seen {
         Seen {
             bytes: AtomicU64::new(0),
             letters: AtomicU64::new(0),
             in_vain: AtomicBool::new(false),
+            ends_on_failure,
         }
+    }
+
+    pub(crate) fn nothing() -> Seen {
+        Seen::of(false)
+    }
+
+    /// A chronicle of a server that ends when the pool has failed.
+    pub(crate) fn until_failed() -> Seen {
+        Seen::of(true)
     }
 
     pub(crate) fn bytes(&self) -> u64 {
@@ -87,6 +99,10 @@ impl<V> Chronicle<V> for Seen {
     fn not_accepted(&self, _error: &io::Error) {}
 
     fn no_volume(&self, _number: u8, _name: &[u8]) {}
+
+    fn ends_on_failure(&self) -> bool {
+        self.ends_on_failure
+    }
 
     fn no_space(&self, _number: u8) {}
 }

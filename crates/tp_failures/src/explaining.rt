@@ -126,6 +126,7 @@ impl Display for Explanation<'_> {
             ),
             Cause::Reach(error) => write!(f, "{address} cannot be reached: {error}"),
             Cause::Answered => explain_answer(self.failure.refusal, f),
+            Cause::Unwell => explain_health(self.failure.refusal, address, f),
             Cause::Unquoted => explain_unquoted(address, f),
             Cause::Unanswered(count) => {
                 write!(f, "server closed the connection after {count} replies")
@@ -142,6 +143,18 @@ impl Display for Explanation<'_> {
 /// Explains why a server refused a control line.
 fn explain_answer<W: fmt::Write>(refusal: Refusal, f: &mut Formatter<W>) -> fmt::Result {
     write!(f, "the server refused a line: {}", reason_of(refusal))
+}
+
+/// Explains why a server is not well.
+fn explain_health<W: fmt::Write>(
+    refusal: Refusal,
+    place: &str,
+    f: &mut Formatter<W>,
+) -> fmt::Result {
+    match refusal {
+        Refusal::Failed => write!(f, "the pool of {place} failed; restart its server"),
+        _ => write!(f, "the device of {place} does not answer"),
+    }
 }
 
 /// Explains why the lines `stop` and `now` were not sent.

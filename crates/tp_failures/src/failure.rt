@@ -49,6 +49,8 @@ pub enum Cause {
     Reach(io::Error),
     /// The server replied `refused N` to a line.
     Answered,
+    /// The server replied to `health` that its pool failed, or that its device does not answer.
+    Unwell,
     /// The control line `stop now` was not quoted, so it came as two lines.
     Unquoted,
     /// The server closed the connection after this number of replies.

@@ -19,11 +19,11 @@ use Rattle.tp_lines.specs.Texts.{text_in}
 abbrev pub is_control_word : List ℕ → Bool
 is_control_word word =
     bytes_eq word (codes "thin") || bytes_eq word (codes "size") || bytes_eq word (codes "map") || bytes_eq word (codes "delta")
-    || bytes_eq word (codes "status") || bytes_eq word (codes "clients") || bytes_eq word (codes "flush") || bytes_eq word (codes "stop")
+    || bytes_eq word (codes "status") || bytes_eq word (codes "clients") || bytes_eq word (codes "health") || bytes_eq word (codes "flush") || bytes_eq word (codes "stop")
 
 -- the lines of these that go on as they are: a desk may obey them
 abbrev pub is_command : List ℕ → Bool
-is_command text = bytes_eq text (codes "clients") || bytes_eq text (codes "flush") || bytes_eq text (codes "stop") || bytes_eq text (codes "stop now")
+is_command text = bytes_eq text (codes "clients") || bytes_eq text (codes "flush") || bytes_eq text (codes "health") || bytes_eq text (codes "stop") || bytes_eq text (codes "stop now")
 
 -- The message to the pool that a line is, if it asks for no status line and no page. With the first word of a control line its arguments are wrong:
 -- then it is a message that lacks its argument, so it is refused by BadSyntax.

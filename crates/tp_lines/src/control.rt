@@ -71,6 +71,7 @@ fn is_control_word(word: &[u8]) -> bool
         || word == b"delta".as_slice()
         || word == b"status".as_slice()
         || word == b"clients".as_slice()
+        || word == b"health".as_slice()
         || word == b"flush".as_slice()
         || word == b"stop".as_slice()
 }
@@ -81,6 +82,7 @@ fn is_command(line: &[u8]) -> bool
 {
     line == b"clients".as_slice()
         || line == b"flush".as_slice()
+        || line == b"health".as_slice()
         || line == b"stop".as_slice()
         || line == b"stop now".as_slice()
 }
@@ -172,7 +174,7 @@ fn ask_line<D: Desk, S: Stream>(
 /// does nothing. False where the stream failed: then it took a beginning of the answer.
 ///
 /// The lines are `status`, `thin ID` for the status line of a volume, `size ID` for its size, `map ID FROM` and `delta OLD NEW FROM` for a page of a listing, from a block on, and any other is a
-/// message to the pool, such as `create_thin 1`. Lines with these first words or with `stop`, `flush` or `clients`, and with wrong arguments, are refused by `BadSyntax`. `ok`, `refused N`, the status line, the size and the page are the answers. A page has up to seven `OFFSET+LENGTH`, in bytes, and then
+/// message to the pool, such as `create_thin 1`. Lines with these first words or with `stop`, `flush`, `health` or `clients`, and with wrong arguments, are refused by `BadSyntax`. `ok`, `refused N`, the status line, the size and the page are the answers. A page has up to seven `OFFSET+LENGTH`, in bytes, and then
 /// `next BLOCK`, or `end` where there is no more.
 pub fn answer_line<D: Desk, S: Stream>(
     desk: &mut D,

@@ -61,7 +61,7 @@ fn ascending_ids(alloc: Global, seats: &[Seat]) -> Result<Vec<u32>, AllocError>
 }
 
 /// Puts a text behind what stands before `at`.
-fn put(out: &mut [u8], at: usize, text: &[u8]) -> usize
+pub(crate) fn put(out: &mut [u8], at: usize, text: &[u8]) -> usize
     requires { at + length text.now ≤ length out.old }
     ensures line { take result out.new ≡ take at out.old ++ text.now }
     ensures end { result ≡ at + length text.now }
@@ -73,7 +73,7 @@ fn put(out: &mut [u8], at: usize, text: &[u8]) -> usize
 }
 
 /// The same of a number.
-fn put_number(out: &mut [u8], at: usize, number: u64) -> usize
+pub(crate) fn put_number(out: &mut [u8], at: usize, number: u64) -> usize
     requires { at + 20 ≤ length out.old }
     ensures line { take result out.new ≡ take at out.old ++ decimal number }
     ensures end { result ≤ at + 20 }

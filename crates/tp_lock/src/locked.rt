@@ -11,6 +11,7 @@ ghost use Rattle.tp_lock.specs.Census.{AreSeats};
 ghost use Rattle.tp_lock.specs.Locked.{AsksInParts, MakesParts, SomeRun, SomeRuns, has_left, hearer_in};
 ghost use Rattle.tp_lock.specs.Seen.{IsSeen};
 
+use crate::health::Health;
 use crate::order::Order;
 use crate::patience::now;
 use nbd_session::{PieceKind, kind_of_piece};
@@ -108,6 +109,15 @@ impl<'a, V: Staged, A: Alarm<V>, K: Start<V>> HubLock<'a, V, A, K> {
         self.alarm
     }
 
+    /// What is recorded of the pool, without a lock. The kit has no clause on what an atomic holds, so
+    /// no clause here states that the record is right.
+    pub fn health(&self) -> Health {
+        Health {
+            has_failed: self.has_sounded.load(Ordering::SeqCst),
+            seconds: self.order.seconds_in_turn(),
+        }
+    }
+
     /// Why the pool of a hub that nobody changes meanwhile has failed, if it has, and the alarm has not
     /// sounded.
     fn cause(&self, hub: &StagedHub<V, K>) -> Option<A::Cause>
@@ -185,6 +195,7 @@ impl<'a, V: Staged, A: Alarm<V>, K: Start<V>> HubLock<'a, V, A, K> {
         rt: &R,
         _turn: &MutexGuard<'_, ()>,
     ) -> RwLockWriteGuard<'_, StagedHub<V, K>> {
+        self.order.begin();
         self.let_reads_go();
         let mut waiting = self.order.patience().begin();
         for _ in 0..TRIES_BETWEEN_READS {
@@ -202,7 +213,7 @@ impl<'a, V: Staged, A: Alarm<V>, K: Start<V>> HubLock<'a, V, A, K> {
 impl<'a, V: Staged, A: Alarm<V>, K: Start<V>> HubLock<'a, V, A, K> {
     /// Brings to the device what was written so far, while READs go on. All others wait for their turn meanwhile, so nothing is written.
     fn sync_ahead<R: Wait>(&self, rt: &R, _turn: &MutexGuard<'_, ()>) {
-        let began = now();
+        let began = self.order.begin();
         self.shared(rt).sync_ahead();
         self.order.synced(now().saturating_sub(began));
     }

@@ -38,47 +38,73 @@ pub(crate) struct Keeping<'a> {
 #[derive(Drop)]
 pub(crate) struct Order {
     turn: Mutex<()>,
-    flags: [AtomicBool; 3],
-    numbers: [AtomicU64; 9],
+    waiters: Waiters,
+    commits: Commits,
     /// Told to those who keep when a commit has ended, and to those who change when they may.
     ended: Condvar,
     free: Condvar,
     patience: Patience,
 }
 
-// The flags: whether there is one who leads, whether its commit has begun, and whether nothing was
-// changed since the last commit began.
-const HAS_LEADER: usize = 0;
+/// The threads that wait for a turn, and the changes that were made.
+#[derive(Drop)]
+struct Waiters {
+    /// Threads that wait to keep what was written, and those that wait to change something.
+    keepers: AtomicU64,
+    changers: AtomicU64,
+    /// Threads of both kinds that are awake.
+    awake: AtomicU64,
+    /// Turns that were taken to change something.
+    changes: AtomicU64,
+    /// A bit for each session whose change was answered since the last commit began.
+    unkept: AtomicU64,
+    /// A bit for each session that has flushed of late.
+    flushers: AtomicU64,
+}
 
-const IS_COMMITTING: usize = 1;
+impl Waiters {
+    fn none() -> Waiters {
+        Waiters {
+            keepers: AtomicU64::new(0),
+            changers: AtomicU64::new(0),
+            awake: AtomicU64::new(0),
+            changes: AtomicU64::new(0),
+            unkept: AtomicU64::new(0),
+            flushers: AtomicU64::new(0),
+        }
+    }
+}
 
-const IS_KEPT: usize = 2;
+/// The commit in progress, and the last one. Times are in nanoseconds.
+#[derive(Drop)]
+struct Commits {
+    /// A thread leads.
+    has_leader: AtomicBool,
+    /// The leader's commit has begun.
+    is_committing: AtomicBool,
+    /// Nothing was changed since the last commit began.
+    is_kept: AtomicBool,
+    /// The longest sync of the commit in progress, and that of the last commit.
+    sync_so_far: AtomicU64,
+    last_sync: AtomicU64,
+    /// When the last commit ended.
+    ended_at: AtomicU64,
+    /// When the sync or the change of the current turn began, or 0 if there is none.
+    began_at: AtomicU64,
+}
 
-// The numbers. How many wait to keep what was written, how many to change something, and how many of
-// both are awake; how many turns were taken to change something.
-const KEEPERS: usize = 0;
-
-const CHANGERS: usize = 1;
-
-const AWAKE: usize = 2;
-
-const CHANGES: usize = 3;
-
-// A bit for each session whose change was answered since the last commit began, and for each that has
-// flushed of late.
-const UNKEPT: usize = 4;
-
-const FLUSHERS: usize = 5;
-
-// In nanoseconds: the longest sync of the commit so far, that of the last commit, and when it ended.
-const SYNC_SO_FAR: usize = 6;
-
-const LAST_SYNC: usize = 7;
-
-const ENDED_AT: usize = 8;
-
-fn zero(_at: usize) -> AtomicU64 {
-    AtomicU64::new(0)
+impl Commits {
+    fn none() -> Commits {
+        Commits {
+            has_leader: AtomicBool::new(false),
+            is_committing: AtomicBool::new(false),
+            is_kept: AtomicBool::new(true),
+            sync_so_far: AtomicU64::new(0),
+            last_sync: AtomicU64::new(0),
+            ended_at: AtomicU64::new(0),
+            began_at: AtomicU64::new(0),
+        }
+    }
 }
 
 /// The bit of a session, if there is one.
@@ -96,12 +122,8 @@ impl Order {
     pub(crate) fn new() -> Order {
         Order {
             turn: Mutex::new(()),
-            flags: [
-                AtomicBool::new(false),
-                AtomicBool::new(false),
-                AtomicBool::new(true),
-            ],
-            numbers: std::array::from_fn(zero),
+            waiters: Waiters::none(),
+            commits: Commits::none(),
             ended: Condvar::new(),
             free: Condvar::new(),
             patience: Patience::new(),
@@ -129,13 +151,13 @@ impl Order {
 
     /// The turn, for which few wait awake.
     fn lock<R: Wait>(&self, rt: &R) -> MutexGuard<'_, ()> {
-        let others = self.numbers[AWAKE].fetch_add(1, Ordering::SeqCst);
+        let others = self.waiters.awake.fetch_add(1, Ordering::SeqCst);
         let turn = if others < MOST_AWAKE {
             self.lock_awake()
         } else {
             None
         };
-        self.numbers[AWAKE].fetch_sub(1, Ordering::SeqCst);
+        self.waiters.awake.fetch_sub(1, Ordering::SeqCst);
         match turn {
             Some(turn) => turn,
             None => self.turn.lock(rt),
@@ -145,16 +167,17 @@ impl Order {
     /// For how many nanoseconds those go first who keep what was written: while a commit is on its way, and
     /// then until those whom it told have had their turn, for no longer than a sync. 0 if they do not.
     fn left_to_wait(&self) -> u64 {
-        if self.flags[IS_COMMITTING].load(Ordering::SeqCst) {
+        if self.commits.is_committing.load(Ordering::SeqCst) {
             return NAP;
         }
-        if self.numbers[KEEPERS].load(Ordering::SeqCst) == 0
-            || !self.flags[IS_KEPT].load(Ordering::SeqCst)
+        if self.waiters.keepers.load(Ordering::SeqCst) == 0
+            || !self.commits.is_kept.load(Ordering::SeqCst)
         {
             return 0;
         }
-        let since = now().saturating_sub(self.numbers[ENDED_AT].load(Ordering::SeqCst));
-        self.numbers[LAST_SYNC]
+        let since = now().saturating_sub(self.commits.ended_at.load(Ordering::SeqCst));
+        self.commits
+            .last_sync
             .load(Ordering::SeqCst)
             .saturating_sub(since)
     }
@@ -177,9 +200,9 @@ impl Order {
 
     /// The turn of one who changes something.
     pub(crate) fn change<R: Wait>(&self, rt: &R) -> MutexGuard<'_, ()> {
-        self.numbers[CHANGERS].fetch_add(1, Ordering::SeqCst);
+        self.waiters.changers.fetch_add(1, Ordering::SeqCst);
         let turn = self.wait_to_change(rt);
-        self.numbers[CHANGERS].fetch_sub(1, Ordering::SeqCst);
+        self.waiters.changers.fetch_sub(1, Ordering::SeqCst);
         turn
     }
 
@@ -187,9 +210,12 @@ impl Order {
     pub(crate) fn changed(&self, session: Option<u8>, turn: MutexGuard<'_, ()>)
         requires { IfSome session (λ number. number < 64) }
     {
-        self.flags[IS_KEPT].store(false, Ordering::SeqCst);
-        self.numbers[UNKEPT].fetch_or(bit_of(session), Ordering::SeqCst);
-        self.numbers[CHANGES].fetch_add(1, Ordering::SeqCst);
+        self.commits.is_kept.store(false, Ordering::SeqCst);
+        self.waiters
+            .unkept
+            .fetch_or(bit_of(session), Ordering::SeqCst);
+        self.waiters.changes.fetch_add(1, Ordering::SeqCst);
+        self.commits.began_at.store(0, Ordering::SeqCst);
         drop(turn);
         self.free.notify_all();
     }
@@ -199,13 +225,15 @@ impl Order {
     /// for again before they flush.
     fn wait_for_others<R: Wait>(&self, rt: &R) {
         let began = now();
-        let most = self.numbers[LAST_SYNC].load(Ordering::SeqCst) / 8;
-        let waited_for = self.numbers[CHANGERS].load(Ordering::SeqCst);
-        let so_far = self.numbers[CHANGES].load(Ordering::SeqCst);
+        let most = self.commits.last_sync.load(Ordering::SeqCst) / 8;
+        let waited_for = self.waiters.changers.load(Ordering::SeqCst);
+        let so_far = self.waiters.changes.load(Ordering::SeqCst);
         for _ in 0..TRIES {
-            let late = self.numbers[UNKEPT].load(Ordering::SeqCst)
-                & self.numbers[FLUSHERS].load(Ordering::SeqCst);
-            let went = self.numbers[CHANGES]
+            let late = self.waiters.unkept.load(Ordering::SeqCst)
+                & self.waiters.flushers.load(Ordering::SeqCst);
+            let went = self
+                .waiters
+                .changes
                 .load(Ordering::SeqCst)
                 .wrapping_sub(so_far);
             if late == 0 && went >= waited_for {
@@ -213,7 +241,7 @@ impl Order {
             }
             let left = most.saturating_sub(now().saturating_sub(began));
             if left < SHORTEST_GRACE {
-                self.numbers[FLUSHERS].fetch_and(!late, Ordering::SeqCst);
+                self.waiters.flushers.fetch_and(!late, Ordering::SeqCst);
                 return;
             }
             let told = self.ended.notifications();
@@ -226,19 +254,19 @@ impl Order {
     fn lead<R: Wait>(&self, rt: &R) -> Keeping<'_> {
         self.wait_for_others(rt);
         let turn = self.lock(rt);
-        self.flags[IS_COMMITTING].store(true, Ordering::SeqCst);
-        self.numbers[UNKEPT].store(0, Ordering::SeqCst);
-        self.numbers[SYNC_SO_FAR].store(0, Ordering::SeqCst);
+        self.commits.is_committing.store(true, Ordering::SeqCst);
+        self.waiters.unkept.store(0, Ordering::SeqCst);
+        self.commits.sync_so_far.store(0, Ordering::SeqCst);
         Keeping { turn, leads: true }
     }
 
     /// The turn of one who is told by the last commit, where that kept all that was written.
     fn follow<R: Wait>(&self, rt: &R) -> Option<Keeping<'_>> {
-        if !self.flags[IS_KEPT].load(Ordering::SeqCst) {
+        if !self.commits.is_kept.load(Ordering::SeqCst) {
             return None;
         }
         let turn = self.lock(rt);
-        if !self.flags[IS_KEPT].load(Ordering::SeqCst) {
+        if !self.commits.is_kept.load(Ordering::SeqCst) {
             return None;
         }
         Some(Keeping { turn, leads: false })
@@ -250,7 +278,7 @@ impl Order {
             if let Some(keeping) = self.follow(rt) {
                 return keeping;
             }
-            if !self.flags[HAS_LEADER].swap(true, Ordering::SeqCst) {
+            if !self.commits.has_leader.swap(true, Ordering::SeqCst) {
                 return self.lead(rt);
             }
             self.ended.sleep(rt, told, Duration::from_nanos(NAP));
@@ -263,11 +291,11 @@ impl Order {
         requires { IfSome session (λ number. number < 64) }
     {
         let bit = bit_of(session);
-        self.numbers[UNKEPT].fetch_and(!bit, Ordering::SeqCst);
-        self.numbers[FLUSHERS].fetch_or(bit, Ordering::SeqCst);
-        self.numbers[KEEPERS].fetch_add(1, Ordering::SeqCst);
+        self.waiters.unkept.fetch_and(!bit, Ordering::SeqCst);
+        self.waiters.flushers.fetch_or(bit, Ordering::SeqCst);
+        self.waiters.keepers.fetch_add(1, Ordering::SeqCst);
         let keeping = self.wait_to_keep(rt);
-        self.numbers[KEEPERS].fetch_sub(1, Ordering::SeqCst);
+        self.waiters.keepers.fetch_sub(1, Ordering::SeqCst);
         keeping
     }
 
@@ -275,7 +303,7 @@ impl Order {
     pub(crate) fn change_and_keep<R: Wait>(&self, rt: &R) -> Keeping<'_> {
         for _ in 0..TRIES {
             let told = self.ended.notifications();
-            if !self.flags[HAS_LEADER].swap(true, Ordering::SeqCst) {
+            if !self.commits.has_leader.swap(true, Ordering::SeqCst) {
                 break;
             }
             self.ended.sleep(rt, told, Duration::from_nanos(NAP));
@@ -283,30 +311,49 @@ impl Order {
         self.lead(rt)
     }
 
+    /// Records that a sync or a change of the current turn begins. Returns the time, as [`now`] does.
+    pub(crate) fn begin(&self) -> u64 {
+        let began = now();
+        self.commits.began_at.store(began, Ordering::SeqCst);
+        began
+    }
+
+    /// The age of the sync or the change in progress, in seconds, or 0 if there is none.
+    pub(crate) fn seconds_in_turn(&self) -> u64 {
+        let began = self.commits.began_at.load(Ordering::SeqCst);
+        if began == 0 {
+            return 0;
+        }
+        now().saturating_sub(began) / 1_000_000_000
+    }
+
     /// How long a sync took of the commit that is on its way, in nanoseconds.
     pub(crate) fn synced(&self, time: u64) {
-        let so_far = self.numbers[SYNC_SO_FAR].load(Ordering::SeqCst);
-        self.numbers[SYNC_SO_FAR].store(so_far.max(time), Ordering::SeqCst);
+        let so_far = self.commits.sync_so_far.load(Ordering::SeqCst);
+        self.commits
+            .sync_so_far
+            .store(so_far.max(time), Ordering::SeqCst);
     }
 
     /// Ends the commit of one who led. Of one that had nothing to sync nothing is learned about the device.
     fn end_commit(&self) {
-        let sync = self.numbers[SYNC_SO_FAR].load(Ordering::SeqCst);
+        let sync = self.commits.sync_so_far.load(Ordering::SeqCst);
         if sync >= SHORTEST_SYNC {
-            self.numbers[LAST_SYNC].store(sync, Ordering::SeqCst);
+            self.commits.last_sync.store(sync, Ordering::SeqCst);
         }
-        self.numbers[ENDED_AT].store(now(), Ordering::SeqCst);
-        self.flags[IS_COMMITTING].store(false, Ordering::SeqCst);
-        self.flags[HAS_LEADER].store(false, Ordering::SeqCst);
+        self.commits.ended_at.store(now(), Ordering::SeqCst);
+        self.commits.is_committing.store(false, Ordering::SeqCst);
+        self.commits.has_leader.store(false, Ordering::SeqCst);
     }
 
     /// Ends the turn of one who kept what was written, or has not.
     pub(crate) fn kept(&self, keeping: Keeping<'_>, is_done: bool) {
         let Keeping { turn, leads } = keeping;
-        self.flags[IS_KEPT].store(is_done, Ordering::SeqCst);
+        self.commits.is_kept.store(is_done, Ordering::SeqCst);
         if leads {
             self.end_commit();
         }
+        self.commits.began_at.store(0, Ordering::SeqCst);
         drop(turn);
         if leads {
             self.ended.notify_all();

@@ -19,6 +19,12 @@ const PIECE: usize = 4096;
 /// What a line begins with by which a line is refused.
 const REFUSED: &str = "refused ";
 
+/// What tells that the pool has failed.
+const FAILED: &[u8] = b"failed";
+
+/// What a line begins with that tells that the device does not answer.
+const STALLED: &[u8] = b"stalled ";
+
 /// All refusals.
 const REFUSALS: [Refusal; 31] = [
     Refusal::BadGeometry,
@@ -57,11 +63,13 @@ const REFUSALS: [Refusal; 31] = [
 /// So many bytes of a line of an answer are kept, which a refusal's has not.
 const LONGEST: usize = 32;
 
-/// What was answered so far: how many whole lines, and the number of the first refusal among them.
+/// What was answered so far: how many whole lines, the number of the first refusal among them, and
+/// why the server is not well, if a line tells that it is not.
 #[derive(Clone, Copy, Debug)]
 struct Heard {
     lines: u64,
     refused: Option<u8>,
+    unwell: Option<Refusal>,
     /// The front of the line that has begun, and how many bytes of it have come.
     line: [u8; LONGEST],
     len: usize,
@@ -73,12 +81,24 @@ pub(crate) fn refusal_in(line: &[u8]) -> Option<u8> {
     number.parse::<u8>().ok()
 }
 
+/// Why the server is not well, if a line tells that it is not.
+fn illness_in(line: &[u8]) -> Option<Refusal> {
+    if line == FAILED {
+        return Some(Refusal::Failed);
+    }
+    if line.starts_with(STALLED) {
+        return Some(Refusal::Busy);
+    }
+    None
+}
+
 impl Heard {
     /// Nothing was answered yet.
     fn nothing() -> Heard {
         Heard {
             lines: 0,
             refused: None,
+            unwell: None,
             line: [0; LONGEST],
             len: 0,
         }
@@ -100,6 +120,9 @@ impl Heard {
     fn end_line(&mut self) {
         if self.refused.is_none() {
             self.refused = self.line.get(..self.len).and_then(refusal_in);
+        }
+        if self.unwell.is_none() {
+            self.unwell = self.line.get(..self.len).and_then(illness_in);
         }
         self.lines = self.lines.saturating_add(1);
         self.len = 0;
@@ -195,7 +218,7 @@ pub(crate) fn refusal_of(number: u8) -> Refusal
     numbered_in(&REFUSALS, number)
 }
 
-/// Whether all was answered, and nothing refused.
+/// Whether all was answered, nothing refused, and the server is well.
 fn told(heard: &Heard, wanted: u64) -> Result<(), Failure> {
     if let Some(number) = heard.refused {
         return Err(Failure {
@@ -205,6 +228,12 @@ fn told(heard: &Heard, wanted: u64) -> Result<(), Failure> {
     }
     if heard.lines < wanted {
         return Err(Failure::fault(Cause::Unanswered(heard.lines)));
+    }
+    if let Some(refusal) = heard.unwell {
+        return Err(Failure {
+            refusal,
+            cause: Cause::Unwell,
+        });
     }
     Ok(())
 }
@@ -220,7 +249,7 @@ fn is_unquoted(lines: &Texts<'_>) -> bool {
 }
 
 /// Sends lines to a place, and writes what is answered until the other side ends it. It is refused where the place cannot be reached, where a line is, with the first of
-/// these refusals, or where fewer lines were answered than were sent. Where the lines `stop` and `now` follow each other, nothing is sent: `BadSyntax`.
+/// these refusals, where fewer lines were answered than were sent, or where one tells that the server is not well. Where the lines `stop` and `now` follow each other, nothing is sent: `BadSyntax`.
 pub fn ask_place<R, S>(
     net: &R,
     place: &str,

@@ -55,6 +55,7 @@ pub(crate) struct Journal<'m, R: Wait + Clock> {
     places: Texts<'m>,
     addresses: Addresses,
     is_quiet: bool,
+    ends_on_failure: bool,
     low_water: u64,
     pages: Mutex<Pages>,
     has_more: Condvar,
@@ -252,6 +253,7 @@ impl<'m, R: Wait + Clock> Journal<'m, R> {
             places: service.places,
             addresses,
             is_quiet: service.is_quiet,
+            ends_on_failure: service.ends_on_failure,
             low_water: service.low_water.unwrap_or(LOW_WATER),
             pages: Mutex::new(Pages {
                 lines: Vec::new(alloc),
@@ -481,6 +483,10 @@ where
 
     fn no_volume(&self, number: u8, name: &[u8]) {
         self.note_in_second(&self.not_found, &News::NoVolume(number, name));
+    }
+
+    fn ends_on_failure(&self) -> bool {
+        self.ends_on_failure
     }
 
     fn no_space(&self, number: u8) {

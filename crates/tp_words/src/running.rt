@@ -34,6 +34,8 @@ errors are logged, and the listen addresses are not printed.
 With --control the server also replies to control lines: those of 'serve --control', and
   clients   Number of clients and the volumes that they have open, ascending: '3 of 64: 0 7 7'
   flush     Makes all completed writes durable. Reply: 'ok'
+  health    'ok', 'failed', or 'stalled SECONDS' while the device does not answer, from 2 s on. It
+            never waits for the device
   stop      Accepts no new connections, and ends when the last client disconnects. Reply: 'ok'
   stop now  Also closes all connections after the replies to the requests read so far. Reply: 'ok'.
             A client that has not read its replies after 5 s is disconnected
@@ -42,7 +44,8 @@ A client of this address can delete volumes, so use a socket file. 'thinpool ask
   thinpool run pool.img --listen unix:/run/thinpool/nbd.sock --control unix:/run/thinpool/control.sock";
 
 const ASK_HELP: &str = "\
-Prints one reply for each line. If a reply is 'refused N', the exit status is 1, after all replies.
+Prints one reply for each line. If a reply is 'refused N', or that to 'health' is not 'ok', the exit
+status is 1, after all replies.
 After 'stop' or 'stop now' it waits until the server has closed the pool.
 
   thinpool ask unix:/run/thinpool/control.sock status 'create_thin 1'
@@ -107,6 +110,7 @@ pub(crate) fn run_command<'a>(alloc: Global) -> Result<Command<'a>, AllocError>
     let control = "Address to listen on for control lines while clients are served";
     let default = "Volume of a client that names none [0 to 16777215]";
     let clones = "Offer clones; deletes volumes 8388608 to 8388671 first";
+    let ends = "End with exit status 1 when the pool has failed";
     let made = of_image(alloc, "run", about, image, RUN_HELP);
     let made = with(made, repeated(alloc, "LISTEN", "listen", "WHERE", listen));
     let made = with(made, option(alloc, "CONTROL", "control", "WHERE", control));
@@ -115,6 +119,10 @@ pub(crate) fn run_command<'a>(alloc: Global) -> Result<Command<'a>, AllocError>
         number_option(alloc, "DEFAULT", "default", "ID", default),
     );
     let made = with(made, flag(alloc, "CLONES", "clones", clones));
+    let made = with(
+        made,
+        flag(alloc, "EXIT_ON_FAILURE", "exit-on-failure", ends),
+    );
     with_rights(alloc, with_telling(alloc, made))
 }
 

@@ -11,3 +11,6 @@ returns-in-Flush g c = rw c.in-Flush.is c.flush.ensures
 
 pub returns-in-Clients : goal.returns-in-Clients
 returns-in-Clients g c = rw c.in-Clients.is c.tell_clients.ensures
+
+pub returns-in-Health : goal.returns-in-Health
+returns-in-Health g c = rw c.in-Health.is c.tell_health.ensures
