@@ -29,6 +29,7 @@ pub(crate) fn run_task<'a>(arguments: &ArgMatches<'a>) -> Option<Task<'a>>
     let ruler = text_if_there(arguments, "CONTROL");
     let is_quiet = has_flag(arguments, "QUIET");
     let has_clones = has_flag(arguments, "CLONES");
+    let writes_through = has_flag(arguments, "WRITE_THROUGH");
     let service = Service {
         places,
         control: ruler,
@@ -36,6 +37,7 @@ pub(crate) fn run_task<'a>(arguments: &ArgMatches<'a>) -> Option<Task<'a>>
         low_water,
         is_quiet,
         has_clones,
+        writes_through,
         rights: SocketRights { mode, group },
     };
     Some(Task::Run { image, service })

@@ -12,12 +12,16 @@ returns c =
     let two = with_rule one control in
     let three = with_rule two default in
     let clones = flag_rule (codes "CLONES") (codes "clones") in
-    c.with_rights.ensures (told_app (with_rule three clones))
-    (c.with_telling.ensures (with_rule three clones)
+    let four = with_rule three clones in
+    let through = flag_rule (codes "WRITE_THROUGH") (codes "write-through") in
+    c.with_rights.ensures (told_app (with_rule four through))
+    (c.with_telling.ensures (with_rule four through)
+    (c.with-made-5.ensures four through
     (c.with-made-4.ensures three clones
     (c.with-made-3.ensures two default
     (c.with-made-2.ensures one control
     (c.with-made.ensures (image_app (codes "run")) listen c.of_image-made.ensures (c.repeated.ensures.rule, c.repeated.ensures.local))
     (c.option.ensures.rule, c.option.ensures.local))
     (c.number_option.ensures.rule, c.number_option.ensures.local))
-    (c.flag.ensures.rule, c.flag.ensures.local)))
+    (c.flag.ensures.rule, c.flag.ensures.local))
+    (c.flag-2.ensures.rule, c.flag-2.ensures.local)))
