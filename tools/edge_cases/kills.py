@@ -36,6 +36,7 @@ def kills(ground):
         how = "serve" if number % 3 else "feed"
         yield f"{how} is killed, {number} of {KILLS} (seed {SEED})", partial(killed_once, ground, image, life, how, failed)
     yield "feed is killed before each of its writes", partial(killed_at_each, ground, fresh)
+    yield "run --write-through is killed: each answered change is there, and without the flag none is", partial(killed_through, ground, fresh)
     for line in ("create_thin 5", "create_snap 5 0", "delete 0", "set_transaction_id 0 7"):
         yield f"message '{line}' is killed before each of its writes", partial(command_killed, ground, ["message", None, line], ())
     words = ["check", None, "--clear-needs-check-flag"]
@@ -268,6 +269,28 @@ def killed_at(ground, image, volume, number):
         client.close()
         status = end_of(process)
     return status
+
+
+def killed_through(ground, fresh):
+    """A server that is killed after it answered changes that no client flushed."""
+    for more in (("--write-through",), ()):
+        image = ground.copy("through.img", fresh)
+        server = ground.stays(image, more=more)
+        try:
+            client = server.client()
+            client.do(WRITE, 0, data=filled(1) * PER_BLOCK * 4)
+            client.do(TRIM, BLOCK, BLOCK)
+            client.do(ZEROES, 2 * BLOCK, SECTOR)
+        finally:
+            server.kill()
+        ground.want_clean(image)
+        again = ground.serve(image, 1)
+        try:
+            found = again.client().do(READ, 0, 4 * BLOCK)
+        finally:
+            again.kill()
+        changed = filled(1) * PER_BLOCK + bytes(BLOCK + SECTOR) + filled(1) * (2 * PER_BLOCK - 1)
+        want((found == (changed if more else bytes(4 * BLOCK)), f"with {more} it is found otherwise"))
 
 
 def command_killed(ground, words, may_be, is_flagged=False):

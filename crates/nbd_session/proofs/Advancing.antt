@@ -30,7 +30,7 @@ use Rattle.nbd_session.specs.declared.phase.Phase.{Phase}
 use Rattle.nbd_session.specs.declared.phase.Phase.TheVariants.{Flags, Options, Transmission, Ended}
 use Rattle.nbd_session.specs.declared.request.Verdict.{Verdict}
 use Rattle.nbd_session.specs.declared.request.Verdict.TheVariants as verdicts
-use Rattle.nbd_session.specs.Requests.{bytes_of_blocks, form_of, has_fua, has_no_hole, has_since, is_kept_apart, known_bytes, to_keep, verdict_in, verdict_on}
+use Rattle.nbd_session.specs.Requests.{bytes_of_blocks, form_of, has_no_hole, has_since, is_kept_apart, known_bytes, to_keep, verdict_in, verdict_on, wants_fua}
 use Rattle.nbd_session.specs.declared.session.Answered.{Answered}
 use Rattle.nbd_wire.specs.Contexts.{asks_for, lists, since_of}
 use Rattle.nbd_session.specs.Buffers.{IsSound, wanted_in}
@@ -965,15 +965,15 @@ module _ {D : Type 0} (view : View D) (laws : ViewLaws view) where
       works_on old new v n (Listens x) next ready (reads_move old new x.is_structured (nat_le 65536 r.len) v n x r sent next h.1 h.0)
   serves_stand old new verdicts.Write v n x r payload sent next ready h =
       works_on old new v n (Listens x) next ready (
-      written_moves old new (is_kept_apart x r) (Write v (r.offset / 512) (sectors_of payload) false) (Write v (r.offset / 512) (sectors_of payload) (has_fua r)) v n x r sent next h
+      written_moves old new (is_kept_apart x r) (Write v (r.offset / 512) (sectors_of payload) false) (Write v (r.offset / 512) (sectors_of payload) (wants_fua x r)) v n x r sent next h
       (λ answer holds. refl) (λ answer holds. refl))
   serves_stand old new verdicts.Trim v n x r payload sent next ready h =
       works_on old new v n (Listens x) next ready (
-      written_moves old new (is_kept_apart x r) (Trim v (r.offset / 512) (r.len / 512) false) (Trim v (r.offset / 512) (r.len / 512) (has_fua r)) v n x r sent next h
+      written_moves old new (is_kept_apart x r) (Trim v (r.offset / 512) (r.len / 512) false) (Trim v (r.offset / 512) (r.len / 512) (wants_fua x r)) v n x r sent next h
       (λ answer holds. refl) (λ answer holds. refl))
   serves_stand old new verdicts.WriteZeroes v n x r payload sent next ready h =
       works_on old new v n (Listens x) next ready (
-      written_moves old new (is_kept_apart x r) (WriteZeroes v (r.offset / 512) (r.len / 512) (has_no_hole r) false) (WriteZeroes v (r.offset / 512) (r.len / 512) (has_no_hole r) (has_fua r)) v n x r sent next h
+      written_moves old new (is_kept_apart x r) (WriteZeroes v (r.offset / 512) (r.len / 512) (has_no_hole r) false) (WriteZeroes v (r.offset / 512) (r.len / 512) (has_no_hole r) (wants_fua x r)) v n x r sent next h
       (λ answer holds. refl) (λ answer holds. refl))
   serves_stand old new verdicts.Flush v n x r payload sent next ready h =
       works_on old new v n (Listens x) next ready (stays_in old new v n (Listens x) (Listens x) _ h.0.answer next h.1 refl h.0.calls refl)

@@ -451,8 +451,8 @@ module _ {D B : Type 0} (outline : D → Outline) (Calls : D → Call → Answer
 
     pub part_likewise : (v n : ℕ) (x : Manner) (r : Request) (sent : List ℕ) (next : Phase) → MakesPart outline Calls v n x r old sent next new → Likewise (MakesPart outline' Calls' v n x r s sent next) new
     part_likewise v n x r sent next h =
-        let P : Geometry → Type 0 = λ g. Likewise (Calls' s (part_call v g r) h.answer) new in
-        let m = subst P (sym same_geometry) (call_likewise (part_call v (outline old).geometry r) h.answer h.calls) in
+        let P : Geometry → Type 0 = λ g. Likewise (Calls' s (part_call x v g r) h.answer) new in
+        let m = subst P (sym same_geometry) (call_likewise (part_call x v (outline old).geometry r) h.answer h.calls) in
         let Q : Geometry → Type 0 = λ g. IsMade v n x r (rest_of g r) (is_last g r) h.answer sent next in
         (m.0, record { answer = h.answer; calls = m.1; is_made = subst Q (sym same_geometry) h.is_made }, m.2)
 

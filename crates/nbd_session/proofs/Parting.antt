@@ -15,7 +15,7 @@ use Rattle.nbd_session.specs.declared.phase.Course.TheVariants.{Listens, Works}
 use Rattle.nbd_session.specs.declared.phase.Manner.{Manner}
 use Rattle.nbd_session.specs.declared.phase.Phase.{Phase}
 use Rattle.nbd_session.specs.declared.phase.Phase.TheVariants.{Ended, Flags, Options, Transmission}
-use Rattle.nbd_session.specs.Requests.{IsLeft, IsWhole, behind, form_of, has_fua, has_no_hole, is_last, len_of_part, long_call, part_call, rest_of, to_keep, up_to_cut}
+use Rattle.nbd_session.specs.Requests.{IsLeft, IsWhole, behind, form_of, has_no_hole, is_last, len_of_part, long_call, part_call, rest_of, to_keep, up_to_cut, wants_fua}
 use Rattle.nbd_session.specs.Session.{Begins, IsMade, MakesPart, is_to_flush, kind_of, reply_to}
 
 -- as many whole blocks as 2048 sectors have are one at least
@@ -41,11 +41,11 @@ cut_whole offset most o m some =
 
 -- ---- the call of a part
 
-both_calls : (id : ℕ) (g : Geometry) (r : Request) (count : ℕ) (fua : Bool) (b : Bool) → count ≡ len_of_part g r / 512 → fua ≡ (has_fua r && is_last g r)
+both_calls : (m : Manner) (id : ℕ) (g : Geometry) (r : Request) (count : ℕ) (fua : Bool) (b : Bool) → count ≡ len_of_part g r / 512 → fua ≡ (wants_fua m r && is_last g r)
     → (if b then Trim id (r.offset / 512) count fua else WriteZeroes id (r.offset / 512) count (has_no_hole r) fua)
-    ≡ (if b then Trim id (r.offset / 512) (len_of_part g r / 512) (has_fua r && is_last g r) else WriteZeroes id (r.offset / 512) (len_of_part g r / 512) (has_no_hole r) (has_fua r && is_last g r))
-both_calls id g r count fua true c f = ap (λ (n : ℕ). Trim id (r.offset / 512) n fua) c ∙ ap (λ (x : Bool). Trim id (r.offset / 512) (len_of_part g r / 512) x) f
-both_calls id g r count fua false c f =
+    ≡ (if b then Trim id (r.offset / 512) (len_of_part g r / 512) (wants_fua m r && is_last g r) else WriteZeroes id (r.offset / 512) (len_of_part g r / 512) (has_no_hole r) (wants_fua m r && is_last g r))
+both_calls m id g r count fua true c f = ap (λ (n : ℕ). Trim id (r.offset / 512) n fua) c ∙ ap (λ (x : Bool). Trim id (r.offset / 512) (len_of_part g r / 512) x) f
+both_calls m id g r count fua false c f =
     ap (λ (n : ℕ). WriteZeroes id (r.offset / 512) n (has_no_hole r) fua) c ∙ ap (λ (x : Bool). WriteZeroes id (r.offset / 512) (len_of_part g r / 512) (has_no_hole r) x) f
 
 by_kind : (b : Bool) (trim zeroes : Call) → b ≡ true → trim ≡ (if b then trim else zeroes)
@@ -56,14 +56,14 @@ by_other : (b : Bool) (trim zeroes : Call) → b ≡ false → zeroes ≡ (if b 
 by_other false trim zeroes e = refl
 by_other true trim zeroes e = absurd cc
 
-pub trim_is : (id : ℕ) (g : Geometry) (r : Request) (count : ℕ) (fua : Bool) → is_trim (form_of r) ≡ true → count ≡ len_of_part g r / 512 → fua ≡ (has_fua r && is_last g r) → Trim id (r.offset / 512) count fua ≡ long_call id g r
-trim_is id g r count fua is c f = by_kind (is_trim (form_of r)) _ (WriteZeroes id (r.offset / 512) count (has_no_hole r) fua) is ∙ both_calls id g r count fua (is_trim (form_of r)) c f
+pub trim_is : (m : Manner) (id : ℕ) (g : Geometry) (r : Request) (count : ℕ) (fua : Bool) → is_trim (form_of r) ≡ true → count ≡ len_of_part g r / 512 → fua ≡ (wants_fua m r && is_last g r) → Trim id (r.offset / 512) count fua ≡ long_call m id g r
+trim_is m id g r count fua is c f = by_kind (is_trim (form_of r)) _ (WriteZeroes id (r.offset / 512) count (has_no_hole r) fua) is ∙ both_calls m id g r count fua (is_trim (form_of r)) c f
 
-pub zeroes_are : (id : ℕ) (g : Geometry) (r : Request) (count : ℕ) (no_hole fua : Bool) → is_trim (form_of r) ≡ false → count ≡ len_of_part g r / 512 → no_hole ≡ has_no_hole r → fua ≡ (has_fua r && is_last g r)
-    → WriteZeroes id (r.offset / 512) count no_hole fua ≡ long_call id g r
-zeroes_are id g r count no_hole fua is c n f =
+pub zeroes_are : (m : Manner) (id : ℕ) (g : Geometry) (r : Request) (count : ℕ) (no_hole fua : Bool) → is_trim (form_of r) ≡ false → count ≡ len_of_part g r / 512 → no_hole ≡ has_no_hole r → fua ≡ (wants_fua m r && is_last g r)
+    → WriteZeroes id (r.offset / 512) count no_hole fua ≡ long_call m id g r
+zeroes_are m id g r count no_hole fua is c n f =
     ap (λ (x : Bool). WriteZeroes id (r.offset / 512) count x fua) n
-    ∙ (by_other (is_trim (form_of r)) (Trim id (r.offset / 512) count fua) _ is ∙ both_calls id g r count fua (is_trim (form_of r)) c f)
+    ∙ (by_other (is_trim (form_of r)) (Trim id (r.offset / 512) count fua) _ is ∙ both_calls m id g r count fua (is_trim (form_of r)) c f)
 
 -- ---- what is left of a change that is kept apart
 
@@ -91,7 +91,7 @@ module _ {D : Type 0} (outline : D → Outline) (Calls : D → Call → Answer �
       → Begins outline Calls call id size m r p sent next p'
   begun_refused call reason sent next calls sent_is is = record { answer = Refused reason; calls = calls; is_begun = (sent_is, is) }
 
-  pub part_refused : (reason : Refusal) (sent : List ℕ) → Calls p (part_call id (outline p).geometry r) (Refused reason) p' → sent ≡ reply_to r.cookie (Refused reason) → MakesPart outline Calls id size m r p sent (Transmission id size (Listens m)) p'
+  pub part_refused : (reason : Refusal) (sent : List ℕ) → Calls p (part_call m id (outline p).geometry r) (Refused reason) p' → sent ≡ reply_to r.cookie (Refused reason) → MakesPart outline Calls id size m r p sent (Transmission id size (Listens m)) p'
   part_refused reason sent call sent_is = record { answer = Refused reason; calls = call; is_made = (sent_is, refl) }
 
   made_last : (last : Bool) (rest : Request) (sent : List ℕ) → last ≡ true → sent ≡ reply_to r.cookie Done → IsMade id size m r rest last Done sent (Transmission id size (Listens m))
@@ -102,11 +102,11 @@ module _ {D : Type 0} (outline : D → Outline) (Calls : D → Call → Answer �
   made_more false rest sent e is = (is, refl)
   made_more true rest sent e is = absurd cc
 
-  pub part_last : (last : Bool) (sent : List ℕ) → Calls p (part_call id (outline p).geometry r) Done p' → last ≡ is_last (outline p).geometry r → last ≡ true → sent ≡ reply_to r.cookie Done
+  pub part_last : (last : Bool) (sent : List ℕ) → Calls p (part_call m id (outline p).geometry r) Done p' → last ≡ is_last (outline p).geometry r → last ≡ true → sent ≡ reply_to r.cookie Done
       → MakesPart outline Calls id size m r p sent (Transmission id size (Listens m)) p'
   part_last last sent call is yes_ sent_is = record { answer = Done; calls = call; is_made = made_last (is_last (outline p).geometry r) _ sent (sym is ∙ yes_) sent_is }
 
-  pub part_more : (last : Bool) (len : ℕ) (sent : List ℕ) → Calls p (part_call id (outline p).geometry r) Done p' → last ≡ is_last (outline p).geometry r → last ≡ false → len ≡ up_to_cut (outline p).geometry r → sent ≡ []
+  pub part_more : (last : Bool) (len : ℕ) (sent : List ℕ) → Calls p (part_call m id (outline p).geometry r) Done p' → last ≡ is_last (outline p).geometry r → last ≡ false → len ≡ up_to_cut (outline p).geometry r → sent ≡ []
       → MakesPart outline Calls id size m r p sent (Transmission id size (Works m (behind r len))) p'
   part_more last len sent call is more cut sent_is =
       let P : ℕ → Type 0 = λ n. MakesPart outline Calls id size m r p sent (Transmission id size (Works m (behind r n))) p' in
@@ -117,7 +117,7 @@ pub ended_by : {D : Type 0} (view : View D) (volume size : ℕ) (manner : Manner
     → Meets view p q Flush answer → IsMade volume size manner r (rest_of g r) (is_last g r) answer sent next → MakesPart view.outline (PoolCall view) volume size manner r p sent next q
 ended_by view volume size manner r g p q answer sent next same flush met made = record {
   answer = answer;
-  calls = subst (λ (b : Bool). PoolCall view p (if b then Flush else long_call volume (view.outline p).geometry r) answer q) (sym flush) met;
+  calls = subst (λ (b : Bool). PoolCall view p (if b then Flush else long_call manner volume (view.outline p).geometry r) answer q) (sym flush) met;
   is_made = subst (λ (h : Geometry). IsMade volume size manner r (rest_of h r) (is_last h r) answer sent next) (sym same) made;
 }
 

@@ -34,6 +34,10 @@ has_fua r = r.flags % 2 == 1
 abbrev pub has_no_hole : Request → Bool
 has_no_hole r = r.flags / 2 % 2 == 1
 
+-- What a request does must be durable before its reply: it has FUA, or its session writes through.
+abbrev pub wants_fua : Manner → Request → Bool
+wants_fua manner r = manner.writes_through || has_fua r
+
 -- DISC is not tested at all. A request of length 0 has nothing to do.
 abbrev pub verdict_on : ℕ → Request → Verdict
 verdict_on size r =
@@ -129,23 +133,24 @@ rest_of g r = behind r (up_to_cut g r)
 
 -- ---- requests that are kept apart
 
--- A WRITE, TRIM or WRITE_ZEROES with FUA of an extended session, but for a long one, is made without it, and a FLUSH is left of it then.
+-- A WRITE, TRIM or WRITE_ZEROES of an extended session that has FUA, or whose session writes through,
+-- is made without FUA, and a FLUSH is left of it then. A long one is not.
 abbrev pub is_kept_apart : Manner → Request → Bool
-is_kept_apart manner r = manner.is_extended && has_fua r
+is_kept_apart manner r = manner.is_extended && wants_fua manner r
 
 -- That FLUSH: it counts as one sector, so it is the last part.
 abbrev pub to_keep : Request → Request
 to_keep r = record { flags = r.flags; kind = COMMAND_FLUSH; cookie = r.cookie; offset = r.offset; len = 512 }
 
 -- the call of the next part of a long request, of which the last one alone has FUA
-abbrev pub long_call : ℕ → Geometry → Request → Call
-long_call id g r =
-    if forms.is_trim (form_of r) then Trim id (r.offset / 512) (len_of_part g r / 512) (has_fua r && is_last g r)
-    else WriteZeroes id (r.offset / 512) (len_of_part g r / 512) (has_no_hole r) (has_fua r && is_last g r)
+abbrev pub long_call : Manner → ℕ → Geometry → Request → Call
+long_call manner id g r =
+    if forms.is_trim (form_of r) then Trim id (r.offset / 512) (len_of_part g r / 512) (wants_fua manner r && is_last g r)
+    else WriteZeroes id (r.offset / 512) (len_of_part g r / 512) (has_no_hole r) (wants_fua manner r && is_last g r)
 
 -- the call of what is made next of a request
-abbrev pub part_call : ℕ → Geometry → Request → Call
-part_call id g r = if forms.is_flush (form_of r) then Flush else long_call id g r
+abbrev pub part_call : Manner → ℕ → Geometry → Request → Call
+part_call manner id g r = if forms.is_flush (form_of r) then Flush else long_call manner id g r
 
 -- what is left of a request whose tests held, for a volume of so many bytes
 pub record IsLeft (size : ℕ) (r : Request) : Type 0 where

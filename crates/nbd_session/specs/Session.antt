@@ -30,13 +30,13 @@ use Rattle.nbd_session.specs.declared.phase.Manner.{Manner}
 use Rattle.nbd_session.specs.declared.phase.Phase.{Phase}
 use Rattle.nbd_session.specs.declared.phase.Phase.TheVariants.{Flags, Options, Transmission, Ended}
 use Rattle.nbd_session.specs.declared.phase.Profile.{Profile}
-use Rattle.nbd_session.specs.declared.phase.Profile.TheVariants.{Strict, Extended, WithDefault, Cloning}
+use Rattle.nbd_session.specs.declared.phase.Profile.TheVariants.{Strict, Extended, WithDefault, Cloning, WritingThrough}
 use Rattle.nbd_session.specs.declared.phase.Terms.{Terms}
 use Rattle.nbd_session.specs.declared.request.Verdict.{Verdict}
 use Rattle.nbd_session.specs.declared.request.Verdict.TheVariants as verdicts
 use Rattle.nbd_session.specs.Status.{IsAllocation, TellsSince, first_block, unit_of}
 use Rattle.nbd_session.specs.Holes.{IsHoled, has_blank}
-use Rattle.nbd_session.specs.Requests.{bytes_of_blocks, form_of, has_fua, has_no_hole, has_since, is_chunked, is_kept_apart, is_last, part_call, rest_of, to_keep, verdict_in}
+use Rattle.nbd_session.specs.Requests.{bytes_of_blocks, form_of, has_no_hole, has_since, is_chunked, is_kept_apart, is_last, part_call, rest_of, to_keep, verdict_in, wants_fua}
 
 -- what a session shows: its phase, and the bytes that it holds of an unfinished frame
 pub record State : Type 0 where
@@ -142,6 +142,15 @@ is_extended Strict = false
 is_extended Extended = true
 is_extended (WithDefault volume) = true
 is_extended (Cloning volume) = true
+is_extended (WritingThrough volume clones) = true
+
+-- each WRITE, TRIM and WRITE_ZEROES is made as with FUA
+abbrev pub writes_through : Profile → Bool
+writes_through Strict = false
+writes_through Extended = false
+writes_through (WithDefault volume) = false
+writes_through (Cloning volume) = false
+writes_through (WritingThrough volume clones) = true
 
 -- a client may have a clone of a volume
 abbrev pub has_clones : Profile → Bool
@@ -149,6 +158,7 @@ has_clones Strict = false
 has_clones Extended = false
 has_clones (WithDefault volume) = false
 has_clones (Cloning volume) = true
+has_clones (WritingThrough volume clones) = clones
 
 -- The first number that names no volume. Where there are clones, ids from 8388608 on are theirs, and nobody names or lists one.
 abbrev pub limit_of : Profile → ℕ
@@ -156,6 +166,7 @@ limit_of Strict = 16777216
 limit_of Extended = 16777216
 limit_of (WithDefault volume) = 16777216
 limit_of (Cloning volume) = 8388608
+limit_of (WritingThrough volume clones) = if clones then 8388608 else 16777216
 
 -- a number, if there is one and it is below the limit
 abbrev pub below : ℕ → Option ℕ → Option ℕ
@@ -168,6 +179,7 @@ default_of Strict = None
 default_of Extended = None
 default_of (WithDefault volume) = if nat_lt volume 16777216 then Some volume else None
 default_of (Cloning volume) = if nat_lt volume 8388608 then Some volume else None
+default_of (WritingThrough volume clones) = if nat_lt volume (if clones then 8388608 else 16777216) then Some volume else None
 
 -- A session that is extended tells CAN_MULTI_CONN too, and one that answers READs in chunks SEND_DF.
 abbrev pub flags_in : Terms → ℕ → ℕ
@@ -203,6 +215,7 @@ manner_by terms is_told is_clone = record {
   tells_blocks = is_told && terms.tells_blocks;
   since = if is_told then terms.since else 16777216;
   is_clone = is_clone;
+  writes_through = writes_through terms.profile;
 }
 
 abbrev pub manner_of : Terms → ℕ → Manner
@@ -571,7 +584,8 @@ module _ {S : Type 0} (outline : S → Outline) (Calls : S → Call → Answer �
   abbrev pub AnswersRead : ℕ → Manner → Request → S → List ℕ → S → Type 0
   AnswersRead id manner r p sent p' = MatchBool manner.is_structured (ReadsInChunks id r p sent p') (Performs (Read id (r.offset / 512) (r.len / 512)) (reply_to r.cookie) p sent p')
 
-  -- A request that changes sectors, by the call without FUA where it is kept apart, and else by the one that has what the request has.
+  -- A request that changes sectors: by the call without FUA if it is kept apart, otherwise by the
+  -- call with the FUA that it wants.
   abbrev pub Changes : Call → Call → ℕ → ℕ → Manner → Request → S → List ℕ → Phase → S → Type 0
   Changes apart call id size manner r p sent next p' =
       MatchBool (is_kept_apart manner r) (Begins apart id size manner r p sent next p')
@@ -585,11 +599,11 @@ module _ {S : Type 0} (outline : S → Outline) (Calls : S → Call → Answer �
   Serves verdicts.Nothing id size manner r payload p sent next p' = Tells (outcome (empty_reply manner r) (Transmission id size (Listens manner))) p sent next p'
   Serves verdicts.Read id size manner r payload p sent next p' = AnswersRead id manner r p sent p' × (next ≡ Transmission id size (Listens manner))
   Serves verdicts.Write id size manner r payload p sent next p' =
-      Changes (Write id (r.offset / 512) (sectors_of payload) false) (Write id (r.offset / 512) (sectors_of payload) (has_fua r)) id size manner r p sent next p'
+      Changes (Write id (r.offset / 512) (sectors_of payload) false) (Write id (r.offset / 512) (sectors_of payload) (wants_fua manner r)) id size manner r p sent next p'
   Serves verdicts.Trim id size manner r payload p sent next p' =
-      Changes (Trim id (r.offset / 512) (r.len / 512) false) (Trim id (r.offset / 512) (r.len / 512) (has_fua r)) id size manner r p sent next p'
+      Changes (Trim id (r.offset / 512) (r.len / 512) false) (Trim id (r.offset / 512) (r.len / 512) (wants_fua manner r)) id size manner r p sent next p'
   Serves verdicts.WriteZeroes id size manner r payload p sent next p' =
-      Changes (WriteZeroes id (r.offset / 512) (r.len / 512) (has_no_hole r) false) (WriteZeroes id (r.offset / 512) (r.len / 512) (has_no_hole r) (has_fua r))
+      Changes (WriteZeroes id (r.offset / 512) (r.len / 512) (has_no_hole r) false) (WriteZeroes id (r.offset / 512) (r.len / 512) (has_no_hole r) (wants_fua manner r))
       id size manner r p sent next p'
   Serves verdicts.Flush id size manner r payload p sent next p' = Performs Flush (reply_to r.cookie) p sent p' × (next ≡ Transmission id size (Listens manner))
   Serves verdicts.Status id size manner r payload p sent next p' = Describes manner id r p sent p' × (next ≡ Transmission id size (Listens manner))
@@ -598,7 +612,7 @@ module _ {S : Type 0} (outline : S → Outline) (Calls : S → Call → Answer �
   -- the next part of a request of which so much is left
   pub record MakesPart (id size : ℕ) (manner : Manner) (r : Request) (p : S) (sent : List ℕ) (next : Phase) (p' : S) : Type 0 where
     pub answer : Answer
-    pub calls : Calls p (part_call id (outline p).geometry r) answer p'
+    pub calls : Calls p (part_call manner id (outline p).geometry r) answer p'
     pub is_made : IsMade id size manner r (rest_of (outline p).geometry r) (is_last (outline p).geometry r) answer sent next
 
   -- The pool was asked how many blocks a volume has, and answered so. A refusal ends the session, which lets the volume go where it holds it.

@@ -10,7 +10,7 @@ ghost use Rattle.nbd_wire.specs.Grammar.{payload_len};
 ghost use Rattle.nbd_wire.specs.declared.TheConstants.{COMMAND_READ, OPTION_LIST};
 ghost use Rattle.nbd_wire.specs.Reading.{message_of};
 ghost use Rattle.nbd_wire.specs.Replies.{simple_reply};
-ghost use Rattle.nbd_session.specs.Requests.{IsWhole, has_fua, has_no_hole, is_kept_apart, known_bytes, to_keep, verdict_in};
+ghost use Rattle.nbd_session.specs.Requests.{IsWhole, has_no_hole, is_kept_apart, known_bytes, to_keep, verdict_in, wants_fua};
 ghost use Rattle.nbd_session.specs.Session.{Answers, AnswersRead, Begins, Changes, GivesUp, LetsGo, LetsOwnGo, Performs, ReadsInChunks, Serves, chunk_to, empty_reply, error_reply, manner_in, own_in, reply_to, terms_of};
 ghost use Rattle.nbd_session.specs.Buffers.{IsSound};
 ghost use Rattle.tp_model.specs.Clauses.{PoolCall};
@@ -234,11 +234,12 @@ fn put_nothing(out: &mut [u8], manner: Manner, request: &Request) -> usize
     }
 }
 
-/// Whether what a request does is to be kept before it is answered.
-pub(crate) fn wants_fua(request: &Request) -> bool
-    ensures { result ≡ has_fua request.now }
+/// Returns whether what a request does must be durable before its reply: it has FUA, or its session
+/// writes through.
+pub(crate) fn wants_fua(manner: Manner, request: &Request) -> bool
+    ensures { result ≡ wants_fua manner request.now }
 {
-    request.flags % 2 == 1
+    manner.writes_through || request.flags % 2 == 1
 }
 
 /// Whether each block that a WRITE_ZEROES touches is to have a data block afterwards.
@@ -252,7 +253,7 @@ pub(crate) fn wants_no_hole(request: &Request) -> bool
 fn is_kept_apart(manner: Manner, request: &Request) -> bool
     ensures { result ≡ is_kept_apart manner request.now }
 {
-    manner.is_extended && wants_fua(request)
+    manner.is_extended && wants_fua(manner, request)
 }
 
 /// The FLUSH that is left of such a request.
@@ -336,7 +337,7 @@ fn write<V: Volumes>(
     if is_kept_apart(manner, &request) {
         return write_apart(pool, volume, size, manner, request, payload, out);
     }
-    let fua = wants_fua(&request);
+    let fua = wants_fua(manner, &request);
     match pool.write(volume, request.offset / 512, payload, fua) {
         Ok(()) => (same, put_reply(out, 0, request.cookie)),
         Err(refusal) => (same, put_refusal(out, refusal, request.cookie)),
@@ -386,7 +387,7 @@ fn trim<V: Volumes>(
     requires some { 0 < request.len }
     requires room { 16 ≤ length out.old }
     ensures answer { Changes V.view.outline (PoolCall V.view) (Trim volume (request.offset / 512) (request.len / 512) false)
-        (Trim volume (request.offset / 512) (request.len / 512) (has_fua request)) volume size manner request pool.old (take result.1 out.new) result.0 pool.new }
+        (Trim volume (request.offset / 512) (request.len / 512) (wants_fua manner request)) volume size manner request pool.old (take result.1 out.new) result.0 pool.new }
     ensures sound { IsSound result.0 }
     ensures fits { result.1 ≤ length out.new }
     ensures len { length out.new ≡ length out.old }
@@ -400,7 +401,7 @@ fn trim<V: Volumes>(
         return trim_apart(pool, volume, size, manner, request, out);
     }
     let count = (request.len / 512) as u64;
-    let fua = wants_fua(&request);
+    let fua = wants_fua(manner, &request);
     match pool.trim(volume, request.offset / 512, count, fua) {
         Ok(()) => (same, put_reply(out, 0, request.cookie)),
         Err(refusal) => (same, put_refusal(out, refusal, request.cookie)),
@@ -451,7 +452,7 @@ fn write_zeroes<V: Volumes>(
     requires some { 0 < request.len }
     requires room { 16 ≤ length out.old }
     ensures answer { Changes V.view.outline (PoolCall V.view) (WriteZeroes volume (request.offset / 512) (request.len / 512) (has_no_hole request) false)
-        (WriteZeroes volume (request.offset / 512) (request.len / 512) (has_no_hole request) (has_fua request)) volume size manner request
+        (WriteZeroes volume (request.offset / 512) (request.len / 512) (has_no_hole request) (wants_fua manner request)) volume size manner request
         pool.old (take result.1 out.new) result.0 pool.new }
     ensures sound { IsSound result.0 }
     ensures fits { result.1 ≤ length out.new }
@@ -467,7 +468,7 @@ fn write_zeroes<V: Volumes>(
     }
     let count = (request.len / 512) as u64;
     let no_hole = wants_no_hole(&request);
-    let fua = wants_fua(&request);
+    let fua = wants_fua(manner, &request);
     match pool.write_zeroes(volume, request.offset / 512, count, no_hole, fua) {
         Ok(()) => (same, put_reply(out, 0, request.cookie)),
         Err(refusal) => (same, put_refusal(out, refusal, request.cookie)),

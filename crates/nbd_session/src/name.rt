@@ -146,6 +146,13 @@ fn default_of(profile: Profile) -> Option<DevId>
                 None
             }
         }
+        Profile::WritingThrough { volume, .. } => {
+            if volume < limit_of(profile) {
+                Some(DevId::new(volume))
+            } else {
+                None
+            }
+        }
     }
 }
 

@@ -15,7 +15,9 @@ ghost use Rattle.nbd_session.specs.Session.{AsksFor, Chooses, Exports, Extends, 
 use crate::clones::{enter_clone, export_clone, set_clone, tell_clone};
 use crate::listing::list;
 use crate::name::{meant, named_in, origin_in};
-use crate::phase::{ContextOf, Course, Manner, NO_VOLUME, Phase, Profile, Terms, is_extended};
+use crate::phase::{
+    ContextOf, Course, Manner, NO_VOLUME, Phase, Profile, Terms, is_extended, writes_through,
+};
 use itoa::Buffer;
 use nbd_wire::{
     ALLOCATION_CONTEXT, OPTION_ABORT, OPTION_EXPORT_NAME, OPTION_GO, OPTION_INFO, OPTION_LIST,
@@ -154,6 +156,7 @@ pub(crate) fn manner_by(terms: Terms, is_told: bool, is_clone: bool) -> Manner
         tells_blocks: is_told && terms.tells_blocks,
         since: since_where(is_told, terms.since),
         is_clone,
+        writes_through: writes_through(terms.profile),
     }
 }
 

@@ -87,6 +87,7 @@ fn behind(rest: Request, len: u64) -> Request
 fn ask_long<V: Volumes>(
     pool: &mut V,
     volume: DevId,
+    manner: Manner,
     rest: &Request,
     part: Part,
 ) -> Result<(), Refusal>
@@ -96,12 +97,12 @@ fn ask_long<V: Volumes>(
     requires len { part.len ≡ len_of_part (V.view.outline pool.old).geometry rest.now }
     requires last { part.is_last ≡ is_last (V.view.outline pool.old).geometry rest.now }
     ensures { MatchResult result
-        (λ _. PoolCall V.view pool.old (long_call volume (V.view.outline pool.old).geometry rest.now) Done pool.new)
-        (λ reason. PoolCall V.view pool.old (long_call volume (V.view.outline pool.old).geometry rest.now) (Refused reason) pool.new) }
+        (λ _. PoolCall V.view pool.old (long_call manner volume (V.view.outline pool.old).geometry rest.now) Done pool.new)
+        (λ reason. PoolCall V.view pool.old (long_call manner volume (V.view.outline pool.old).geometry rest.now) (Refused reason) pool.new) }
 {
     let sector = rest.offset / 512;
     let count = part.len / 512;
-    let fua = wants_fua(rest) && part.is_last;
+    let fua = wants_fua(manner, rest) && part.is_last;
     if rest.kind == COMMAND_TRIM {
         pool.trim(volume, sector, count, fua)
     } else {
@@ -113,6 +114,7 @@ fn ask_long<V: Volumes>(
 fn ask_part<V: Volumes>(
     pool: &mut V,
     volume: DevId,
+    manner: Manner,
     rest: &Request,
     part: Part,
 ) -> Result<(), Refusal>
@@ -122,13 +124,13 @@ fn ask_part<V: Volumes>(
     requires len { part.len ≡ len_of_part (V.view.outline pool.old).geometry rest.now }
     requires last { part.is_last ≡ is_last (V.view.outline pool.old).geometry rest.now }
     ensures { MatchResult result
-        (λ _. PoolCall V.view pool.old (part_call volume (V.view.outline pool.old).geometry rest.now) Done pool.new)
-        (λ reason. PoolCall V.view pool.old (part_call volume (V.view.outline pool.old).geometry rest.now) (Refused reason) pool.new) }
+        (λ _. PoolCall V.view pool.old (part_call manner volume (V.view.outline pool.old).geometry rest.now) Done pool.new)
+        (λ reason. PoolCall V.view pool.old (part_call manner volume (V.view.outline pool.old).geometry rest.now) (Refused reason) pool.new) }
 {
     if rest.kind == COMMAND_FLUSH {
         pool.flush()
     } else {
-        ask_long(pool, volume, rest, part)
+        ask_long(pool, volume, manner, rest, part)
     }
 }
 
@@ -157,7 +159,7 @@ pub fn make_part<V: Volumes>(
     };
     let geometry = pool.geometry();
     let part = part_of(&geometry, &rest);
-    if let Err(refusal) = ask_part(pool, volume, &rest, part) {
+    if let Err(refusal) = ask_part(pool, volume, manner, &rest, part) {
         return (same, put_refusal(out, refusal, rest.cookie));
     }
     if part.is_last {

@@ -1,7 +1,7 @@
 //! Where a session stands.
 
 ghost use Rattle.std.specs.Prelude.{◌≡◌, ◌≤◌};
-ghost use Rattle.nbd_session.specs.Session.{has_clones, has_older, is_at_work, is_extended, is_to_flush, limit_of, manner_in, older_in};
+ghost use Rattle.nbd_session.specs.Session.{has_clones, has_older, is_at_work, is_extended, is_to_flush, limit_of, manner_in, older_in, writes_through};
 
 use nbd_wire::{COMMAND_FLUSH, Request};
 use tp_model::DevId;
@@ -19,15 +19,19 @@ pub enum Profile {
     /// The same, none where the number is over 8388607; and to each connection that asks for it a clone of a volume, which goes with it. Ids from 8388608 on are
     /// those of clones then, and no names.
     Cloning { volume: u32 },
+    /// As `WithDefault` or, with `has_clones`, as `Cloning`; and each WRITE, TRIM and WRITE_ZEROES is
+    /// made as with FUA, so that a crash of the server loses none that was answered.
+    WritingThrough { volume: u32, has_clones: bool },
 }
 
 impl Profile {
     ghost use Rattle.std.specs.Prelude.{◌≡◌, false, true};
-    ghost use Rattle.nbd_session.specs.Session.{below, default_of, has_clones, is_extended};
+    ghost use Rattle.nbd_session.specs.Session.{below, default_of, has_clones, is_extended, writes_through};
 
     /// That of an extended session, with a volume for the empty name, if there is to be one.
     pub fn extended(default: Option<DevId>) -> Profile
         ensures extended { is_extended result ≡ true }
+        ensures buffered { writes_through result ≡ false }
         ensures clones { has_clones result ≡ false }
         ensures default { default_of result ≡ default }
     {
@@ -42,6 +46,7 @@ impl Profile {
     /// That of an extended session which has clones, with a volume for the empty name, if there is to be one and it is none of a clone.
     pub fn cloning(default: Option<DevId>) -> Profile
         ensures extended { is_extended result ≡ true }
+        ensures buffered { writes_through result ≡ false }
         ensures clones { has_clones result ≡ true }
         ensures default { default_of result ≡ below 8388608 default }
     {
@@ -52,6 +57,30 @@ impl Profile {
             },
         }
     }
+
+    /// Returns this profile with each WRITE, TRIM and WRITE_ZEROES made as with FUA. A strict profile
+    /// stays as it is.
+    pub fn writing_through(self) -> Profile
+        ensures through { writes_through result ≡ is_extended self }
+        ensures extended { is_extended result ≡ is_extended self }
+        ensures clones { has_clones result ≡ has_clones self }
+        ensures default { default_of result ≡ default_of self }
+    {
+        match self {
+            Profile::Strict => Profile::Strict,
+            Profile::Extended => through(NO_VOLUME, false),
+            Profile::WithDefault { volume } => through(volume, false),
+            Profile::Cloning { volume } => through(volume, true),
+            Profile::WritingThrough { volume, has_clones } => through(volume, has_clones),
+        }
+    }
+}
+
+/// Returns a profile that writes through.
+fn through(volume: u32, has_clones: bool) -> Profile
+    ensures { result ≡ Profile.WritingThrough volume has_clones }
+{
+    Profile::WritingThrough { volume, has_clones }
 }
 
 /// The least number that is the id of no volume.
@@ -104,6 +133,8 @@ pub struct Manner {
     pub since: u32,
     /// Whether the volume is a clone, which goes with the session.
     pub is_clone: bool,
+    /// Whether each WRITE, TRIM and WRITE_ZEROES is made as with FUA.
+    pub writes_through: bool,
 }
 
 /// What a session in transmission does next.
@@ -171,7 +202,18 @@ pub(crate) fn is_extended(profile: Profile) -> bool
 pub fn has_clones(profile: &Profile) -> bool
     ensures { result ≡ has_clones profile.now }
 {
-    matches!(profile, Profile::Cloning { .. })
+    match profile {
+        Profile::Cloning { .. } => true,
+        Profile::WritingThrough { has_clones, .. } => *has_clones,
+        _ => false,
+    }
+}
+
+/// Returns whether each WRITE, TRIM and WRITE_ZEROES is made as with FUA.
+pub(crate) fn writes_through(profile: Profile) -> bool
+    ensures { result ≡ writes_through profile }
+{
+    matches!(profile, Profile::WritingThrough { .. })
 }
 
 /// The first number that names no volume.
@@ -181,6 +223,9 @@ pub(crate) fn limit_of(profile: Profile) -> u32
 {
     match profile {
         Profile::Cloning { .. } => FIRST_CLONE,
+        Profile::WritingThrough { has_clones, .. } => {
+            if has_clones { FIRST_CLONE } else { NO_VOLUME }
+        }
         _ => NO_VOLUME,
     }
 }

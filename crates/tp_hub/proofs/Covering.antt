@@ -183,7 +183,7 @@ written_stays s P a b later w id k c =
 
 -- ---- the turn of a FLUSH
 
-code_is_some : (e : NbdError) → (0 < nbd_code e) × (nbd_code e < 2 ^ 32)
+pub code_is_some : (e : NbdError) → (0 < nbd_code e) × (nbd_code e < 2 ^ 32)
 code_is_some NotPermitted = let some : 0 < 1 = omega arith in let few : 1 < 4294967296 = omega arith in (some, few)
 code_is_some InputOutput = let some : 0 < 5 = omega arith in let few : 5 < 4294967296 = omega arith in (some, few)
 code_is_some Invalid = let some : 0 < 22 = omega arith in let few : 22 < 4294967296 = omega arith in (some, few)
@@ -207,7 +207,7 @@ no_error e cookie fits is =
     absurd (omega (arith, zero_is, some))
 
 -- a reply has bytes
-no_reply : (error cookie : ℕ) → simple_reply error cookie [] ≡ [] → ⊥
+pub no_reply : (error cookie : ℕ) → simple_reply error cookie [] ≡ [] → ⊥
 no_reply error cookie is =
     let rest : List ℕ = bytes 4 error ++ (bytes 8 cookie ++ []) in
     let none : length (bytes 4 SIMPLE_REPLY_MAGIC ++ rest) ≡ 0 = ap length (sym (simple_head_is error cookie []) ∙ is) in
@@ -215,7 +215,7 @@ no_reply error cookie is =
     let four : length (bytes 4 SIMPLE_REPLY_MAGIC) ≡ 4 = width4.len SIMPLE_REPLY_MAGIC in
     absurd (omega (arith, none, both, four))
 
-answer_of : (s made after : PlainPool) (call : Call) (answer : Answer) → call ≡ Flush → Takes s call answer made after → (answer ≡ Done) ⊎ ((reason : Refusal) × (answer ≡ Refused reason))
+pub answer_of : (s made after : PlainPool) (call : Call) (answer : Answer) → call ≡ Flush → Takes s call answer made after → (answer ≡ Done) ⊎ ((reason : Refusal) × (answer ≡ Refused reason))
 answer_of s made after call answer is (inr fault) = inr (Fault, fault.0)
 answer_of s made after call answer is (inl step) = by_refusal (refusal_of s Flush) (subst (λ (c : Call). Step s c answer after) is step.0)
   where
@@ -274,7 +274,7 @@ module _ (HasUse : PlainPool → Type 0) where
     pub trace_is : t.trace ≡ p.trace ++ entry ∷ []
     pub keeping : keeps entry.event.call entry.event.answer ≡ true
 
-  performed : (p t : Traced) (cookie : ℕ) (answer : Answer) → cookie < 2 ^ 64 → TracedCall HasUse p Flush answer t → simple_reply 0 cookie [] ≡ reply_to cookie answer → Flushed p t
+  pub performed : (p t : Traced) (cookie : ℕ) (answer : Answer) → cookie < 2 ^ 64 → TracedCall HasUse p Flush answer t → simple_reply 0 cookie [] ≡ reply_to cookie answer → Flushed p t
   performed p t cookie answer fits calls told =
       let taken = calls.is_trace.2 in
       elim (answer_of p.pool calls.entry.event.made calls.is_trace.0 calls.entry.event.call calls.entry.event.answer calls.call_is taken) [
@@ -328,7 +328,7 @@ module _ (HasUse : PlainPool → Type 0) where
       → MakesPart outline_of_traced (TracedCall HasUse) volume size m r p (simple_reply 0 r.cookie []) next t → Flushed p t
   part_keeps p t volume size m r next is fits part =
       let g : Geometry = (outline_of_traced p).geometry in
-      let call_is : part_call volume g r ≡ Flush = ap (λ (b : Bool). if b then Flush else long_call volume g r) (eq-eqb r.kind 3 is) in
+      let call_is : part_call m volume g r ≡ Flush = ap (λ (b : Bool). if b then Flush else long_call m volume g r) (eq-eqb r.kind 3 is) in
       let calls : TracedCall HasUse p Flush part.answer t = subst (λ (c : Call). TracedCall HasUse p c part.answer t) call_is part.calls in
       performed p t r.cookie part.answer fits calls (by_answer (is_last g r) part.answer part.is_made)
     where
@@ -369,13 +369,19 @@ pub pool_at : {S : Type 0} (p : S) (xs : List (Happened S)) (h : Happened S) (ys
 pool_at p [] h ys = refl
 pool_at p (x ∷ xs) h ys = pool_at x.pool xs h ys
 
-pub flush_covers : {D : Type 0} (view : View D) (s P : PlainPool) (xs ys : List (Happened Traced)) (h : Happened Traced) (current : Option (Happened D)) → AreTurns outline_of_traced (TracedCall view.has_use) closed (traced s []) (xs ++ h ∷ ys)
-    → KeepsAll (sessions_after closed xs) h → IsFoundIn view s (sessions_after closed (xs ++ h ∷ ys)) (pool_after (traced s []) (xs ++ h ∷ ys)) current P
+pub flushed_covers : {D : Type 0} (view : View D) (s P : PlainPool) (xs ys : List (Happened Traced)) (h : Happened Traced) (current : Option (Happened D)) → AreTurns outline_of_traced (TracedCall view.has_use) closed (traced s []) (xs ++ h ∷ ys)
+    → Flushed view.has_use (pool_after (traced s []) xs) h.pool → IsFoundIn view s (sessions_after closed (xs ++ h ∷ ys)) (pool_after (traced s []) (xs ++ h ∷ ys)) current P
     → IsCovered view s h.pool (sessions_after closed (xs ++ h ∷ ys)) (pool_after (traced s []) (xs ++ h ∷ ys)) current P
-flush_covers view s P xs ys h current are flushed found =
+flushed_covers view s P xs ys h current are f found =
     let split = turn_in view.has_use closed (traced s []) xs h ys are in
-    let f = all_kept view.has_use (sessions_after closed xs) (pool_after (traced s []) xs) h flushed split.0 in
     let more = turns_grow view.has_use h.sessions h.pool ys split.1 in
     let told_is : events_of h.pool.trace ≡ events_of (pool_after (traced s []) xs).trace ++ f.entry.event ∷ [] = ap events_of f.trace_is ∙ events_join (pool_after (traced s []) xs).trace (f.entry ∷ []) in
     covered view s h.pool (events_of (pool_after (traced s []) xs).trace) f.entry.event told_is f.keeping P (pool_after (traced s []) (xs ++ h ∷ ys)) (sessions_after closed (xs ++ h ∷ ys)) more.0
     (ap (λ (t : Traced). t.trace) (pool_at (traced s []) xs h ys) ∙ more.1) current found
+
+pub flush_covers : {D : Type 0} (view : View D) (s P : PlainPool) (xs ys : List (Happened Traced)) (h : Happened Traced) (current : Option (Happened D)) → AreTurns outline_of_traced (TracedCall view.has_use) closed (traced s []) (xs ++ h ∷ ys)
+    → KeepsAll (sessions_after closed xs) h → IsFoundIn view s (sessions_after closed (xs ++ h ∷ ys)) (pool_after (traced s []) (xs ++ h ∷ ys)) current P
+    → IsCovered view s h.pool (sessions_after closed (xs ++ h ∷ ys)) (pool_after (traced s []) (xs ++ h ∷ ys)) current P
+flush_covers view s P xs ys h current are flushed found =
+    let takes = (turn_in view.has_use closed (traced s []) xs h ys are).0 in
+    flushed_covers view s P xs ys h current are (all_kept view.has_use (sessions_after closed xs) (pool_after (traced s []) xs) h flushed takes) found

@@ -19,5 +19,7 @@ mod Ordering
 pub mod Living
 mod Covering
 mod Wrote
+mod Remaining
+mod Through
 mod Fronts
 pub mod Staging

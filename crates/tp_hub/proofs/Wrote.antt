@@ -29,12 +29,12 @@ use Rattle.nbd_session.specs.declared.phase.Phase.{Phase}
 use Rattle.nbd_session.specs.declared.phase.Phase.TheVariants.{Transmission}
 use Rattle.nbd_session.specs.declared.request.Verdict.{Verdict}
 use Rattle.nbd_session.specs.declared.request.Verdict.TheVariants as verdicts
-use Rattle.nbd_session.specs.Requests.{form_of, has_fua, is_kept_apart, is_long, long_error, plainly, status_error, to_keep, verdict_in, verdict_on}
+use Rattle.nbd_session.specs.Requests.{form_of, is_kept_apart, is_long, long_error, plainly, status_error, to_keep, verdict_in, verdict_on, wants_fua}
 use Rattle.nbd_session.proofs.Judging.{error_other, plainly_other, status_other}
 use Rattle.nbd_session.specs.Session.{Answers, Begins, IsMade, Performs, Serves, State, Steps, TakesFrame, Waits, is_at_work, reply_to, state}
 use Rattle.nbd_session.specs.Turns.{AreTurns, Happened, IsFoundIn, Sessions, TakesTurn, Turn, closed, pool_after, sessions_after}
 use Rattle.tp_hub.proofs.Whole.{all_taken, state_is}
-use Rattle.tp_hub.proofs.Covering.{all_kept, and_false, events_join, flush_covers, no_error, no_read, no_status, pool_at, turn_in, turns_grow, written_stays}
+use Rattle.tp_hub.proofs.Covering.{Flushed, all_kept, and_false, events_join, flushed_covers, no_error, no_read, no_status, pool_at, turn_in, turns_grow, written_stays}
 use Rattle.tp_hub.specs.Covered.{Covers, IsCovered, IsKeptThere, IsNewer, IsThere, IsWritten, KeepsAll}
 
 -- ---- the sector that a WRITE gives
@@ -77,12 +77,12 @@ behind_reads r = if r.kind == 1 then verdicts.Write else behind_writes r
 
 module _ (HasUse : PlainPool → Type 0) where
   -- a WRITE that was answered without an error has an event in the trace
-  record Wrote (volume sector : ℕ) (sectors : List Sector) (p t : Traced) : Type 0 where
-    entry : Entry
-    trace_is : t.trace ≡ p.trace ++ entry ∷ []
-    gave : (k : ℕ) (x y : Sector) → slice_get sectors k ≡ Some x → volume_sector entry.event.made volume (sector + k) ≡ Some y → y ≡ x
+  pub record Wrote (volume sector : ℕ) (sectors : List Sector) (p t : Traced) : Type 0 where
+    pub entry : Entry
+    pub trace_is : t.trace ≡ p.trace ++ entry ∷ []
+    pub gave : (k : ℕ) (x y : Sector) → slice_get sectors k ≡ Some x → volume_sector entry.event.made volume (sector + k) ≡ Some y → y ≡ x
 
-  write_answer : (s made after : PlainPool) (call : Call) (volume sector : ℕ) (sectors : List Sector) (fua : Bool) (answer : Answer) → call ≡ Write volume sector sectors fua → Takes s call answer made after → (answer ≡ Done) ⊎ ((reason : Refusal) × (answer ≡ Refused reason))
+  pub write_answer : (s made after : PlainPool) (call : Call) (volume sector : ℕ) (sectors : List Sector) (fua : Bool) (answer : Answer) → call ≡ Write volume sector sectors fua → Takes s call answer made after → (answer ≡ Done) ⊎ ((reason : Refusal) × (answer ≡ Refused reason))
   write_answer s made after call volume sector sectors fua answer is (inr fault) = inr (Fault, fault.0)
   write_answer s made after call volume sector sectors fua answer is (inl step) = by_test (refusal_of s (Write volume sector sectors fua)) (subst (λ (c : Call). Step s c answer after) is step.0)
     where
@@ -112,14 +112,14 @@ module _ (HasUse : PlainPool → Type 0) where
   not_left volume size m rest is = let same : false ≡ true = ap is_at_work is in true≢false (sym same)
 
   whole_wrote : (p t : Traced) (volume size : ℕ) (m : Manner) (r : Request) (payload sent : List ℕ) (next : Phase) → r.cookie < 2 ^ 64 → IsDone volume size m r sent next
-      → Performs outline_of_traced (TracedCall HasUse) (Write volume (r.offset / 512) (sectors_of payload) (has_fua r)) (reply_to r.cookie) p sent t × (next ≡ Transmission volume size (Listens m)) → Wrote volume (r.offset / 512) (sectors_of payload) p t
+      → Performs outline_of_traced (TracedCall HasUse) (Write volume (r.offset / 512) (sectors_of payload) (wants_fua m r)) (reply_to r.cookie) p sent t × (next ≡ Transmission volume size (Listens m)) → Wrote volume (r.offset / 512) (sectors_of payload) p t
   whole_wrote p t volume size m r payload sent next fits (inl told) serves =
       let did = serves.0 in
-      done_by p t volume (r.offset / 512) r.cookie (sectors_of payload) (has_fua r) did.answer fits did.calls (sym told ∙ did.sent_is)
-      (write_answer p.pool did.calls.entry.event.made did.calls.is_trace.0 did.calls.entry.event.call volume (r.offset / 512) (sectors_of payload) (has_fua r) did.calls.entry.event.answer did.calls.call_is did.calls.is_trace.2)
+      done_by p t volume (r.offset / 512) r.cookie (sectors_of payload) (wants_fua m r) did.answer fits did.calls (sym told ∙ did.sent_is)
+      (write_answer p.pool did.calls.entry.event.made did.calls.is_trace.0 did.calls.entry.event.call volume (r.offset / 512) (sectors_of payload) (wants_fua m r) did.calls.entry.event.answer did.calls.call_is did.calls.is_trace.2)
   whole_wrote p t volume size m r payload sent next fits (inr left) serves = absurd (not_left volume size m (to_keep r) (sym serves.1 ∙ left))
 
-  apart_wrote : (p t : Traced) (volume size : ℕ) (m : Manner) (r : Request) (payload sent : List ℕ) (next : Phase) → r.cookie < 2 ^ 64 → IsDone volume size m r sent next
+  pub apart_wrote : (p t : Traced) (volume size : ℕ) (m : Manner) (r : Request) (payload sent : List ℕ) (next : Phase) → r.cookie < 2 ^ 64 → IsDone volume size m r sent next
       → (begins : Begins outline_of_traced (TracedCall HasUse) (Write volume (r.offset / 512) (sectors_of payload) false) volume size m r p sent next t)
       → (begins.calls.entry.event.answer ≡ Done) ⊎ ((reason : Refusal) × (begins.calls.entry.event.answer ≡ Refused reason)) → Wrote volume (r.offset / 512) (sectors_of payload) p t
   apart_wrote p t volume size m r payload sent next fits done begins (inl did) =
@@ -134,7 +134,7 @@ module _ (HasUse : PlainPool → Type 0) where
 
   by_kind : (b : Bool) (p t : Traced) (volume size : ℕ) (m : Manner) (r : Request) (payload sent : List ℕ) (next : Phase) → r.cookie < 2 ^ 64 → IsDone volume size m r sent next
       → MatchBool b (Begins outline_of_traced (TracedCall HasUse) (Write volume (r.offset / 512) (sectors_of payload) false) volume size m r p sent next t)
-      (Performs outline_of_traced (TracedCall HasUse) (Write volume (r.offset / 512) (sectors_of payload) (has_fua r)) (reply_to r.cookie) p sent t × (next ≡ Transmission volume size (Listens m))) → Wrote volume (r.offset / 512) (sectors_of payload) p t
+      (Performs outline_of_traced (TracedCall HasUse) (Write volume (r.offset / 512) (sectors_of payload) (wants_fua m r)) (reply_to r.cookie) p sent t × (next ≡ Transmission volume size (Listens m))) → Wrote volume (r.offset / 512) (sectors_of payload) p t
   by_kind false p t volume size m r payload sent next fits done serves = whole_wrote p t volume size m r payload sent next fits done serves
   by_kind true p t volume size m r payload sent next fits done begins =
       apart_wrote p t volume size m r payload sent next fits done begins
@@ -147,7 +147,7 @@ module _ (HasUse : PlainPool → Type 0) where
   by_verdict p t volume size m r payload sent next (Some e) fits reads tells (inr left) serves = absurd (not_left volume size m (to_keep r) (sym serves.1 ∙ left))
   by_verdict p t volume size m r payload sent next None fits reads tells done serves = by_kind (is_kept_apart m r) p t volume size m r payload sent next fits done serves
 
-  verdict_is : (m : Manner) (size : ℕ) (r : Request) → r.kind ≡ COMMAND_WRITE → 0 < r.len → verdict_in m size r ≡ option_map_or verdicts.Refuse (forms.form_error size (form_of r)) verdicts.Write
+  pub verdict_is : (m : Manner) (size : ℕ) (r : Request) → r.kind ≡ COMMAND_WRITE → 0 < r.len → verdict_in m size r ≡ option_map_or verdicts.Refuse (forms.form_error size (form_of r)) verdicts.Write
   verdict_is m size r is some =
       let kind : r.kind ≡ 1 = is in
       let trim : (r.kind == 4) ≡ false = ne_eqb r.kind 4 (λ f. absurd (omega (arith, kind, f))) in
@@ -190,12 +190,12 @@ module _ (HasUse : PlainPool → Type 0) where
             (subst (λ (v : Verdict). Serves outline_of_traced (TracedCall HasUse) v w.volume w.size w.manner r w.payload p w.sent (h.sessions n).phase h.pool) (verdict_is w.manner w.size r w.is_write some) answered)
       ]
 
-  turns_front : (at : Sessions) (t : Traced) (xs ys : List (Happened Traced)) → AreTurns outline_of_traced (TracedCall HasUse) at t (xs ++ ys) → AreTurns outline_of_traced (TracedCall HasUse) at t xs
+  pub turns_front : (at : Sessions) (t : Traced) (xs ys : List (Happened Traced)) → AreTurns outline_of_traced (TracedCall HasUse) at t (xs ++ ys) → AreTurns outline_of_traced (TracedCall HasUse) at t xs
   turns_front at t [] ys are = tt
   turns_front at t (x ∷ xs) ys are = (are.0, turns_front x.sessions x.pool xs ys are.1)
 
 -- what has sectors has bytes
-some_len : (r : Request) (payload : List ℕ) (k : ℕ) (x : Sector) → r.kind ≡ COMMAND_WRITE → length payload ≡ payload_len r → slice_get (sectors_of payload) k ≡ Some x → 0 < r.len
+pub some_len : (r : Request) (payload : List ℕ) (k : ℕ) (x : Sector) → r.kind ≡ COMMAND_WRITE → length payload ≡ payload_len r → slice_get (sectors_of payload) k ≡ Some x → 0 < r.len
 some_len r payload k x is whole got =
     let lt : k < length (sectors_of payload) = slice_get_within (sectors_of payload) k x got in
     let long : length (sectors_of payload) ≡ length payload / 512 = length-chopped (length payload / 512) payload in
@@ -218,36 +218,36 @@ module _ {D : Type 0} (view : View D) (s P : PlainPool) (first between behind : 
   abbrev pub end : Traced
   end = pool_after (traced s []) (before_flush ++ flush ∷ behind)
 
-  module _ (are : AreTurns outline_of_traced (TracedCall view.has_use) closed (traced s []) (before_flush ++ flush ∷ behind)) (w : IsWritten (sessions_after closed first) write) (flushed : KeepsAll (sessions_after closed before_flush) flush)
-      (found : IsFoundIn view s at_end end current P) (k : ℕ) (x : Sector) (got : slice_get (sectors_of w.payload) k ≡ Some x) where
-    abbrev pub place : ℕ
-    place = w.request.offset / 512 + k
+  module _ (are : AreTurns outline_of_traced (TracedCall view.has_use) closed (traced s []) (before_flush ++ flush ∷ behind)) (found : IsFoundIn view s at_end end current P) where
+    module _ (volume sector : ℕ) (sectors : List Sector) (wrote : Wrote view.has_use volume sector sectors (pool_after (traced s []) first) write.pool) (f : Flushed view.has_use (pool_after (traced s []) before_flush) flush.pool)
+        (k : ℕ) (x : Sector) (got : slice_get sectors k ≡ Some x) where
+      there : (m later : List Entry) → flush.pool.trace ≡ write.pool.trace ++ m → Covers s (events_of flush.pool.trace) (events_of later) P → IsThere (events_of (m ++ later)) volume (sector + k) x P
+      there m later is covers y has =
+          let told = (pool_after (traced s []) first).trace in
+          let all : events_of flush.pool.trace ≡ events_of told ++ wrote.entry.event ∷ events_of m = ap events_of (is ∙ (ap (λ (l : List Entry). l ++ m) wrote.trace_is ∙ append_assoc told (wrote.entry ∷ []) m)) ∙ events_join told (wrote.entry ∷ m) in
+          elim (written_stays s P (events_of told) (events_of m) (events_of later) wrote.entry.event volume (sector + k) (subst (λ (l : List Event). Covers s l (events_of later) P) all covers)) [
+            | inl same ↦ inl (wrote.gave k x y got (sym same ∙ has))
+            | inr newer ↦ inr (subst (λ (l : List Event). IsNewer l volume (sector + k) P) (sym (events_join m later)) newer)
+          ]
 
-    there : (wrote : Wrote view.has_use w.volume (w.request.offset / 512) (sectors_of w.payload) (pool_after (traced s []) first) write.pool) (m later : List Entry) → flush.pool.trace ≡ write.pool.trace ++ m
-        → Covers s (events_of flush.pool.trace) (events_of later) P → IsThere (events_of (m ++ later)) w.volume place x P
-    there wrote m later is covers y has =
-        let told = (pool_after (traced s []) first).trace in
-        let all : events_of flush.pool.trace ≡ events_of told ++ wrote.entry.event ∷ events_of m = ap events_of (is ∙ (ap (λ (l : List Entry). l ++ m) wrote.trace_is ∙ append_assoc told (wrote.entry ∷ []) m)) ∙ events_join told (wrote.entry ∷ m) in
-        elim (written_stays s P (events_of told) (events_of m) (events_of later) wrote.entry.event w.volume place (subst (λ (l : List Event). Covers s l (events_of later) P) all covers)) [
-          | inl same ↦ inl (wrote.gave k x y got (sym same ∙ has))
-          | inr newer ↦ inr (subst (λ (l : List Event). IsNewer l w.volume place P) (sym (events_join m later)) newer)
-        ]
+      by_current : (m : List Entry) → flush.pool.trace ≡ write.pool.trace ++ m → (c : Option (Happened D)) → IsCovered view s flush.pool at_end end c P → IsKeptThere view write.pool at_end end c volume (sector + k) x P
+      by_current m is None (later, tail, c) = (m ++ later, tail ∙ (ap (λ (l : List Entry). l ++ later) is ∙ append_assoc write.pool.trace m later), there m later is c)
+      by_current m is (Some h) (t', later, turn, tail, c) = (t', m ++ later, turn, tail ∙ (ap (λ (l : List Entry). l ++ later) is ∙ append_assoc write.pool.trace m later), there m later is c)
 
-    kept : (c : Option (Happened D)) → IsCovered view s flush.pool at_end end c P → IsKeptThere view write.pool at_end end c w.volume place x P
-    kept c covers =
-        let split = turn_in view.has_use closed (traced s []) first write between (turns_front view.has_use closed (traced s []) before_flush (flush ∷ behind) are) in
-        let wrote = write_enters view.has_use (sessions_after closed first) (pool_after (traced s []) first) write w (some_len w.request w.payload k x w.is_write w.frame.whole got) split.0 in
-        let more = turns_grow view.has_use write.sessions write.pool between split.1 in
-        let f = all_kept view.has_use (sessions_after closed before_flush) (pool_after (traced s []) before_flush) flush flushed (turn_in view.has_use closed (traced s []) before_flush flush behind are).0 in
-        let m : List Entry = more.0 ++ f.entry ∷ [] in
-        let is : flush.pool.trace ≡ write.pool.trace ++ m =
-        f.trace_is ∙ (ap (λ (l : List Entry). l ++ f.entry ∷ []) (ap (λ (t : Traced). t.trace) (pool_at (traced s []) first write between) ∙ more.1) ∙ append_assoc write.pool.trace more.0 (f.entry ∷ [])) in
-        by_current wrote m is c covers
-      where
-        by_current : (wrote : Wrote view.has_use w.volume (w.request.offset / 512) (sectors_of w.payload) (pool_after (traced s []) first) write.pool) (m : List Entry) → flush.pool.trace ≡ write.pool.trace ++ m → (c : Option (Happened D))
-            → IsCovered view s flush.pool at_end end c P → IsKeptThere view write.pool at_end end c w.volume place x P
-        by_current wrote m is None (later, tail, c) = (m ++ later, tail ∙ (ap (λ (l : List Entry). l ++ later) is ∙ append_assoc write.pool.trace m later), there wrote m later is c)
-        by_current wrote m is (Some h) (t', later, turn, tail, c) = (t', m ++ later, turn, tail ∙ (ap (λ (l : List Entry). l ++ later) is ∙ append_assoc write.pool.trace m later), there wrote m later is c)
+      -- what was written is there behind a flush that was made since
+      pub wrote_is_kept : IsKeptThere view write.pool at_end end current volume (sector + k) x P
+      wrote_is_kept =
+          let split = turn_in view.has_use closed (traced s []) first write between (turns_front view.has_use closed (traced s []) before_flush (flush ∷ behind) are) in
+          let more = turns_grow view.has_use write.sessions write.pool between split.1 in
+          let m : List Entry = more.0 ++ f.entry ∷ [] in
+          let is : flush.pool.trace ≡ write.pool.trace ++ m =
+          f.trace_is ∙ (ap (λ (l : List Entry). l ++ f.entry ∷ []) (ap (λ (t : Traced). t.trace) (pool_at (traced s []) first write between) ∙ more.1) ∙ append_assoc write.pool.trace more.0 (f.entry ∷ [])) in
+          by_current m is current (flushed_covers view s P before_flush behind flush current are f found)
 
-    pub write_is_kept : IsKeptThere view write.pool at_end end current w.volume place x P
-    write_is_kept = kept current (flush_covers view s P before_flush behind flush current are flushed found)
+    module _ (w : IsWritten (sessions_after closed first) write) (flushed : KeepsAll (sessions_after closed before_flush) flush) (k : ℕ) (x : Sector) (got : slice_get (sectors_of w.payload) k ≡ Some x) where
+      pub write_is_kept : IsKeptThere view write.pool at_end end current w.volume (w.request.offset / 512 + k) x P
+      write_is_kept =
+          let split = turn_in view.has_use closed (traced s []) first write between (turns_front view.has_use closed (traced s []) before_flush (flush ∷ behind) are) in
+          let wrote = write_enters view.has_use (sessions_after closed first) (pool_after (traced s []) first) write w (some_len w.request w.payload k x w.is_write w.frame.whole got) split.0 in
+          let f = all_kept view.has_use (sessions_after closed before_flush) (pool_after (traced s []) before_flush) flush flushed (turn_in view.has_use closed (traced s []) before_flush flush behind are).0 in
+          wrote_is_kept w.volume (w.request.offset / 512) (sectors_of w.payload) wrote f k x got

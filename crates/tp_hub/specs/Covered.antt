@@ -1,5 +1,5 @@
 -- Trusted reading: what the reply to one client's FLUSH says of what all clients were answered before (NBD's proto.md, "NBD_FLAG_CAN_MULTI_CONN").
-use Rattle.std.specs.Prelude.{◌≡◌, ◌⊎◌, ℕ, ◌<◌, ◌^◌, false, List, [], ◌∷◌, ◌++◌, length, Option, None, Some}
+use Rattle.std.specs.Prelude.{◌≡◌, ◌⊎◌, ℕ, ◌<◌, ◌^◌, Bool, false, true, List, [], ◌∷◌, ◌++◌, length, Option, None, Some}
 use Rattle.tp_model.specs.Sectors.{Sector}
 use Rattle.tp_model.specs.Pool.{PlainPool, volume_sector}
 use Rattle.tp_model.specs.PoolStops.{Event, GivenBy, GivenIn, MayReopen, state_after}
@@ -12,7 +12,8 @@ use Rattle.nbd_session.specs.declared.phase.Course.TheVariants.{Listens, Works}
 use Rattle.nbd_session.specs.declared.phase.Manner.{Manner}
 use Rattle.nbd_session.specs.declared.phase.Phase.TheVariants.{Transmission}
 use Rattle.nbd_session.specs.Requests.{to_keep}
-use Rattle.nbd_session.specs.Turns.{Happened, Hears, Sessions, TakesTurn}
+use Rattle.nbd_session.specs.Session.{writes_through}
+use Rattle.nbd_session.specs.Turns.{Asks, Happened, Hears, Leaves, Opens, Sessions, TakesTurn, Turn}
 
 -- In this turn a FLUSH of some session came to its end, and was answered without an error.
 pub record IsFlushed {S : Type 0} (at : Sessions) (h : Happened S) : Type 0 where
@@ -78,6 +79,34 @@ pub record IsWritten {S : Type 0} (at : Sessions) (h : Happened S) : Type 0 wher
   pub sent : List ℕ
   pub turn : h.turn ≡ Hears session piece (length piece) sent false
   pub is_done : (sent ≡ simple_reply 0 request.cookie []) ⊎ ((h.sessions session).phase ≡ Transmission volume size (Works manner (to_keep request)))
+
+-- If a client came to this session in a turn, it was offered a profile that writes through; so was
+-- each client of this session in some turns.
+abbrev pub IsOffered : ℕ → Turn → Type 0
+IsOffered n (Opens session profile sent) = session ≡ n → writes_through profile ≡ true
+IsOffered n (Hears session piece taken sent ended) = Unit {0}
+IsOffered n (Leaves session) = Unit {0}
+IsOffered n (Asks call answer) = Unit {0}
+
+abbrev pub AreOffered : {S : Type 0} → ℕ → List (Happened S) → Type 0
+AreOffered n [] = Unit {0}
+AreOffered n (h ∷ hs) = IsOffered n h.turn × AreOffered n hs
+
+-- In this turn some session took a WRITE.
+pub record IsWriteTaken {S : Type 0} (at : Sessions) (h : Happened S) : Type 0 where
+  pub session : ℕ
+  pub volume : ℕ
+  pub size : ℕ
+  pub manner : Manner
+  pub serves : (at session).phase ≡ Transmission volume size (Listens manner)
+  pub request : Request
+  pub is_write : request.kind ≡ COMMAND_WRITE
+  pub payload : List ℕ
+  pub piece : List ℕ
+  pub frame : IsRequest ((at session).held ++ piece) request payload
+  pub sent : List ℕ
+  pub ended : Bool
+  pub turn : h.turn ≡ Hears session piece (length piece) sent ended
 
 -- a sector, where the volume has it, is this one, or newer
 abbrev pub IsThere : List Event → ℕ → ℕ → Sector → PlainPool → Type 0

@@ -9,20 +9,21 @@ ghost use Rattle.nbd_session.specs.declared.phase.Profile.{Profile};
 ghost use Rattle.nbd_wire.specs.declared.Request.{Request};
 ghost use Rattle.nbd_wire.specs.declared.TheConstants.{REQUEST_MAGIC};
 ghost use Rattle.nbd_wire.specs.Grammar.{FitsRequest, request_text};
+ghost use Rattle.nbd_wire.specs.Replies.{simple_reply};
 ghost use Rattle.nbd_session.specs.declared.phase.Course.TheVariants.{Listens};
 ghost use Rattle.nbd_session.specs.declared.phase.Manner.{Manner};
 ghost use Rattle.nbd_session.specs.declared.phase.Phase.TheVariants.{Transmission};
 ghost use Rattle.nbd_session.specs.Requests.{form_of, is_long, long_error};
 ghost use Rattle.nbd_session.specs.Session.{state};
 ghost use Rattle.nbd_session.specs.Clauses.{GoesWithTrace};
-ghost use Rattle.nbd_session.specs.Turns.{AreSame, AreTurns, Happened, IsFoundIn, Sessions, closed, pool_after, sessions_after};
+ghost use Rattle.nbd_session.specs.Turns.{AreSame, AreTurns, Happened, IsFoundIn, Sessions, closed, pool_after, sent_to, sessions_after};
 ghost use Rattle.tp_hub.specs.Told.{Told};
 ghost use Rattle.tp_hub.specs.Runs.{AreServed, Brings, Comes, Incoming, Runs, Served, turns_in};
 ghost use Rattle.tp_hub.specs.Parts.{IsIdle, IsMadeWhole};
 ghost use Rattle.tp_hub.specs.Desks.{AreAsked, Exchange};
 ghost use Rattle.tp_hub.specs.Serve.{HubRuns, PlainRuns, with_pool};
 ghost use Rattle.tp_hub.specs.Serving.{HubState};
-ghost use Rattle.tp_hub.specs.Covered.{Covers, IsCovered, IsKeptThere, IsNewer, IsWritten, KeepsAll};
+ghost use Rattle.tp_hub.specs.Covered.{AreOffered, Covers, IsCovered, IsKeptThere, IsNewer, IsWriteTaken, IsWritten, KeepsAll};
 ghost use Rattle.tp_hub.specs.Lives.{AreHubLives, ArePlainLives, HubLife};
 ghost use Rattle.tp_hub.specs.Pairs.{InTurn};
 
@@ -101,6 +102,22 @@ pub fn a_flush_keeps_what_any_client_wrote<V: Volumes>()
         → IsFoundIn V.view s (sessions_after closed ((first ++ write ∷ between) ++ flush ∷ behind)) (pool_after (traced s []) ((first ++ write ∷ between) ++ flush ∷ behind)) current P
         → (k : ℕ) (x : Sector) → slice_get (sectors_of w.payload) k ≡ Some x
         → IsKeptThere V.view write.pool (sessions_after closed ((first ++ write ∷ between) ++ flush ∷ behind)) (pool_after (traced s []) ((first ++ write ∷ between) ++ flush ∷ behind)) current
+        w.volume (w.request.offset / 512 + k) x P }
+{}
+
+/// A client whose profile writes through loses no answered WRITE in a crash. No client's FLUSH is
+/// needed for that.
+///
+/// A session takes a WRITE in a turn. From that turn on to a later one it is sent the reply that the
+/// WRITE is done, and nothing else. After a crash at any moment since, each sector of the WRITE that
+/// the volume has is found, or a newer one.
+pub fn an_answered_write_through_is_kept<V: Volumes>()
+    ensures { (s P : PlainPool) (first more behind : List (Happened Traced)) (write : Happened Traced) (current : Option (Happened V))
+        → AreTurns outline_of_traced (TracedCall V.view.has_use) closed (traced s []) (first ++ write ∷ (more ++ behind))
+        → (w : IsWriteTaken (sessions_after closed first) write) → AreOffered w.session first → sent_to w.session (write ∷ more) ≡ simple_reply 0 w.request.cookie []
+        → IsFoundIn V.view s (sessions_after closed (first ++ write ∷ (more ++ behind))) (pool_after (traced s []) (first ++ write ∷ (more ++ behind))) current P
+        → (k : ℕ) (x : Sector) → slice_get (sectors_of w.payload) k ≡ Some x
+        → IsKeptThere V.view write.pool (sessions_after closed (first ++ write ∷ (more ++ behind))) (pool_after (traced s []) (first ++ write ∷ (more ++ behind))) current
         w.volume (w.request.offset / 512 + k) x P }
 {}
 

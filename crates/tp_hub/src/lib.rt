@@ -32,9 +32,10 @@ pub use desk::{Desk, HubDesk};
 pub use event::Event;
 pub use hub::{Hub, Ran, SESSIONS};
 pub use laws::{
-    a_flush_covers_all_clients, a_flush_keeps_what_any_client_wrote, asks_are_traced,
-    hub_lives_are_plain, long_requests_are_made, runs_are_traced, runs_are_turns, runs_go_on,
-    runs_join, two_are_heard_in_turn,
+    a_flush_covers_all_clients, a_flush_keeps_what_any_client_wrote,
+    an_answered_write_through_is_kept, asks_are_traced, hub_lives_are_plain,
+    long_requests_are_made, runs_are_traced, runs_are_turns, runs_go_on, runs_join,
+    two_are_heard_in_turn,
 };
 pub use log::{Log, Made};
 pub use seat::Seat;

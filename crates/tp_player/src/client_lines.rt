@@ -183,7 +183,7 @@ impl World {
             return (Answer::Misplaced, false);
         }
         let answer = self.read_reply(number, request, cookie);
-        let commits = request.operation.has_fua() && request.count > 0;
+        let commits = self.connection(number).commits(request) && request.count > 0;
         (
             answer,
             self.compare_request(number, request, answer, commits),
@@ -271,7 +271,8 @@ impl World {
     fn end_parts(&mut self, number: u8, request: &Request) -> Answer {
         let cookie = self.connection(number).cookie;
         let answer = self.read_reply(number, request, cookie);
-        self.compare_request(number, request, answer, request.operation.has_fua());
+        let commits = self.connection(number).commits(request);
+        self.compare_request(number, request, answer, commits);
         answer
     }
 

@@ -41,6 +41,12 @@ impl Connection {
         self.offer != Offer::Strict
     }
 
+    /// Returns whether the answer of a request makes everything durable.
+    pub(crate) fn commits(&self, request: &tp_script::Request) -> bool {
+        let is_through = self.offer == Offer::Through && !request.operation.only_reads();
+        is_through || request.operation.has_fua()
+    }
+
     /// Returns whether a volume with this number has a name for the client.
     pub(crate) fn names(&self, id: u32) -> bool {
         !matches!(self.offer, Offer::Clones(_)) || id < FIRST_CLONE
@@ -77,6 +83,7 @@ fn profile_of(offer: Offer) -> Profile {
     match offer {
         Offer::Strict => Profile::Strict,
         Offer::Extended => Profile::Extended,
+        Offer::Through => Profile::Extended.writing_through(),
         Offer::Default(volume) => Profile::extended(Some(DevId::new(volume % 16_777_216))),
         Offer::Clones(None) => Profile::cloning(None),
         Offer::Clones(Some(volume)) => Profile::cloning(Some(DevId::new(volume % 16_777_216))),

@@ -2,7 +2,7 @@
 
 ghost use Rattle.std.specs.Prelude.{◌≡◌, IfErr, true, if◌then◌else◌};
 ghost use Rattle.std.specs.FinMap.{empty};
-ghost use Rattle.nbd_session.specs.Session.{below, default_of, has_clones, is_extended};
+ghost use Rattle.nbd_session.specs.Session.{below, default_of, has_clones, is_extended, writes_through};
 ghost use Rattle.tp_disk.specs.HandedOut.{IsHandedOut};
 ghost use Rattle.tp_holders.specs.Holders.{holds_of};
 ghost use Rattle.tp_lock.specs.Locked.{CameOf};
@@ -212,9 +212,10 @@ fn default_for(number: Option<u64>) -> Option<DevId>
     }
 }
 
-/// What is offered to each client.
-fn profile_of(service: &Service<'_>) -> Profile
+/// Returns the profile of each client without `--write-through`.
+fn offered_to(service: &Service<'_>) -> Profile
     ensures extended { is_extended result ≡ true }
+    ensures buffered { writes_through result ≡ false }
     ensures clones { has_clones result ≡ service.now.has_clones }
     ensures default { default_of result ≡ (if service.now.has_clones then below 8388608 (default_for service.now.default) else default_for service.now.default) }
 {
@@ -223,6 +224,21 @@ fn profile_of(service: &Service<'_>) -> Profile
         Profile::cloning(default)
     } else {
         Profile::extended(default)
+    }
+}
+
+/// Returns the profile of each client.
+fn profile_of(service: &Service<'_>) -> Profile
+    ensures extended { is_extended result ≡ true }
+    ensures through { writes_through result ≡ service.now.writes_through }
+    ensures clones { has_clones result ≡ service.now.has_clones }
+    ensures default { default_of result ≡ (if service.now.has_clones then below 8388608 (default_for service.now.default) else default_for service.now.default) }
+{
+    let profile = offered_to(service);
+    if service.writes_through {
+        profile.writing_through()
+    } else {
+        profile
     }
 }
 

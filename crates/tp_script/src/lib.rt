@@ -17,7 +17,7 @@
 //! - The pool: `message LINE`, `change LINE` (a message without its commit), `flush`, `status`, `thin ID`, `size ID`, `volumes`,
 //!   `read ID SECTOR COUNT`, `write ID SECTOR COUNT VALUE [fua]`, `trim ..`, `zero .. [no-hole] [fua]`, `read-metadata-snap ..`,
 //!   `read-shared ..`, `walk ID FROM`, `walk-shared ..`, `map ID FROM`, `delta ID OTHER FROM`, and of all volumes `sizes` and `contents`.
-//! - A client: `client N connect [strict|extended|default ID|clones [ID]]`, `go NAME`, `export-name NAME`, `info NAME`, `list`, `abort`,
+//! - A client: `client N connect [strict|extended|through|default ID|clones [ID]]`, `go NAME`, `export-name NAME`, `info NAME`, `list`, `abort`,
 //!   `structured`, `contexts ID NAME..`, `list-contexts ..`, `read|write|trim|zero ..` without ID, `block-status SECTOR COUNT [one]`,
 //!   `flush`, `half REQUEST` and `rest`, `begin REQUEST` and `next-part`, `read-shared ..`, `send BYTES`, `disc`, `hang-up`.
 //! - A crash: `crash IMAGE`, or a block `if-crashed IMAGE .. end` that is played beside the case. IMAGE is `oldest`, `newest`,

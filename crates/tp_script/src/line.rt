@@ -66,6 +66,8 @@ pub struct Request {
 pub enum Offer {
     Strict,
     Extended,
+    /// Extended, and each change is made as one with FUA.
+    Through,
     /// Extended, and the empty name is this volume.
     Default(u32),
     /// Extended, with clones of volumes; the empty name is this volume, if there is one.

@@ -30,6 +30,7 @@ fn offer(words: &mut Words<'_>) -> Offer {
     match words.next_name() {
         "" | "strict" => Offer::Strict,
         "extended" => Offer::Extended,
+        "through" => Offer::Through,
         "default" => Offer::Default(words.id()),
         "clones" => clones(words),
         _ => {

@@ -149,11 +149,12 @@ told_app app = with_rule (with_rule app (number_option_rule (codes "LOW_WATER") 
 abbrev pub socket_app : App → App
 socket_app app = with_rule (with_rule app (option_rule (codes "SOCKET_MODE") (codes "socket-mode"))) (option_rule (codes "SOCKET_GROUP") (codes "socket-group"))
 
--- `thinpool run IMAGE --listen WHERE.. [--control WHERE] [--default ID] [--clones] [--exit-on-failure] [--low-water PERCENT] [--quiet] [--socket-mode MODE] [--socket-group GROUP]`
+-- `thinpool run IMAGE --listen WHERE.. [--control WHERE] [--default ID] [--clones] [--write-through] [--exit-on-failure] [--low-water PERCENT] [--quiet] [--socket-mode MODE] [--socket-group GROUP]`
 abbrev pub run_app : App
 run_app =
-    socket_app (told_app (with_rule (with_rule (with_rule (with_rule (with_rule (image_app (codes "run")) (repeated_rule (codes "LISTEN") (codes "listen"))) (option_rule (codes "CONTROL") (codes "control")))
-    (number_option_rule (codes "DEFAULT") (codes "default"))) (flag_rule (codes "CLONES") (codes "clones"))) (flag_rule (codes "EXIT_ON_FAILURE") (codes "exit-on-failure"))))
+    socket_app (told_app (with_rule (with_rule (with_rule (with_rule (with_rule (with_rule (image_app (codes "run")) (repeated_rule (codes "LISTEN") (codes "listen"))) (option_rule (codes "CONTROL") (codes "control")))
+    (number_option_rule (codes "DEFAULT") (codes "default"))) (flag_rule (codes "CLONES") (codes "clones"))) (flag_rule (codes "WRITE_THROUGH") (codes "write-through")))
+    (flag_rule (codes "EXIT_ON_FAILURE") (codes "exit-on-failure"))))
 
 -- `thinpool ask WHERE LINE [LINE2] [LINE3] [LINE4]`
 abbrev pub ask_app : App
@@ -461,7 +462,8 @@ abbrev pub IsRun : List Row → Task → Type 0
 IsRun rows (Run image service) =
     HasText (codes "IMAGE") rows image × HasTexts (codes "LISTEN") rows service.places × MayHaveText (codes "CONTROL") rows service.control
     × MayHaveUpTo 16777215 (codes "DEFAULT") rows service.default × MayHaveUpTo 100 (codes "LOW_WATER") rows service.low_water × (service.is_quiet ≡ is_used (codes "QUIET") rows)
-    × (service.has_clones ≡ is_used (codes "CLONES") rows) × (service.ends_on_failure ≡ is_used (codes "EXIT_ON_FAILURE") rows)
+    × (service.has_clones ≡ is_used (codes "CLONES") rows) × (service.writes_through ≡ is_used (codes "WRITE_THROUGH") rows)
+    × (service.ends_on_failure ≡ is_used (codes "EXIT_ON_FAILURE") rows)
     × MayHaveMode (codes "SOCKET_MODE") rows service.rights.mode × MayHaveText (codes "SOCKET_GROUP") rows service.rights.group
 IsRun rows task = ⊥
 

@@ -29,6 +29,7 @@ pub(crate) fn run_task<'a>(arguments: &ArgMatches<'a>) -> Option<Task<'a>>
     let ruler = text_if_there(arguments, "CONTROL");
     let is_quiet = has_flag(arguments, "QUIET");
     let has_clones = has_flag(arguments, "CLONES");
+    let writes_through = has_flag(arguments, "WRITE_THROUGH");
     let ends_on_failure = has_flag(arguments, "EXIT_ON_FAILURE");
     let service = Service {
         places,
@@ -37,6 +38,7 @@ pub(crate) fn run_task<'a>(arguments: &ArgMatches<'a>) -> Option<Task<'a>>
         low_water,
         is_quiet,
         has_clones,
+        writes_through,
         ends_on_failure,
         rights: SocketRights { mode, group },
     };

@@ -98,6 +98,8 @@ pub struct Service<'a> {
     pub is_quiet: bool,
     /// Whether a client may have a clone of a volume, which goes with it. Then ids from 8388608 on are those of clones.
     pub has_clones: bool,
+    /// Whether each WRITE, TRIM and WRITE_ZEROES is durable when it is answered.
+    pub writes_through: bool,
     /// Whether it ends when the pool has failed.
     pub ends_on_failure: bool,
     /// Who may connect to the socket files that the server creates.

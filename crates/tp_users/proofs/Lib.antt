@@ -17,3 +17,4 @@ mod Copies
 mod Freeing
 mod Leading
 mod Walks
+mod Joining

@@ -4,3 +4,4 @@ pub mod Left
 pub mod Lives
 pub mod Lived
 pub mod Walked
+pub mod Through

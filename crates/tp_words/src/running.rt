@@ -25,6 +25,9 @@ when the client disconnects. Each connection has a clone of its own, even after 
 are the volumes 8388608 to 8388671; at the start all volumes with these ids are deleted. No client
 can open or list a volume with an id of 8388608 or more.
 
+With --write-through no answered WRITE is lost if the server crashes. Use it for clients that
+reconnect without replaying their writes: QEMU with reconnect-delay, nbd-client -persist.
+
 The log on standard error has one line for each event, with the time in UTC: a client connects or
 disconnects (with its volume, requests and bytes), waits for a slot, or names a volume that does not
 exist; a control line changed something; free data or metadata falls below PERCENT %, is used up, or
@@ -110,6 +113,7 @@ pub(crate) fn run_command<'a>(alloc: Global) -> Result<Command<'a>, AllocError>
     let control = "Address to listen on for control lines while clients are served";
     let default = "Volume of a client that names none [0 to 16777215]";
     let clones = "Offer clones; deletes volumes 8388608 to 8388671 first";
+    let through = "Make each WRITE, TRIM and WRITE_ZEROES durable before its reply";
     let ends = "End with exit status 1 when the pool has failed";
     let made = of_image(alloc, "run", about, image, RUN_HELP);
     let made = with(made, repeated(alloc, "LISTEN", "listen", "WHERE", listen));
@@ -119,6 +123,10 @@ pub(crate) fn run_command<'a>(alloc: Global) -> Result<Command<'a>, AllocError>
         number_option(alloc, "DEFAULT", "default", "ID", default),
     );
     let made = with(made, flag(alloc, "CLONES", "clones", clones));
+    let made = with(
+        made,
+        flag(alloc, "WRITE_THROUGH", "write-through", through),
+    );
     let made = with(
         made,
         flag(alloc, "EXIT_ON_FAILURE", "exit-on-failure", ends),

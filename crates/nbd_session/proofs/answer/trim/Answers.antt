@@ -1,7 +1,7 @@
 use Rattle.std.proofs.Common.{rules, ◌/◌, ◌∙◌, refl, sym, take}
 use Rattle.tp_model.specs.Calls.{Trim}
 use Rattle.tp_model.specs.Clauses.{PoolCall}
-use Rattle.nbd_session.specs.Requests.{has_fua, is_kept_apart}
+use Rattle.nbd_session.specs.Requests.{is_kept_apart, wants_fua}
 use Rattle.nbd_session.specs.Session.{Performs, reply_to}
 use Rattle.nbd_session.proofs.Serving.{matched, unmatched}
 use Rattle.nbd_session.proofs.answer.trim.Goals as goal
@@ -11,12 +11,12 @@ returns-then-is_kept_apart-clause-answer g c = matched _ _ (is_kept_apart c.args
 
 pub returns-in-Ok-clause-answer : goal.returns-in-Ok-clause-answer
 returns-in-Ok-clause-answer g c =
-    let told : Performs g.V.Volumes.view.outline (PoolCall g.V.Volumes.view) (Trim c.args.volume (c.args.request.offset / 512) (c.args.request.len / 512) (has_fua c.args.request)) (reply_to c.args.request.cookie)
+    let told : Performs g.V.Volumes.view.outline (PoolCall g.V.Volumes.view) (Trim c.args.volume (c.args.request.offset / 512) (c.args.request.len / 512) (wants_fua c.args.manner c.args.request)) (reply_to c.args.request.cookie)
     c.args.pool.now (take c.put_reply.result c.put_reply.new.out) c.trim.new.self = search rules in
     unmatched _ _ (is_kept_apart c.args.manner c.args.request) (sym c.is_kept_apart.ensures ∙ c.if-is_kept_apart.false) (told, refl)
 
 pub returns-in-Err-clause-answer : goal.returns-in-Err-clause-answer
 returns-in-Err-clause-answer g c =
-    let told : Performs g.V.Volumes.view.outline (PoolCall g.V.Volumes.view) (Trim c.args.volume (c.args.request.offset / 512) (c.args.request.len / 512) (has_fua c.args.request)) (reply_to c.args.request.cookie)
+    let told : Performs g.V.Volumes.view.outline (PoolCall g.V.Volumes.view) (Trim c.args.volume (c.args.request.offset / 512) (c.args.request.len / 512) (wants_fua c.args.manner c.args.request)) (reply_to c.args.request.cookie)
     c.args.pool.now (take c.put_refusal.result c.put_refusal.new.out) c.trim.new.self = search rules in
     unmatched _ _ (is_kept_apart c.args.manner c.args.request) (sym c.is_kept_apart.ensures ∙ c.if-is_kept_apart.false) (told, refl)

@@ -13,10 +13,13 @@ returns c =
     let three = with_rule two default in
     let clones = flag_rule (codes "CLONES") (codes "clones") in
     let four = with_rule three clones in
+    let through = flag_rule (codes "WRITE_THROUGH") (codes "write-through") in
+    let five = with_rule four through in
     let ends = flag_rule (codes "EXIT_ON_FAILURE") (codes "exit-on-failure") in
-    c.with_rights.ensures (told_app (with_rule four ends))
-    (c.with_telling.ensures (with_rule four ends)
-    (c.with-made-5.ensures four ends
+    c.with_rights.ensures (told_app (with_rule five ends))
+    (c.with_telling.ensures (with_rule five ends)
+    (c.with-made-6.ensures five ends
+    (c.with-made-5.ensures four through
     (c.with-made-4.ensures three clones
     (c.with-made-3.ensures two default
     (c.with-made-2.ensures one control
@@ -24,4 +27,5 @@ returns c =
     (c.option.ensures.rule, c.option.ensures.local))
     (c.number_option.ensures.rule, c.number_option.ensures.local))
     (c.flag.ensures.rule, c.flag.ensures.local))
-    (c.flag-2.ensures.rule, c.flag-2.ensures.local)))
+    (c.flag-2.ensures.rule, c.flag-2.ensures.local))
+    (c.flag-3.ensures.rule, c.flag-3.ensures.local)))
