@@ -6,13 +6,14 @@ pub returns-clause-kept : goal.returns-clause-kept
 returns-clause-kept g c old before =
     let view = g.V.Volumes.view in
     let of = g.V.Midway.SharedReads.of in
+    let left = g.V.Midway.SharedReads.left in
     let slots = c.args.sessions.now in
     let did = c.flush_on in
-    let f = flush_pool view of c.args.place.now slots c.args.order.now old (c.is_for.ensures.its c.if-not-is_for.false) before in
-    flush_kept view of did.result old slots did.new.sessions did.new.place (incoming c.args.event.now) c.args.out.now did.new.out f.1 (did.ensures.kept old.pool f.0)
+    let f = flush_pool view of left c.args.place.now slots c.args.order.now old (c.is_for.ensures.its c.if-not-is_for.false) before in
+    flush_kept view of left did.result old slots did.new.sessions did.new.place (incoming c.args.event.now) c.args.out.now did.new.out f.1 (did.ensures.kept old.pool f.0)
 
 pub returns-clause-read : goal.returns-clause-read
 returns-clause-read g c read =
     let did = c.flush_on in
     let b = c.requires.before in
-    flush_read g.V.Volumes.view g.V.Midway.SharedReads.of did.result did.new.place did.new.sessions b.0 (incoming c.args.event.now) c.args.out.now did.new.out (returns-clause-kept g c b.0 b.1)
+    flush_read g.V.Volumes.view g.V.Midway.SharedReads.of g.V.Midway.SharedReads.left did.result did.new.place did.new.sessions b.0 (incoming c.args.event.now) c.args.out.now did.new.out (returns-clause-kept g c b.0 b.1)
