@@ -10,12 +10,12 @@ ghost use Rattle.nbd_session.specs.Session.{has_older};
 ghost use Rattle.tp_hub.specs.declared.staged.Stage.TheVariants.{Whole};
 ghost use Rattle.tp_hub.specs.Desks.{IsAsked, RunsSo};
 ghost use Rattle.tp_hub.specs.Parts.{IsIdle, IsInBatch, is_parted_to};
-ghost use Rattle.tp_hub.specs.Places.{IsAskedStill, IsWider};
+ghost use Rattle.tp_hub.specs.Places.{IsAskedStill};
 ghost use Rattle.tp_hub.specs.Runs.{Brings, Orders, incoming, session_of};
 ghost use Rattle.tp_hub.specs.Serving.{HubState, Serves, sessions_of};
 ghost use Rattle.tp_hub.specs.Staged.{AsksCommit, HasFewer, IsBefore, IsKeptFor, IsRead, MakesFlush, message_in, standing};
 ghost use Rattle.tp_hub.specs.Stages.{IsFlushAsked, IsBehind, IsFor, IsFurther, IsKept, IsOrderParted, IsOrderPool, IsParted, IsPool, IsServing, is_done, is_there, is_whole, parts_at};
-ghost use Rattle.tp_hub.specs.Told.{HasRoom};
+ghost use Rattle.tp_hub.specs.Told.{HasRoom, IsWider};
 
 use crate::answers::Answers;
 use crate::event::Event;
@@ -149,7 +149,7 @@ fn go_on<V: Staged>(place: &mut Stage<V, V::Midway>, is_last: bool) -> Option<Re
 }
 
 /// The pool behind all that is left of a commit.
-fn settled<V: Staged>(stage: Stage<V, V::Midway>) -> V
+fn finished<V: Staged>(stage: Stage<V, V::Midway>) -> V
     requires { is_there stage ≡ true }
     ensures { IsBehind V.view V.Midway.of stage result }
 {
@@ -171,7 +171,7 @@ fn settle<V: Staged>(place: &mut Stage<V, V::Midway>)
     if is_whole(place) {
         return;
     }
-    let pool = settled(mem::replace(place, Stage::Away));
+    let pool = finished(mem::replace(place, Stage::Away));
     put(place, Stage::Whole(pool));
 }
 
@@ -502,12 +502,12 @@ impl<V: Staged, K: Start<V>> StagedHub<V, K> {
     ghost use Rattle.nbd_session.specs.Session.{has_older, is_at_work, is_to_flush};
     ghost use Rattle.tp_model.specs.Calls.{is_failed};
     ghost use Rattle.tp_hub.specs.Desks.{IsAsked};
-    ghost use Rattle.tp_hub.specs.Places.{IsWider};
     ghost use Rattle.tp_hub.specs.Runs.{Brings, session_of};
     ghost use Rattle.tp_hub.specs.Seats.{seat_at};
     ghost use Rattle.tp_hub.specs.Serve.{HubRuns};
     ghost use Rattle.tp_hub.specs.Serving.{HubState, sessions_of};
     ghost use Rattle.tp_hub.specs.Staged.{AsksCommit, Idle, IsFrom, IsOf, IsSettled, is_ordering, slots_of};
+    ghost use Rattle.tp_hub.specs.Told.{IsWider};
 
     /// A hub of which no commit is under way.
     #[inline(never)]
@@ -536,7 +536,7 @@ impl<V: Staged, K: Start<V>> StagedHub<V, K> {
             order: _,
             of: _,
         } = self;
-        Hub::of_parts(settled(stage), sessions)
+        Hub::of_parts(finished(stage), sessions)
     }
 
     /// Who is at a number.
@@ -610,7 +610,7 @@ impl<V: Managed + Staged, K: Start<V>> StagedHub<V, K> {
     ghost use Rattle.tp_hub.specs.Serve.{HubRuns};
     ghost use Rattle.tp_hub.specs.Serving.{HubState, sessions_of};
     ghost use Rattle.tp_hub.specs.Staged.{HasFewer, Idle, IsBefore, IsKeptFor, IsSettled, MayKeep, parts_of, slots_of};
-    ghost use Rattle.tp_hub.specs.Told.{HasRoom};
+    ghost use Rattle.tp_hub.specs.Told.{HasRoom, IsWider};
 
     /// Makes the next part of the commit that an event asks for: the first one if none is under way,
     /// and all that are left if this is to be the last. Answers the event if no part is left.
