@@ -141,6 +141,12 @@ module _ {D M : Type 0} (of : M → D) (left : M → ℕ) where
   event_for event (Midway m) slots (Some message) its = sym its
   event_for event Away slots o its = absurd its
 
+  pub its_event : (event : Event) (st : Stage D M) (slots : Slots) (o : Option Message) → is_there st ≡ true → o ≡ message_in event → IsForEvent event (standing of left st slots o)
+  its_event event (Whole p) slots o there is = tt
+  its_event event (Midway m) slots None there is = sym is
+  its_event event (Midway m) slots (Some message) there is = sym is
+  its_event event Away slots o there is = absurd cc
+
   module _ (event : Event) (st : Stage D M) (slots : Slots) (o : Option Message) (s : Standing D) (there : is_there st ≡ true) (is : standing of left st slots o ≡ s) where
     pub may_keep : MayKeep event s → AsksCommit (sessions_of slots) event × IsFor st o (message_in event)
     may_keep may =

@@ -339,6 +339,7 @@ fn flush_for<V: Staged>(
     ensures unasked { (IsFlushAsked (sessions_of sessions.old) event.now → IsFor place.old order.old None → ⊥) → (place.new ≡ place.old) × (sessions.new ≡ sessions.old) × (order.new ≡ order.old) }
     ensures fewer { IsFlushAsked (sessions_of sessions.old) event.now → IsFor place.old order.old None → result ≡ None
         → HasFewer (parts_at V.Midway.left place.old) (parts_at V.Midway.left place.new) }
+    ensures order { IsFlushAsked (sessions_of sessions.old) event.now → IsFor place.old order.old None → order.new ≡ None }
     ensures made { is_last ≡ true → IsFlushAsked (sessions_of sessions.old) event.now → IsFor place.old order.old None → result ≡ None → ⊥ }
 {
     if !asks_flush(sessions, event) {
@@ -368,6 +369,7 @@ fn order_for<V: Managed + Staged>(
     ensures its { IfSome result (λ ran. IsFor place.old order.old (Some message.now)) }
     ensures other { (IsFor place.old order.old (Some message.now) → ⊥) → (place.new ≡ place.old) × (order.new ≡ order.old) }
     ensures fewer { IsFor place.old order.old (Some message.now) → result ≡ None → HasFewer (parts_at V.Midway.left place.old) (parts_at V.Midway.left place.new) }
+    ensures order { IsFor place.old order.old (Some message.now) → order.new ≡ Some message.now }
     ensures made { is_last ≡ true → IsFor place.old order.old (Some message.now) → result ≡ None → ⊥ }
 {
     if !is_for(place, *order, Some(*message)) {
@@ -407,6 +409,7 @@ fn keep_on<V: Managed + Staged>(
         → (place.new ≡ place.old) × (sessions.new ≡ sessions.old) × (order.new ≡ order.old) }
     ensures fewer { AsksCommit (sessions_of sessions.old) event.now → IsFor place.old order.old (message_in event.now) → result ≡ None
         → HasFewer (parts_at V.Midway.left place.old) (parts_at V.Midway.left place.new) }
+    ensures order { AsksCommit (sessions_of sessions.old) event.now → IsFor place.old order.old (message_in event.now) → order.new ≡ message_in event.now }
     ensures made { is_last ≡ true → AsksCommit (sessions_of sessions.old) event.now → IsFor place.old order.old (message_in event.now) → result ≡ None → ⊥ }
 {
     match *event {
@@ -609,7 +612,7 @@ impl<V: Managed + Staged, K: Start<V>> StagedHub<V, K> {
     ghost use Rattle.tp_hub.specs.Runs.{Brings, incoming, session_of};
     ghost use Rattle.tp_hub.specs.Serve.{HubRuns};
     ghost use Rattle.tp_hub.specs.Serving.{HubState, sessions_of};
-    ghost use Rattle.tp_hub.specs.Staged.{HasFewer, Idle, IsBefore, IsKeptFor, IsSettled, MayKeep, parts_of, slots_of};
+    ghost use Rattle.tp_hub.specs.Staged.{HasFewer, Idle, IsBefore, IsForEvent, IsKeptFor, IsSettled, MayKeep, parts_of, slots_of};
     ghost use Rattle.tp_hub.specs.Told.{HasRoom, IsWider};
 
     /// Makes the next part of the commit that an event asks for: the first one if none is under way,
@@ -625,6 +628,7 @@ impl<V: Managed + Staged, K: Start<V>> StagedHub<V, K> {
         ensures asks { IfSome result (λ ran. MayKeep event.now self.old) }
         ensures unasked { (MayKeep event.now self.old → ⊥) → self.new ≡ self.old }
         ensures fewer { MayKeep event.now self.old → result ≡ None → HasFewer (parts_of self.old) (parts_of self.new) }
+        ensures its { MayKeep event.now self.old → IsForEvent event.now self.new }
         ensures made { is_last ≡ true → MayKeep event.now self.old → result ≡ None → ⊥ }
     {
         keep_on(

@@ -1,4 +1,4 @@
-use Rattle.std.proofs.Common.{◌≡◌, Some, ap, refl, subst, sym}
+use Rattle.std.proofs.Common.{◌∙◌, ◌≡◌, Some, ap, refl, subst, sym}
 use Rattle.std.proofs.lemmas.Option.{IfSome_then}
 use Rattle.tp_hub.specs.declared.event.Event.{Event}
 use Rattle.tp_hub.specs.Runs.{incoming}
@@ -35,6 +35,11 @@ returns-in-Ok-clause-unasked g c none =
 
 pub returns-in-Ok-clause-fewer : goal.returns-in-Ok-clause-fewer
 returns-in-Ok-clause-fewer g c asks its none = c.order_for.ensures.fewer (subst (IsFor c.args.place.now c.args.order.now) (asks_message g c).1 its) none
+
+pub returns-in-Ok-clause-order : goal.returns-in-Ok-clause-order
+returns-in-Ok-clause-order g c asks its =
+    let a = asks_message g c in
+    c.order_for.ensures.order (subst (IsFor c.args.place.now c.args.order.now) a.1 its) ∙ sym a.1
 
 pub returns-in-Ok-clause-made : goal.returns-in-Ok-clause-made
 returns-in-Ok-clause-made g c last asks its none = c.order_for.ensures.made last (subst (IsFor c.args.place.now c.args.order.now) (asks_message g c).1 its) none

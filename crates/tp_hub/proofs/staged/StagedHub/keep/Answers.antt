@@ -2,7 +2,7 @@ use Rattle.std.proofs.Common.{◌∙◌, subst, sym}
 use Rattle.std.proofs.lemmas.Option.{IfSome_then}
 use Rattle.tp_hub.specs.Runs.{incoming}
 use Rattle.tp_hub.specs.Staged.{IsBefore, Standing, standing}
-use Rattle.tp_hub.proofs.Staging.{has_fewer, is_kept, kept_stands, may_keep, serving_of, there_before}
+use Rattle.tp_hub.proofs.Staging.{has_fewer, is_kept, its_event, kept_stands, may_keep, serving_of, there_before}
 use Rattle.tp_hub.proofs.staged.StagedHub.keep.Goals as goal
 
 pub keep_on-requires-clause-before : goal.keep_on-requires-clause-before
@@ -48,6 +48,17 @@ returns-clause-fewer g c may none =
     let there = there_before g.V.Volumes.view of left i.stage i.sessions i.order c.self.invariant.old c.self.invariant.before in
     let m = may_keep of left c.args.event.now i.stage i.sessions i.order c.args.self.now there c.self.view_is may in
     has_fewer of left c.args.event.now i.stage i.sessions i.order c.args.self.now there c.self.view_is k.new.place k.new.sessions k.new.order (k.ensures.fewer m.0 m.1 none)
+
+pub returns-clause-its : goal.returns-clause-its
+returns-clause-its g c may =
+    let of = g.V.Midway.SharedReads.of in
+    let left = g.V.Midway.SharedReads.left in
+    let i = c.self.inside in
+    let k = c.keep_on in
+    let there = there_before g.V.Volumes.view of left i.stage i.sessions i.order c.self.invariant.old c.self.invariant.before in
+    let m = may_keep of left c.args.event.now i.stage i.sessions i.order c.args.self.now there c.self.view_is may in
+    let behind = invariant_of-self g c in
+    its_event of left c.args.event.now k.new.place k.new.sessions k.new.order (there_before g.V.Volumes.view of left k.new.place k.new.sessions k.new.order behind.old behind.before) (k.ensures.order m.0 m.1)
 
 pub returns-clause-made : goal.returns-clause-made
 returns-clause-made g c last may none =
