@@ -20,4 +20,5 @@ pub mod Living
 mod Covering
 mod Wrote
 mod Fronts
+pub mod Owing
 pub mod Staging

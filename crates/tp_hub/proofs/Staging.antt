@@ -1,5 +1,5 @@
 -- A hub that many ask: where it came from, and the parts of its commits.
-use Rattle.std.proofs.Common.{◌≡◌, ◌∙◌, ℕ, Bool, true, false, List, [], ◌∷◌, ◌++◌, Option, Some, None, refl, sym, ap, subst, arith}
+use Rattle.std.proofs.Common.{◌≡◌, ◌∙◌, ◌+◌, ◌≤◌, ℕ, Bool, true, false, List, [], ◌∷◌, ◌++◌, Option, Some, None, refl, sym, ap, subst, arith}
 use Rattle.std.specs.Prelude.{IfSome, MatchOption, Ok, Result, is_some}
 use Rattle.tp_model.specs.declared.refusal.Refusal.{Refusal}
 use Rattle.tp_model.specs.Pool.{Outline}
@@ -26,6 +26,7 @@ use Rattle.tp_hub.specs.Staged.{AsksCommit, HasFewer, Idle, IsBefore, IsForEvent
 use Rattle.tp_hub.specs.Stages.{IsFlushAsked, IsBehind, IsFor, IsFurther, IsKept, IsOrderParted, IsOrderPool, IsParted, IsPool, IsServing, is_there, is_whole, parts_at}
 use Rattle.tp_hub.proofs.Flushing.{hub_flushed, serves_behind, still_hub}
 use Rattle.tp_hub.proofs.Ordering.{hub_ordered, serves_ordered, serves_unkept}
+use Rattle.tp_hub.proofs.Owing.{flush_few, message_few}
 use Rattle.tp_hub.proofs.Placing.{serves_kept}
 
 -- ---- a hub that came of a start by asks, asked once more
@@ -300,6 +301,13 @@ module _ {D : Type 0} (view : View D) where
 
     pub part_midway : (st : Stage D M) (m : M) (old : D) → st ≡ Midway m → of m ≡ old → IsParted view of old st None
     part_midway st m old is same = subst (λ (x : Stage D M). IsParted view of old x None) (sym is) same
+
+    -- how often the disk was flushed behind it
+    pub parted_few : (st : Stage D M) (p q : D) (answer : Result (Unit {0}) Refusal) → IsParted view of p st (Some answer) → st ≡ Whole q → view.flushes q ≤ view.flushes p + 2
+    parted_few st p q answer parted is = flush_few view p q answer (subst (λ (x : Stage D M). IsParted view of p x (Some answer)) is parted)
+
+    pub order_few : (st : Stage D M) (message : Message) (p q : D) (answer : Result (Unit {0}) Refusal) → IsOrderParted view of message p st (Some answer) → st ≡ Whole q → view.flushes q ≤ view.flushes p + 4
+    order_few st message p q answer parted is = message_few view p q message answer (subst (λ (x : Stage D M). IsOrderParted view of message p x (Some answer)) is parted)
 
     -- a message is changed, or is under way, and its flush makes a part
     pub order_parted : ViewLaws view → (st : Stage D M) (message : Message) (p mid : D) (o : Option (Result (Unit {0}) Refusal)) → Unkept view p mid (call_of message) → IsParted view of mid st o → IsOrderParted view of message p st o

@@ -105,6 +105,11 @@ IsForEvent event Nowhere = ⊥
 abbrev pub MayKeep : {D : Type 0} → Event → Standing D → Type 0
 MayKeep event s = AsksCommit (sessions_of (slots_of s)) event × IsForEvent event s
 
+-- how often a commit flushes the disk at most: twice, and twice more before a message that wants blocks which another commit frees
+abbrev pub most_kept : Option Message → ℕ
+most_kept None = 2
+most_kept (Some message) = 4
+
 -- how many parts are left at most of the commit that is under way, if any
 abbrev pub parts_of : {D : Type 0} → Standing D → Option ℕ
 parts_of (Idle hub) = None

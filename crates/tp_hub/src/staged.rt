@@ -1,6 +1,6 @@
 //! A hub that many ask, whose pool may be in the middle of a commit.
 
-ghost use Rattle.std.specs.Prelude.{◌≡◌, ◌<◌, ℕ, List, [], Option, None, Some, IfSome, MatchOption, Ok, false, is_some, length, true};
+ghost use Rattle.std.specs.Prelude.{◌≡◌, ◌<◌, ◌≤◌, ◌+◌, ℕ, List, [], Option, None, Some, IfSome, MatchOption, Ok, false, is_some, length, true};
 ghost use Rattle.tp_model.specs.Clauses.{Unkept};
 ghost use Rattle.tp_model.specs.Flushing.{IsFlushing};
 ghost use Rattle.tp_model.specs.Calls.{is_failed};
@@ -13,7 +13,7 @@ ghost use Rattle.tp_hub.specs.Parts.{IsIdle, IsInBatch, is_parted_to};
 ghost use Rattle.tp_hub.specs.Places.{IsAskedStill};
 ghost use Rattle.tp_hub.specs.Runs.{Brings, Orders, incoming, session_of};
 ghost use Rattle.tp_hub.specs.Serving.{HubState, Serves, sessions_of};
-ghost use Rattle.tp_hub.specs.Staged.{AsksCommit, HasFewer, IsBefore, IsKeptFor, IsRead, MakesFlush, message_in, standing};
+ghost use Rattle.tp_hub.specs.Staged.{AsksCommit, HasFewer, IsBefore, IsKeptFor, IsRead, MakesFlush, message_in, most_kept, standing};
 ghost use Rattle.tp_hub.specs.Stages.{IsFlushAsked, IsBehind, IsFor, IsFurther, IsKept, IsOrderParted, IsOrderPool, IsParted, IsPool, IsServing, is_done, is_there, is_whole, parts_at};
 ghost use Rattle.tp_hub.specs.Told.{HasRoom, IsWider};
 
@@ -273,6 +273,7 @@ fn flush_on<V: Staged>(
         (IsParted V.view V.Midway.of p place.new None × (sessions.new ≡ sessions.old) × (out.new ≡ out.old))
         (λ ran. IsKept V.view p sessions.old (incoming event.now) ran out.old out.new place.new sessions.new) }
     ensures fewer { result ≡ None → HasFewer (parts_at V.Midway.left place.old) (parts_at V.Midway.left place.new) }
+    ensures few { IfSome result (λ ran. (p : V) (q : V) → IsPool V.Midway.of p place.old → place.new ≡ Whole q → V.view.flushes q ≤ V.view.flushes p + 2) }
     ensures last { is_last ≡ true → result ≡ None → ⊥ }
 {
     match go_on(place, is_last) {
@@ -336,6 +337,8 @@ fn flush_for<V: Staged>(
         → IsKeptFor V.view old (incoming event.now) result out.old out.new (standing V.Midway.of V.Midway.left place.new sessions.new order.new) }
     ensures read { IsRead (standing V.Midway.of V.Midway.left place.old sessions.old order.old) → IsRead (standing V.Midway.of V.Midway.left place.new sessions.new order.new) }
     ensures asks { IfSome result (λ ran. IsFlushAsked (sessions_of sessions.old) event.now × IsFor place.old order.old None) }
+    ensures few { IfSome result (λ ran. (old : HubState V) (q : V) → IsBefore V.view old (standing V.Midway.of V.Midway.left place.old sessions.old order.old) → place.new ≡ Whole q
+        → V.view.flushes q ≤ V.view.flushes old.pool + most_kept (message_in event.now)) }
     ensures unasked { (IsFlushAsked (sessions_of sessions.old) event.now → IsFor place.old order.old None → ⊥) → (place.new ≡ place.old) × (sessions.new ≡ sessions.old) × (order.new ≡ order.old) }
     ensures fewer { IsFlushAsked (sessions_of sessions.old) event.now → IsFor place.old order.old None → result ≡ None
         → HasFewer (parts_at V.Midway.left place.old) (parts_at V.Midway.left place.new) }
@@ -367,6 +370,8 @@ fn order_for<V: Managed + Staged>(
         → IsKeptFor V.view old (Orders line) result out.old out.new (standing V.Midway.of V.Midway.left place.new sessions.now order.new) }
     ensures read { (line : List ℕ) → reading line ≡ Ok message.now → IsRead (standing V.Midway.of V.Midway.left place.old sessions.now order.old) → IsRead (standing V.Midway.of V.Midway.left place.new sessions.now order.new) }
     ensures its { IfSome result (λ ran. IsFor place.old order.old (Some message.now)) }
+    ensures few { IfSome result (λ ran. (old : HubState V) (q : V) → IsBefore V.view old (standing V.Midway.of V.Midway.left place.old sessions.now order.old) → place.new ≡ Whole q
+        → V.view.flushes q ≤ V.view.flushes old.pool + most_kept (Some message.now)) }
     ensures other { (IsFor place.old order.old (Some message.now) → ⊥) → (place.new ≡ place.old) × (order.new ≡ order.old) }
     ensures fewer { IsFor place.old order.old (Some message.now) → result ≡ None → HasFewer (parts_at V.Midway.left place.old) (parts_at V.Midway.left place.new) }
     ensures order { IsFor place.old order.old (Some message.now) → order.new ≡ Some message.now }
@@ -405,6 +410,8 @@ fn keep_on<V: Managed + Staged>(
         → IsKeptFor V.view old (incoming event.now) result out.old out.new (standing V.Midway.of V.Midway.left place.new sessions.new order.new) }
     ensures read { IsRead (standing V.Midway.of V.Midway.left place.old sessions.old order.old) → IsRead (standing V.Midway.of V.Midway.left place.new sessions.new order.new) }
     ensures asks { IfSome result (λ ran. AsksCommit (sessions_of sessions.old) event.now × IsFor place.old order.old (message_in event.now)) }
+    ensures few { IfSome result (λ ran. (old : HubState V) (q : V) → IsBefore V.view old (standing V.Midway.of V.Midway.left place.old sessions.old order.old) → place.new ≡ Whole q
+        → V.view.flushes q ≤ V.view.flushes old.pool + most_kept (message_in event.now)) }
     ensures unasked { (AsksCommit (sessions_of sessions.old) event.now → IsFor place.old order.old (message_in event.now) → ⊥)
         → (place.new ≡ place.old) × (sessions.new ≡ sessions.old) × (order.new ≡ order.old) }
     ensures fewer { AsksCommit (sessions_of sessions.old) event.now → IsFor place.old order.old (message_in event.now) → result ≡ None
@@ -606,13 +613,13 @@ impl<V: Staged, K: Start<V>> StagedHub<V, K> {
 }
 
 impl<V: Managed + Staged, K: Start<V>> StagedHub<V, K> {
-    ghost use Rattle.std.specs.Prelude.{◌≡◌, ◌<◌, ℕ, [], IfSome, None, true, false};
+    ghost use Rattle.std.specs.Prelude.{◌≡◌, ◌<◌, ◌≤◌, ◌+◌, ℕ, [], IfSome, None, true, false};
     ghost use Rattle.tp_hub.specs.Desks.{IsAsked};
     ghost use Rattle.tp_hub.specs.Parts.{IsIdle, IsInBatch, is_parted_to};
+    ghost use Rattle.tp_hub.specs.Owed.{RunsOwed};
     ghost use Rattle.tp_hub.specs.Runs.{Brings, incoming, session_of};
-    ghost use Rattle.tp_hub.specs.Serve.{HubRuns};
     ghost use Rattle.tp_hub.specs.Serving.{HubState, sessions_of};
-    ghost use Rattle.tp_hub.specs.Staged.{HasFewer, Idle, IsBefore, IsForEvent, IsKeptFor, IsSettled, MayKeep, parts_of, slots_of};
+    ghost use Rattle.tp_hub.specs.Staged.{HasFewer, Idle, IsBefore, IsForEvent, IsKeptFor, IsSettled, MayKeep, message_in, most_kept, parts_of, slots_of};
     ghost use Rattle.tp_hub.specs.Told.{HasRoom, IsWider};
 
     /// Makes the next part of the commit that an event asks for: the first one if none is under way,
@@ -620,12 +627,17 @@ impl<V: Managed + Staged, K: Start<V>> StagedHub<V, K> {
     ///
     /// None if parts are left, and then each call leaves fewer. None also if the event asks for no
     /// commit, or if another one is under way, and then nothing is done.
+    ///
+    /// A commit flushes the disk twice at most, or four times for a message that wants blocks which a
+    /// commit before it frees.
     pub fn keep(&mut self, event: &Event<'_>, is_last: bool, out: &mut Answers) -> Option<Ran>
         requires number { session_of event.now < 64 }
         requires room { HasRoom out.old }
         ensures before { (old : HubState V) × IsBefore V.view old self.old }
         ensures kept { (old : HubState V) → IsBefore V.view old self.old → IsKeptFor V.view old (incoming event.now) result out.old out.new self.new }
         ensures asks { IfSome result (λ ran. MayKeep event.now self.old) }
+        ensures owed { IfSome result (λ ran. (old : HubState V) (new : HubState V) → IsBefore V.view old self.old → self.new ≡ Idle new
+            → V.view.flushes new.pool ≤ V.view.flushes old.pool + most_kept (message_in event.now)) }
         ensures unasked { (MayKeep event.now self.old → ⊥) → self.new ≡ self.old }
         ensures fewer { MayKeep event.now self.old → result ≡ None → HasFewer (parts_of self.old) (parts_of self.new) }
         ensures its { MayKeep event.now self.old → IsForEvent event.now self.new }
@@ -643,10 +655,14 @@ impl<V: Managed + Staged, K: Start<V>> StagedHub<V, K> {
 
     /// Makes all that is left of a commit, and takes one event behind it, of a piece that may be parted
     /// no more than a batch of its session.
+    ///
+    /// The disk is flushed for a call that ends in a commit, for want of blocks, and for nothing else:
+    /// neither for a READ, a BLOCK_STATUS, an option such as LIST or a line that asks, nor for bytes of
+    /// which no frame is whole.
     pub fn take(&mut self, alloc: Global, event: Event<'_>, out: &mut Answers) -> Ran
         requires { session_of event < 64 }
         ensures asked { (mid : HubState V) × (new : HubState V) × IsSettled V.view self.old mid × (self.new ≡ Idle new)
-            × IsAsked (λ took answers. HubRuns V.view mid took answers new) (incoming event.entry) result.events result.bytes out.old out.new }
+            × IsAsked (λ took answers. RunsOwed V.view mid took answers new) (incoming event.entry) result.events result.bytes out.old out.new }
         ensures few { IsInBatch (sessions_of (slots_of self.old)) event.entry result.events result.bytes }
         ensures idle { (n : ℕ) → is_parted_to n event.entry ≡ false → IsIdle (sessions_of (slots_of self.old)) n → IsIdle (sessions_of (slots_of self.new)) n }
         ensures made { (n : ℕ) → is_parted_to n event.entry ≡ false → incoming event.entry ≡ Brings n [] → 0 < result.events → IsIdle (sessions_of (slots_of self.new)) n }

@@ -1,9 +1,10 @@
-use Rattle.std.proofs.Common.{◌∙◌, ◌≡◌, Some, ap, refl, subst, sym}
+use Rattle.std.proofs.Common.{◌+◌, ◌∙◌, ◌≡◌, ◌≤◌, Option, Some, ap, refl, subst, sym}
 use Rattle.std.proofs.lemmas.Option.{IfSome_then}
+use Rattle.tp_msg.specs.declared.message.Message.{Message}
 use Rattle.tp_hub.specs.declared.event.Event.{Event}
 use Rattle.tp_hub.specs.Runs.{incoming}
 use Rattle.tp_hub.specs.Serving.{sessions_of}
-use Rattle.tp_hub.specs.Staged.{AsksCommit, IsKeptFor, message_in, read_in, standing}
+use Rattle.tp_hub.specs.Staged.{AsksCommit, IsKeptFor, message_in, most_kept, read_in, standing}
 use Rattle.tp_hub.specs.Stages.{IsFor}
 use Rattle.tp_hub.proofs.Staging.{flush_is_commit, flush_keeps_none}
 use Rattle.tp_hub.proofs.staged.keep_on.Given as given
@@ -26,6 +27,12 @@ pub returns-in-Ok-clause-asks : goal.returns-in-Ok-clause-asks
 returns-in-Ok-clause-asks g c =
     let a = asks_message g c in
     IfSome_then c.order_for.result c.order_for.ensures.its (λ ran its. (a.0, subst (IsFor c.args.place.now c.args.order.now) (sym a.1) its))
+
+pub returns-in-Ok-clause-few : goal.returns-in-Ok-clause-few
+returns-in-Ok-clause-few g c =
+    let view = g.V.Volumes.view in
+    IfSome_then c.order_for.result c.order_for.ensures.few (λ ran few old q before is.
+    subst (λ (o : Option Message). view.flushes q ≤ view.flushes old.pool + most_kept o) (sym (asks_message g c).1) (few old q before is))
 
 pub returns-in-Ok-clause-unasked : goal.returns-in-Ok-clause-unasked
 returns-in-Ok-clause-unasked g c none =

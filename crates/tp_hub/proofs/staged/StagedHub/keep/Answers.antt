@@ -2,7 +2,7 @@ use Rattle.std.proofs.Common.{◌∙◌, subst, sym}
 use Rattle.std.proofs.lemmas.Option.{IfSome_then}
 use Rattle.tp_hub.specs.Runs.{incoming}
 use Rattle.tp_hub.specs.Staged.{IsBefore, Standing, standing}
-use Rattle.tp_hub.proofs.Staging.{has_fewer, is_kept, its_event, kept_stands, may_keep, serving_of, there_before}
+use Rattle.tp_hub.proofs.Staging.{has_fewer, idle_whole, is_kept, its_event, kept_stands, may_keep, serving_of, there_before}
 use Rattle.tp_hub.proofs.staged.StagedHub.keep.Goals as goal
 
 pub keep_on-requires-clause-before : goal.keep_on-requires-clause-before
@@ -29,6 +29,15 @@ returns-clause-asks g c =
     let i = c.self.inside in
     let there = there_before g.V.Volumes.view of left i.stage i.sessions i.order c.self.invariant.old c.self.invariant.before in
     IfSome_then c.keep_on.result c.keep_on.ensures.asks (λ ran asks. is_kept of left c.args.event.now i.stage i.sessions i.order c.args.self.now there c.self.view_is asks.0 asks.1)
+
+pub returns-clause-owed : goal.returns-clause-owed
+returns-clause-owed g c =
+    let view = g.V.Volumes.view in
+    let of = g.V.Midway.SharedReads.of in
+    let left = g.V.Midway.SharedReads.left in
+    let k = c.keep_on in
+    IfSome_then k.result k.ensures.few (λ ran few old new before is.
+    few old new.pool (subst (λ (s : Standing _). IsBefore view old s) (sym c.self.view_is) before) (idle_whole of left k.new.place k.new.sessions k.new.order new is))
 
 pub returns-clause-unasked : goal.returns-clause-unasked
 returns-clause-unasked g c none =

@@ -4,6 +4,7 @@ use Rattle.tp_hub.specs.Serving.{Serves}
 use Rattle.tp_hub.specs.Staged.{IsSettled, Standing, Stands, hub_at, standing}
 use Rattle.tp_hub.specs.Stages.{IsPool}
 use Rattle.tp_hub.specs.declared.staged.Stage.{Stage}
+use Rattle.tp_hub.proofs.Owing.{asked_owed}
 use Rattle.tp_hub.proofs.Staging.{asked_once, idle_stands, serving_of, settled_from, settled_hub, settled_serves}
 use Rattle.tp_hub.proofs.staged.StagedHub.take.Goals as goal
 
@@ -47,5 +48,5 @@ returns-clause-asked g c =
       hub_at took.0 t.new.sessions,
       subst (λ (x : Standing _). IsSettled view x mid) c.self.view_is (settled_hub view of left g.met.V.Volumes.laws i.stage i.sessions i.order s.0 s.2),
       ap (λ (x : Stage _ _). standing of left x t.new.sessions i.order) took.1,
-      took.3,
+      asked_owed view mid (hub_at took.0 t.new.sessions) (incoming c.args.event) t.result.events t.result.bytes c.args.out.now t.new.out took.3,
     )
