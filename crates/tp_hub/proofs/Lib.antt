@@ -22,4 +22,5 @@ mod Wrote
 mod Remaining
 mod Through
 mod Fronts
+pub mod Owing
 pub mod Staging

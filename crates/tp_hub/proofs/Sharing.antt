@@ -8,10 +8,10 @@ use Rattle.nbd_session.specs.Session.{State, has_ended, is_at_work}
 use Rattle.nbd_session.specs.Clauses.{Advances}
 use Rattle.nbd_session.specs.Turns.{Happened, Sessions}
 use Rattle.tp_hub.specs.declared.hub.Ran.{Ran}
-use Rattle.tp_hub.specs.Told.{Grows, Told}
+use Rattle.tp_hub.specs.Told.{Grows, IsWider, Told}
 use Rattle.tp_hub.specs.Runs.{Brings, Incoming, Runs, answered_in, answers_in, taken_of}
 use Rattle.tp_hub.specs.Desks.{IsCut}
-use Rattle.tp_hub.specs.Places.{HearsAnywhere, IsAskedStill, IsRan, IsRead, IsWider}
+use Rattle.tp_hub.specs.Places.{HearsAnywhere, IsAskedStill, IsRan, IsRead}
 use Rattle.tp_hub.specs.Serving.{HubState, sessions_of, shown}
 use Rattle.tp_hub.proofs.Placing.{put_is}
 use Rattle.tp_hub.proofs.Telling.{put_there}

@@ -15,5 +15,6 @@ pub mod Seats
 pub mod Flushes
 pub mod Flushed
 pub mod Unkept
+pub mod Owed
 pub mod Staged
 pub mod Stages

@@ -12,7 +12,7 @@ use Rattle.nbd_session.specs.Clauses.{Advances, IsReady}
 use Rattle.nbd_session.specs.Turns.{AreTurns, Happened, Sessions, pool_after, sessions_after}
 use Rattle.tp_hub.specs.declared.slot.Heard.{Heard}
 use Rattle.tp_hub.specs.declared.slot.Heard.TheVariants.{Whole, Over, Stopped, Parted}
-use Rattle.tp_hub.specs.Told.{Answer, Told, Grows, IsFull, KeepsRoom}
+use Rattle.tp_hub.specs.Told.{Answer, Told, Grows, IsFull}
 use Rattle.tp_hub.specs.Desks.{IsAsked, RunsSo}
 use Rattle.tp_hub.specs.Runs.{Brings, Incoming, IsPart, IsShort, Runs, TakesText, answers_in, front_of, session_in, told_page}
 use Rattle.tp_hub.specs.Serving.{Serves, Slots, sessions_of, shown, slot_at}
@@ -56,12 +56,6 @@ IsRan taken len events bytes = ((taken < len) × (events ≡ 0) × (bytes ≡ ta
 abbrev pub IsRest : Bool → ℕ → ℕ → ℕ → Type 0
 IsRest true left bytes len = (bytes ≡ len) × (left ≡ 0)
 IsRest false left bytes len = (bytes ≢ len) × (left ≡ bytes)
-
--- nothing but the room changed, which did not shrink
-pub record IsWider (before after : Told) : Type 0 where
-  pub list : after.list ≡ before.list
-  pub room : KeepsRoom before after
-  pub marks : before.marks ≤ after.marks
 
 module _ {D : Type 0} (view : View D) where
   -- a session, from these sessions on, took a text, turn by turn

@@ -1,5 +1,5 @@
 -- Trusted reading: a hub that many ask, whose pool may be in the middle of a commit (own).
-use Rattle.std.specs.Prelude.{◌≡◌, ℕ, Bool, true, false, List, [], ◌⊎◌, Option, Some, None, Result, Ok}
+use Rattle.std.specs.Prelude.{◌≡◌, ◌<◌, ℕ, Bool, true, false, List, [], ◌⊎◌, Option, Some, None, Result, Ok, Err}
 use Rattle.tp_model.specs.declared.refusal.Refusal.{Refusal}
 use Rattle.tp_model.specs.Clauses.{View}
 use Rattle.tp_msg.specs.declared.message.Message.{Message}
@@ -17,7 +17,7 @@ use Rattle.tp_hub.specs.Runs.{Incoming}
 use Rattle.tp_hub.specs.Desks.{AreAsked, Exchange, IsAsked}
 use Rattle.tp_hub.specs.Flushes.{IsHubFlushed}
 use Rattle.tp_hub.specs.Serve.{HubRuns}
-use Rattle.tp_hub.specs.Serving.{HubState, Serves, Slots}
+use Rattle.tp_hub.specs.Serving.{HubState, Serves, Slots, sessions_of}
 use Rattle.tp_hub.specs.Unkept.{IsHubOrdered, IsUnkept}
 
 -- A hub came of such a one by asks one behind the other, each of which was one run of it.
@@ -29,31 +29,31 @@ pub record IsFrom {D : Type 0} (view : View D) (IsStart : HubState D → Type 0)
 
 -- ---- how far it is
 
--- No commit is under way; or a flush is, or the flush that keeps a message. hub: the one that READs see.
+-- No commit is under way; or a flush is, or the flush that keeps a message. hub: the one that READs see. left: so many parts of it are left at most.
 pub data Standing (D : Type 0) : Type 0 where
   Idle : (hub : HubState D) → Standing D
-  Keeping : (hub : HubState D) → Standing D
-  Ordering : (message : Message) (hub : HubState D) → Standing D
+  Keeping : (hub : HubState D) (left : ℕ) → Standing D
+  Ordering : (message : Message) (hub : HubState D) (left : ℕ) → Standing D
   -- never between two calls
   Nowhere : Standing D
 
 abbrev pub slots_of : {D : Type 0} → Standing D → Slots
 slots_of (Idle hub) = hub.slots
-slots_of (Keeping hub) = hub.slots
-slots_of (Ordering message hub) = hub.slots
+slots_of (Keeping hub left) = hub.slots
+slots_of (Ordering message hub left) = hub.slots
 slots_of Nowhere = []
 
 -- the hub that READs see
 abbrev pub IsOf : {D : Type 0} → HubState D → Standing D → Type 0
 IsOf seen (Idle hub) = hub ≡ seen
-IsOf seen (Keeping hub) = hub ≡ seen
-IsOf seen (Ordering message hub) = hub ≡ seen
+IsOf seen (Keeping hub left) = hub ≡ seen
+IsOf seen (Ordering message hub left) = hub ≡ seen
 IsOf seen Nowhere = ⊥
 
 abbrev pub is_ordering : {D : Type 0} → Standing D → Bool
 is_ordering (Idle hub) = false
-is_ordering (Keeping hub) = false
-is_ordering (Ordering message hub) = true
+is_ordering (Keeping hub left) = false
+is_ordering (Ordering message hub left) = true
 is_ordering Nowhere = false
 
 -- ---- what asks for a commit
@@ -76,42 +76,89 @@ AsksCommit at (kinds.Size volume) = ⊥
 AsksCommit at (kinds.Map volume from) = ⊥
 AsksCommit at (kinds.Delta old new from) = ⊥
 
+-- the message that the commit for an event keeps, if it keeps one
+abbrev pub read_in : Result Message Refusal → Option Message
+read_in (Ok message) = Some message
+read_in (Err reason) = None
+
+abbrev pub message_in : Event → Option Message
+message_in (kinds.Message line) = read_in (reading line.now)
+message_in (kinds.Open session profile) = None
+message_in (kinds.Bytes session piece) = None
+message_in (kinds.Parted session piece) = None
+message_in (kinds.Hangup session) = None
+message_in kinds.Status = None
+message_in (kinds.ThinStatus volume) = None
+message_in (kinds.Size volume) = None
+message_in (kinds.Map volume from) = None
+message_in (kinds.Delta old new from) = None
+message_in kinds.Flush = None
+
+-- no commit is under way but one that keeps what this event asks for
+abbrev pub IsForEvent : {D : Type 0} → Event → Standing D → Type 0
+IsForEvent event (Idle hub) = Unit {0}
+IsForEvent event (Keeping hub left) = message_in event ≡ None
+IsForEvent event (Ordering message hub left) = message_in event ≡ Some message
+IsForEvent event Nowhere = ⊥
+
+-- a part of a commit is to be made for an event: it asks for one, and no other is under way
+abbrev pub MayKeep : {D : Type 0} → Event → Standing D → Type 0
+MayKeep event s = AsksCommit (sessions_of (slots_of s)) event × IsForEvent event s
+
+-- how often a commit flushes the disk at most: twice, and twice more before a message that wants blocks which another commit frees
+abbrev pub most_kept : Option Message → ℕ
+most_kept None = 2
+most_kept (Some message) = 4
+
+-- how many parts are left at most of the commit that is under way, if any
+abbrev pub parts_of : {D : Type 0} → Standing D → Option ℕ
+parts_of (Idle hub) = None
+parts_of (Keeping hub left) = Some left
+parts_of (Ordering message hub left) = Some left
+parts_of Nowhere = None
+
+-- Parts are left, and fewer than there were, if there were any.
+abbrev pub HasFewer : Option ℕ → Option ℕ → Type 0
+HasFewer before None = ⊥
+HasFewer None (Some left) = Unit {0}
+HasFewer (Some most) (Some left) = left < most
+
 -- ---- what its fields stand for
 
 abbrev pub hub_at : {D : Type 0} → D → Slots → HubState D
 hub_at p slots = record { pool = p; slots = slots }
 
 -- in the middle of a commit that keeps a message, if it does
-abbrev pub midway : {D : Type 0} → Option Message → HubState D → Standing D
-midway None hub = Keeping hub
-midway (Some message) hub = Ordering message hub
+abbrev pub midway : {D : Type 0} → Option Message → HubState D → ℕ → Standing D
+midway None hub left = Keeping hub left
+midway (Some message) hub left = Ordering message hub left
 
--- of: the pool whose flush one in the middle of it is
-abbrev pub standing : {D M : Type 0} → (M → D) → Stage D M → Slots → Option Message → Standing D
-standing of (Whole p) slots order = Idle (hub_at p slots)
-standing of (Midway m) slots order = midway order (hub_at (of m) slots)
-standing of Away slots order = Nowhere
+-- of: the pool whose flush one in the middle of it is. left: how many parts of it are left at most.
+abbrev pub standing : {D M : Type 0} → (M → D) → (M → ℕ) → Stage D M → Slots → Option Message → Standing D
+standing of left (Whole p) slots order = Idle (hub_at p slots)
+standing of left (Midway m) slots order = midway order (hub_at (of m) slots) (left m)
+standing of left Away slots order = Nowhere
 
 -- some line was the message that is under way, if any
 abbrev pub IsRead : {D : Type 0} → Standing D → Type 0
 IsRead (Idle hub) = Unit {0}
-IsRead (Keeping hub) = Unit {0}
-IsRead (Ordering message hub) = (line : List ℕ) × (reading line ≡ Ok message)
+IsRead (Keeping hub left) = Unit {0}
+IsRead (Ordering message hub left) = (line : List ℕ) × (reading line ≡ Ok message)
 IsRead Nowhere = ⊥
 
 module _ {D : Type 0} (view : View D) where
   -- the hub before the commit that is under way, if any
   abbrev pub IsBefore : HubState D → Standing D → Type 0
   IsBefore old (Idle hub) = hub ≡ old
-  IsBefore old (Keeping hub) = hub ≡ old
-  IsBefore old (Ordering message hub) = IsUnkept view old message hub
+  IsBefore old (Keeping hub left) = hub ≡ old
+  IsBefore old (Ordering message hub left) = IsUnkept view old message hub
   IsBefore old Nowhere = ⊥
 
   -- the hub behind all that is left of it
   abbrev pub IsSettled : Standing D → HubState D → Type 0
   IsSettled (Idle hub) new = new ≡ hub
-  IsSettled (Keeping hub) new = (answer : Result (Unit {0}) Refusal) × IsHubFlushed view hub new answer
-  IsSettled (Ordering message hub) new = (answer : Result (Unit {0}) Refusal) × ((old : HubState D) → IsUnkept view old message hub → IsHubOrdered view old message new answer)
+  IsSettled (Keeping hub left) new = (answer : Result (Unit {0}) Refusal) × IsHubFlushed view hub new answer
+  IsSettled (Ordering message hub left) new = (answer : Result (Unit {0}) Refusal) × ((old : HubState D) → IsUnkept view old message hub → IsHubOrdered view old message new answer)
   IsSettled Nowhere new = ⊥
 
   -- An event was answered, by one run of the hub before the commit; or nothing was answered, and that hub is the same.

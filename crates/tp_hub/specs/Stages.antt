@@ -1,10 +1,10 @@
 -- Internal: the stage of a hub's pool, and a part of a commit.
-use Rattle.std.specs.Prelude.{◌≡◌, Bool, true, false, Option, Some, None, Result}
+use Rattle.std.specs.Prelude.{◌≡◌, ℕ, Bool, true, false, Option, Some, None, Result}
 use Rattle.tp_model.specs.declared.refusal.Refusal.{Refusal}
 use Rattle.tp_model.specs.declared.volumes.Flushing.{Flushing}
 use Rattle.tp_model.specs.declared.volumes.Flushing.TheVariants as flushing
 use Rattle.tp_model.specs.Clauses.{Unkept, View}
-use Rattle.tp_model.specs.Flushing.{IsFlushed}
+use Rattle.tp_model.specs.Flushing.{IsFlushed, LeavesFewer}
 use Rattle.tp_msg.specs.declared.message.Message.{Message}
 use Rattle.tp_msg.specs.Asked.{IsMessageBegun, call_of}
 use Rattle.nbd_session.specs.Turns.{Sessions}
@@ -46,6 +46,17 @@ is_there Away = false
 abbrev pub is_done : {D M : Type 0} → Flushing D M → Bool
 is_done (flushing.Done p answer) = true
 is_done (flushing.Midway m) = false
+
+-- how many parts are left at most of the commit that is under way, if any
+abbrev pub parts_at : {D M : Type 0} → (M → ℕ) → Stage D M → Option ℕ
+parts_at left (Whole p) = None
+parts_at left (Midway m) = Some (left m)
+parts_at left Away = None
+
+-- a flush is done, or fewer parts of it are left than there were, if there were any
+abbrev pub IsFurther : {D M : Type 0} → (M → ℕ) → Option ℕ → Flushing D M → Type 0
+IsFurther left None f = Unit {0}
+IsFurther left (Some most) f = LeavesFewer left most f
 
 -- the pool is this one, or in the middle of a flush of it
 abbrev pub IsPool : {D M : Type 0} → (M → D) → D → Stage D M → Type 0

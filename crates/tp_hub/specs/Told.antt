@@ -83,3 +83,9 @@ pub record Grows (old new : Told) (answers : List Answer) : Type 0 where
   pub list : new.list ≡ old.list ++ answers
   pub room : KeepsRoom old new
   pub marks : old.marks ≤ new.marks
+
+-- nothing but the room changed, which did not shrink
+pub record IsWider (before after : Told) : Type 0 where
+  pub list : after.list ≡ before.list
+  pub room : KeepsRoom before after
+  pub marks : before.marks ≤ after.marks

@@ -3,8 +3,9 @@
 ghost use Rattle.std.specs.Prelude.{◌≡◌, ◌<◌, ◌≤◌, None, false, length, take, IfSome};
 ghost use Rattle.nbd_session.specs.Session.{has_ended, is_at_work};
 ghost use Rattle.nbd_session.specs.Clauses.{IsReady};
-ghost use Rattle.tp_hub.specs.Places.{HearsAnywhere, IsAskedStill, IsRan, IsWider};
+ghost use Rattle.tp_hub.specs.Places.{HearsAnywhere, IsAskedStill, IsRan};
 ghost use Rattle.tp_hub.specs.Serving.{Serves, sessions_of};
+ghost use Rattle.tp_hub.specs.Told.{IsWider};
 
 use crate::answers::Answers;
 use crate::hub::{Ran, SESSIONS};

@@ -1,6 +1,6 @@
 //! A hub that many ask, whose pool may be in the middle of a commit.
 
-ghost use Rattle.std.specs.Prelude.{◌≡◌, ◌<◌, ℕ, List, [], None, Some, IfSome, MatchOption, Ok, false, is_some, length, true};
+ghost use Rattle.std.specs.Prelude.{◌≡◌, ◌<◌, ◌≤◌, ◌+◌, ℕ, List, [], Option, None, Some, IfSome, MatchOption, Ok, false, is_some, length, true};
 ghost use Rattle.tp_model.specs.Clauses.{Unkept};
 ghost use Rattle.tp_model.specs.Flushing.{IsFlushing};
 ghost use Rattle.tp_model.specs.Calls.{is_failed};
@@ -10,12 +10,12 @@ ghost use Rattle.nbd_session.specs.Session.{has_older};
 ghost use Rattle.tp_hub.specs.declared.staged.Stage.TheVariants.{Whole};
 ghost use Rattle.tp_hub.specs.Desks.{IsAsked, RunsSo};
 ghost use Rattle.tp_hub.specs.Parts.{IsIdle, IsInBatch, is_parted_to};
-ghost use Rattle.tp_hub.specs.Places.{IsAskedStill, IsWider};
+ghost use Rattle.tp_hub.specs.Places.{IsAskedStill};
 ghost use Rattle.tp_hub.specs.Runs.{Brings, Orders, incoming, session_of};
 ghost use Rattle.tp_hub.specs.Serving.{HubState, Serves, sessions_of};
-ghost use Rattle.tp_hub.specs.Staged.{AsksCommit, IsBefore, IsKeptFor, IsRead, MakesFlush, standing};
-ghost use Rattle.tp_hub.specs.Stages.{IsFlushAsked, IsBehind, IsFor, IsKept, IsOrderParted, IsOrderPool, IsParted, IsPool, IsServing, is_done, is_there, is_whole};
-ghost use Rattle.tp_hub.specs.Told.{HasRoom};
+ghost use Rattle.tp_hub.specs.Staged.{AsksCommit, HasFewer, IsBefore, IsKeptFor, IsRead, MakesFlush, message_in, most_kept, standing};
+ghost use Rattle.tp_hub.specs.Stages.{IsFlushAsked, IsBehind, IsFor, IsFurther, IsKept, IsOrderParted, IsOrderPool, IsParted, IsPool, IsServing, is_done, is_there, is_whole, parts_at};
+ghost use Rattle.tp_hub.specs.Told.{HasRoom, IsWider};
 
 use crate::answers::Answers;
 use crate::event::Event;
@@ -69,9 +69,9 @@ impl<V: Staged, K: Start<V>> Model for StagedHub<V, K> {
 
     ghost Value = { Standing V };
 
-    ghost view = { λ h. standing V.Midway.of h.stage h.sessions h.order };
+    ghost view = { λ h. standing V.Midway.of V.Midway.left h.stage h.sessions h.order };
 
-    ghost invariant = { λ h. Stands V.view K.is_start (standing V.Midway.of h.stage h.sessions h.order) };
+    ghost invariant = { λ h. Stands V.view K.is_start (standing V.Midway.of V.Midway.left h.stage h.sessions h.order) };
 }
 
 // ---- the pool
@@ -100,6 +100,7 @@ fn put<V, M>(place: &mut Stage<V, M>, stage: Stage<V, M>)
 /// What is left of a flush, if it is to be made to its end.
 fn rest<V: Staged>(flushing: Flushing<V, V::Midway>, is_last: bool) -> Flushing<V, V::Midway>
     ensures same { (old : V) → IsFlushing V.view V.Midway.of old flushing → IsFlushing V.view V.Midway.of old result }
+    ensures fewer { (before : Option ℕ) → IsFurther V.Midway.left before flushing → IsFurther V.Midway.left before result }
     ensures last { is_last ≡ true → is_done result ≡ true }
 {
     if !is_last {
@@ -118,6 +119,7 @@ fn rest<V: Staged>(flushing: Flushing<V, V::Midway>, is_last: bool) -> Flushing<
 fn part<V: Staged>(stage: Stage<V, V::Midway>, is_last: bool) -> Flushing<V, V::Midway>
     requires { is_there stage ≡ true }
     ensures part { (old : V) → IsPool V.Midway.of old stage → IsFlushing V.view V.Midway.of old result }
+    ensures fewer { IsFurther V.Midway.left (parts_at V.Midway.left stage) result }
     ensures last { is_last ≡ true → is_done result ≡ true }
 {
     match stage {
@@ -131,6 +133,7 @@ fn part<V: Staged>(stage: Stage<V, V::Midway>, is_last: bool) -> Flushing<V, V::
 fn go_on<V: Staged>(place: &mut Stage<V, V::Midway>, is_last: bool) -> Option<Result<(), Refusal>>
     requires { is_there place.old ≡ true }
     ensures part { (old : V) → IsPool V.Midway.of old place.old → IsParted V.view V.Midway.of old place.new result }
+    ensures fewer { result ≡ None → HasFewer (parts_at V.Midway.left place.old) (parts_at V.Midway.left place.new) }
     ensures last { is_last ≡ true → result ≡ None → ⊥ }
 {
     match part(mem::replace(place, Stage::Away), is_last) {
@@ -146,7 +149,7 @@ fn go_on<V: Staged>(place: &mut Stage<V, V::Midway>, is_last: bool) -> Option<Re
 }
 
 /// The pool behind all that is left of a commit.
-fn settled<V: Staged>(stage: Stage<V, V::Midway>) -> V
+fn finished<V: Staged>(stage: Stage<V, V::Midway>) -> V
     requires { is_there stage ≡ true }
     ensures { IsBehind V.view V.Midway.of stage result }
 {
@@ -168,7 +171,7 @@ fn settle<V: Staged>(place: &mut Stage<V, V::Midway>)
     if is_whole(place) {
         return;
     }
-    let pool = settled(mem::replace(place, Stage::Away));
+    let pool = finished(mem::replace(place, Stage::Away));
     put(place, Stage::Whole(pool));
 }
 
@@ -221,7 +224,7 @@ fn asks_commit(sessions: &[Option<Session>; SESSIONS], event: &Event<'_>) -> boo
 /// where none is under way, and where it is the one under way.
 fn is_for<V, M>(stage: &Stage<V, M>, order: Option<Message>, asked: Option<Message>) -> bool
     ensures its { result ≡ true → IsFor stage.now order asked }
-    ensures whole { is_whole stage.now ≡ true → result ≡ true }
+    ensures other { result ≡ false → IsFor stage.now order asked → ⊥ }
 {
     match stage {
         Stage::Whole(_) => true,
@@ -269,6 +272,8 @@ fn flush_on<V: Staged>(
     ensures kept { (p : V) → IsPool V.Midway.of p place.old → MatchOption result
         (IsParted V.view V.Midway.of p place.new None × (sessions.new ≡ sessions.old) × (out.new ≡ out.old))
         (λ ran. IsKept V.view p sessions.old (incoming event.now) ran out.old out.new place.new sessions.new) }
+    ensures fewer { result ≡ None → HasFewer (parts_at V.Midway.left place.old) (parts_at V.Midway.left place.new) }
+    ensures few { IfSome result (λ ran. (p : V) (q : V) → IsPool V.Midway.of p place.old → place.new ≡ Whole q → V.view.flushes q ≤ V.view.flushes p + 2) }
     ensures last { is_last ≡ true → result ≡ None → ⊥ }
 {
     match go_on(place, is_last) {
@@ -285,6 +290,7 @@ fn change_on<V: Managed + Staged>(
 ) -> Option<Result<(), Refusal>>
     requires { is_there place.old ≡ true }
     ensures there { is_there place.new ≡ true }
+    ensures parts { parts_at V.Midway.left place.new ≡ parts_at V.Midway.left place.old }
     ensures changed { (p : V) → IsOrderPool V.view V.Midway.of message.now p place.old → MatchOption result
         ((q : V) × IsPool V.Midway.of q place.new × Unkept V.view p q (call_of message.now))
         (λ answer. IsOrderParted V.view V.Midway.of message.now p place.new (Some answer)) }
@@ -305,6 +311,7 @@ fn order_on<V: Managed + Staged>(
 ) -> Option<Result<(), Refusal>>
     requires { is_there place.old ≡ true }
     ensures ordered { (p : V) → IsOrderPool V.view V.Midway.of message.now p place.old → IsOrderParted V.view V.Midway.of message.now p place.new result }
+    ensures fewer { result ≡ None → HasFewer (parts_at V.Midway.left place.old) (parts_at V.Midway.left place.new) }
     ensures last { is_last ≡ true → result ≡ None → ⊥ }
 {
     match change_on(place, message) {
@@ -325,13 +332,18 @@ fn flush_for<V: Staged>(
 ) -> Option<Ran>
     requires number { session_of event.now < 64 }
     requires room { HasRoom out.old }
-    requires before { IsServing V.view (standing V.Midway.of place.old sessions.old order.old) }
-    ensures kept { (old : HubState V) → IsBefore V.view old (standing V.Midway.of place.old sessions.old order.old)
-        → IsKeptFor V.view old (incoming event.now) result out.old out.new (standing V.Midway.of place.new sessions.new order.new) }
-    ensures read { IsRead (standing V.Midway.of place.old sessions.old order.old) → IsRead (standing V.Midway.of place.new sessions.new order.new) }
-    ensures asks { IfSome result (λ ran. IsFlushAsked (sessions_of sessions.old) event.now) }
-    ensures unasked { (IsFlushAsked (sessions_of sessions.old) event.now → ⊥) → (place.new ≡ place.old) × (sessions.new ≡ sessions.old) × (order.new ≡ order.old) }
-    ensures made { is_last ≡ true → is_whole place.old ≡ true → IsFlushAsked (sessions_of sessions.old) event.now → result ≡ None → ⊥ }
+    requires before { IsServing V.view (standing V.Midway.of V.Midway.left place.old sessions.old order.old) }
+    ensures kept { (old : HubState V) → IsBefore V.view old (standing V.Midway.of V.Midway.left place.old sessions.old order.old)
+        → IsKeptFor V.view old (incoming event.now) result out.old out.new (standing V.Midway.of V.Midway.left place.new sessions.new order.new) }
+    ensures read { IsRead (standing V.Midway.of V.Midway.left place.old sessions.old order.old) → IsRead (standing V.Midway.of V.Midway.left place.new sessions.new order.new) }
+    ensures asks { IfSome result (λ ran. IsFlushAsked (sessions_of sessions.old) event.now × IsFor place.old order.old None) }
+    ensures few { IfSome result (λ ran. (old : HubState V) (q : V) → IsBefore V.view old (standing V.Midway.of V.Midway.left place.old sessions.old order.old) → place.new ≡ Whole q
+        → V.view.flushes q ≤ V.view.flushes old.pool + most_kept (message_in event.now)) }
+    ensures unasked { (IsFlushAsked (sessions_of sessions.old) event.now → IsFor place.old order.old None → ⊥) → (place.new ≡ place.old) × (sessions.new ≡ sessions.old) × (order.new ≡ order.old) }
+    ensures fewer { IsFlushAsked (sessions_of sessions.old) event.now → IsFor place.old order.old None → result ≡ None
+        → HasFewer (parts_at V.Midway.left place.old) (parts_at V.Midway.left place.new) }
+    ensures order { IsFlushAsked (sessions_of sessions.old) event.now → IsFor place.old order.old None → order.new ≡ None }
+    ensures made { is_last ≡ true → IsFlushAsked (sessions_of sessions.old) event.now → IsFor place.old order.old None → result ≡ None → ⊥ }
 {
     if !asks_flush(sessions, event) {
         return None;
@@ -353,11 +365,17 @@ fn order_for<V: Managed + Staged>(
     out: &mut Answers,
 ) -> Option<Ran>
     requires room { HasRoom out.old }
-    requires before { IsServing V.view (standing V.Midway.of place.old sessions.now order.old) }
-    ensures kept { (line : List ℕ) → reading line ≡ Ok message.now → (old : HubState V) → IsBefore V.view old (standing V.Midway.of place.old sessions.now order.old)
-        → IsKeptFor V.view old (Orders line) result out.old out.new (standing V.Midway.of place.new sessions.now order.new) }
-    ensures read { (line : List ℕ) → reading line ≡ Ok message.now → IsRead (standing V.Midway.of place.old sessions.now order.old) → IsRead (standing V.Midway.of place.new sessions.now order.new) }
-    ensures made { is_last ≡ true → is_whole place.old ≡ true → result ≡ None → ⊥ }
+    requires before { IsServing V.view (standing V.Midway.of V.Midway.left place.old sessions.now order.old) }
+    ensures kept { (line : List ℕ) → reading line ≡ Ok message.now → (old : HubState V) → IsBefore V.view old (standing V.Midway.of V.Midway.left place.old sessions.now order.old)
+        → IsKeptFor V.view old (Orders line) result out.old out.new (standing V.Midway.of V.Midway.left place.new sessions.now order.new) }
+    ensures read { (line : List ℕ) → reading line ≡ Ok message.now → IsRead (standing V.Midway.of V.Midway.left place.old sessions.now order.old) → IsRead (standing V.Midway.of V.Midway.left place.new sessions.now order.new) }
+    ensures its { IfSome result (λ ran. IsFor place.old order.old (Some message.now)) }
+    ensures few { IfSome result (λ ran. (old : HubState V) (q : V) → IsBefore V.view old (standing V.Midway.of V.Midway.left place.old sessions.now order.old) → place.new ≡ Whole q
+        → V.view.flushes q ≤ V.view.flushes old.pool + most_kept (Some message.now)) }
+    ensures other { (IsFor place.old order.old (Some message.now) → ⊥) → (place.new ≡ place.old) × (order.new ≡ order.old) }
+    ensures fewer { IsFor place.old order.old (Some message.now) → result ≡ None → HasFewer (parts_at V.Midway.left place.old) (parts_at V.Midway.left place.new) }
+    ensures order { IsFor place.old order.old (Some message.now) → order.new ≡ Some message.now }
+    ensures made { is_last ≡ true → IsFor place.old order.old (Some message.now) → result ≡ None → ⊥ }
 {
     if !is_for(place, *order, Some(*message)) {
         return None;
@@ -387,13 +405,19 @@ fn keep_on<V: Managed + Staged>(
 ) -> Option<Ran>
     requires number { session_of event.now < 64 }
     requires room { HasRoom out.old }
-    requires before { IsServing V.view (standing V.Midway.of place.old sessions.old order.old) }
-    ensures kept { (old : HubState V) → IsBefore V.view old (standing V.Midway.of place.old sessions.old order.old)
-        → IsKeptFor V.view old (incoming event.now) result out.old out.new (standing V.Midway.of place.new sessions.new order.new) }
-    ensures read { IsRead (standing V.Midway.of place.old sessions.old order.old) → IsRead (standing V.Midway.of place.new sessions.new order.new) }
-    ensures asks { IfSome result (λ ran. AsksCommit (sessions_of sessions.old) event.now) }
-    ensures unasked { (AsksCommit (sessions_of sessions.old) event.now → ⊥) → (place.new ≡ place.old) × (sessions.new ≡ sessions.old) × (order.new ≡ order.old) }
-    ensures made { is_last ≡ true → is_whole place.old ≡ true → AsksCommit (sessions_of sessions.old) event.now → result ≡ None → ⊥ }
+    requires before { IsServing V.view (standing V.Midway.of V.Midway.left place.old sessions.old order.old) }
+    ensures kept { (old : HubState V) → IsBefore V.view old (standing V.Midway.of V.Midway.left place.old sessions.old order.old)
+        → IsKeptFor V.view old (incoming event.now) result out.old out.new (standing V.Midway.of V.Midway.left place.new sessions.new order.new) }
+    ensures read { IsRead (standing V.Midway.of V.Midway.left place.old sessions.old order.old) → IsRead (standing V.Midway.of V.Midway.left place.new sessions.new order.new) }
+    ensures asks { IfSome result (λ ran. AsksCommit (sessions_of sessions.old) event.now × IsFor place.old order.old (message_in event.now)) }
+    ensures few { IfSome result (λ ran. (old : HubState V) (q : V) → IsBefore V.view old (standing V.Midway.of V.Midway.left place.old sessions.old order.old) → place.new ≡ Whole q
+        → V.view.flushes q ≤ V.view.flushes old.pool + most_kept (message_in event.now)) }
+    ensures unasked { (AsksCommit (sessions_of sessions.old) event.now → IsFor place.old order.old (message_in event.now) → ⊥)
+        → (place.new ≡ place.old) × (sessions.new ≡ sessions.old) × (order.new ≡ order.old) }
+    ensures fewer { AsksCommit (sessions_of sessions.old) event.now → IsFor place.old order.old (message_in event.now) → result ≡ None
+        → HasFewer (parts_at V.Midway.left place.old) (parts_at V.Midway.left place.new) }
+    ensures order { AsksCommit (sessions_of sessions.old) event.now → IsFor place.old order.old (message_in event.now) → order.new ≡ message_in event.now }
+    ensures made { is_last ≡ true → AsksCommit (sessions_of sessions.old) event.now → IsFor place.old order.old (message_in event.now) → result ≡ None → ⊥ }
 {
     match *event {
         Event::Message(line) => match read_message(line) {
@@ -488,12 +512,12 @@ impl<V: Staged, K: Start<V>> StagedHub<V, K> {
     ghost use Rattle.nbd_session.specs.Session.{has_older, is_at_work, is_to_flush};
     ghost use Rattle.tp_model.specs.Calls.{is_failed};
     ghost use Rattle.tp_hub.specs.Desks.{IsAsked};
-    ghost use Rattle.tp_hub.specs.Places.{IsWider};
     ghost use Rattle.tp_hub.specs.Runs.{Brings, session_of};
     ghost use Rattle.tp_hub.specs.Seats.{seat_at};
     ghost use Rattle.tp_hub.specs.Serve.{HubRuns};
     ghost use Rattle.tp_hub.specs.Serving.{HubState, sessions_of};
     ghost use Rattle.tp_hub.specs.Staged.{AsksCommit, Idle, IsFrom, IsOf, IsSettled, is_ordering, slots_of};
+    ghost use Rattle.tp_hub.specs.Told.{IsWider};
 
     /// A hub of which no commit is under way.
     #[inline(never)]
@@ -522,7 +546,7 @@ impl<V: Staged, K: Start<V>> StagedHub<V, K> {
             order: _,
             of: _,
         } = self;
-        Hub::of_parts(settled(stage), sessions)
+        Hub::of_parts(finished(stage), sessions)
     }
 
     /// Who is at a number.
@@ -589,27 +613,35 @@ impl<V: Staged, K: Start<V>> StagedHub<V, K> {
 }
 
 impl<V: Managed + Staged, K: Start<V>> StagedHub<V, K> {
-    ghost use Rattle.std.specs.Prelude.{◌≡◌, ◌<◌, ℕ, [], IfSome, None, true, false};
+    ghost use Rattle.std.specs.Prelude.{◌≡◌, ◌<◌, ◌≤◌, ◌+◌, ℕ, [], IfSome, None, true, false};
     ghost use Rattle.tp_hub.specs.Desks.{IsAsked};
     ghost use Rattle.tp_hub.specs.Parts.{IsIdle, IsInBatch, is_parted_to};
+    ghost use Rattle.tp_hub.specs.Owed.{RunsOwed};
     ghost use Rattle.tp_hub.specs.Runs.{Brings, incoming, session_of};
-    ghost use Rattle.tp_hub.specs.Serve.{HubRuns};
     ghost use Rattle.tp_hub.specs.Serving.{HubState, sessions_of};
-    ghost use Rattle.tp_hub.specs.Staged.{AsksCommit, Idle, IsBefore, IsKeptFor, IsSettled, slots_of};
-    ghost use Rattle.tp_hub.specs.Told.{HasRoom};
+    ghost use Rattle.tp_hub.specs.Staged.{HasFewer, Idle, IsBefore, IsForEvent, IsKeptFor, IsSettled, MayKeep, message_in, most_kept, parts_of, slots_of};
+    ghost use Rattle.tp_hub.specs.Told.{HasRoom, IsWider};
 
     /// Makes the next part of the commit that an event asks for: the first one if none is under way,
     /// and all that are left if this is to be the last. Answers the event if no part is left.
     ///
-    /// None if parts are left, if the event asks for no commit, or if another one is under way.
+    /// None if parts are left, and then each call leaves fewer. None also if the event asks for no
+    /// commit, or if another one is under way, and then nothing is done.
+    ///
+    /// A commit flushes the disk twice at most, or four times for a message that wants blocks which a
+    /// commit before it frees.
     pub fn keep(&mut self, event: &Event<'_>, is_last: bool, out: &mut Answers) -> Option<Ran>
         requires number { session_of event.now < 64 }
         requires room { HasRoom out.old }
         ensures before { (old : HubState V) × IsBefore V.view old self.old }
         ensures kept { (old : HubState V) → IsBefore V.view old self.old → IsKeptFor V.view old (incoming event.now) result out.old out.new self.new }
-        ensures asks { IfSome result (λ ran. AsksCommit (sessions_of (slots_of self.old)) event.now) }
-        ensures unasked { (AsksCommit (sessions_of (slots_of self.old)) event.now → ⊥) → self.new ≡ self.old }
-        ensures made { is_last ≡ true → (hub : HubState V) → self.old ≡ Idle hub → AsksCommit (sessions_of hub.slots) event.now → result ≡ None → ⊥ }
+        ensures asks { IfSome result (λ ran. MayKeep event.now self.old) }
+        ensures owed { IfSome result (λ ran. (old : HubState V) (new : HubState V) → IsBefore V.view old self.old → self.new ≡ Idle new
+            → V.view.flushes new.pool ≤ V.view.flushes old.pool + most_kept (message_in event.now)) }
+        ensures unasked { (MayKeep event.now self.old → ⊥) → self.new ≡ self.old }
+        ensures fewer { MayKeep event.now self.old → result ≡ None → HasFewer (parts_of self.old) (parts_of self.new) }
+        ensures its { MayKeep event.now self.old → IsForEvent event.now self.new }
+        ensures made { is_last ≡ true → MayKeep event.now self.old → result ≡ None → ⊥ }
     {
         keep_on(
             &mut self.stage,
@@ -623,10 +655,14 @@ impl<V: Managed + Staged, K: Start<V>> StagedHub<V, K> {
 
     /// Makes all that is left of a commit, and takes one event behind it, of a piece that may be parted
     /// no more than a batch of its session.
+    ///
+    /// The disk is flushed for a call that ends in a commit, for want of blocks, and for nothing else:
+    /// neither for a READ, a BLOCK_STATUS, an option such as LIST or a line that asks, nor for bytes of
+    /// which no frame is whole.
     pub fn take(&mut self, alloc: Global, event: Event<'_>, out: &mut Answers) -> Ran
         requires { session_of event < 64 }
         ensures asked { (mid : HubState V) × (new : HubState V) × IsSettled V.view self.old mid × (self.new ≡ Idle new)
-            × IsAsked (λ took answers. HubRuns V.view mid took answers new) (incoming event.entry) result.events result.bytes out.old out.new }
+            × IsAsked (λ took answers. RunsOwed V.view mid took answers new) (incoming event.entry) result.events result.bytes out.old out.new }
         ensures few { IsInBatch (sessions_of (slots_of self.old)) event.entry result.events result.bytes }
         ensures idle { (n : ℕ) → is_parted_to n event.entry ≡ false → IsIdle (sessions_of (slots_of self.old)) n → IsIdle (sessions_of (slots_of self.new)) n }
         ensures made { (n : ℕ) → is_parted_to n event.entry ≡ false → incoming event.entry ≡ Brings n [] → 0 < result.events → IsIdle (sessions_of (slots_of self.new)) n }

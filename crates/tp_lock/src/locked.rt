@@ -1,10 +1,9 @@
 //! A hub that many clients ask.
 
 ghost use Rattle.std.specs.Prelude.{◌≡◌, ◌<◌, [], IfSome, None, true};
-ghost use Rattle.tp_hub.specs.Told.{HasRoom};
+ghost use Rattle.tp_hub.specs.Told.{HasRoom, IsWider};
 ghost use Rattle.tp_hub.specs.Runs.{Brings, incoming, session_of};
 ghost use Rattle.tp_hub.specs.Desks.{IsAsked};
-ghost use Rattle.tp_hub.specs.Places.{IsWider};
 ghost use Rattle.tp_hub.specs.Serving.{sessions_of};
 ghost use Rattle.tp_hub.specs.Staged.{slots_of};
 ghost use Rattle.tp_lock.specs.Census.{AreSeats};

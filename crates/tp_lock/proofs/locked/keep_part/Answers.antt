@@ -16,4 +16,4 @@ returns-clause-seen g c =
     let hearer = c.hearer_of-hearer.result in
     let work = c.look.ensures.work ∙ ap (λ (s : Standing _). has_left (sessions_of (slots_of s)) hearer) c.deref.ensures in
     seen_of g.V.Volumes.view c.args.event.now c.look.result.0 c.in-Some.ran hearer old.0 kept.0 k.new.self c.args.out.now k.new.out c.hearer_of-hearer.ensures.its c.look.ensures.ran work kept.1 kept.3
-    (λ n apart is some. absurd (asks_parted _ c.args.event.now c.in-Some.ensures.asks n apart is))
+    (λ n apart is some. absurd (asks_parted _ c.args.event.now c.in-Some.ensures.asks.0 n apart is))
