@@ -8,8 +8,7 @@ use crate::census::{put, put_number};
 /// The most bytes of such a line.
 pub const HEALTH: usize = 32;
 
-/// In seconds. A sync or a change that has taken less time is not reported: many take one second on
-/// a busy disk.
+/// In seconds. A sync or a change in progress that is younger is reported as `ok`.
 const STALLED: u64 = 2;
 
 /// What a lock recorded of its pool.

@@ -108,8 +108,8 @@ impl<'a, V: Staged, A: Alarm<V>, K: Start<V>> HubLock<'a, V, A, K> {
         self.alarm
     }
 
-    /// What is recorded of the pool, without a lock. The kit has no clause on what an atomic holds, so
-    /// no clause here states that the record is right.
+    /// Returns what is recorded of the pool, and takes no lock. The kit has no clause on what an atomic
+    /// holds, so no clause states that the record is right: `tools/failed_sync` tests it.
     pub fn health(&self) -> Health {
         Health {
             has_failed: self.has_sounded.load(Ordering::SeqCst),
