@@ -1,6 +1,7 @@
 //! Sockets of which another thread reads while long WRITEs are asked.
 
 use crate::served::listening;
+use crate::talk::READ;
 use std::alloc::{AllocError, Global};
 use std::io::{Read, Write};
 use std::net::{Net, Shutdown, SocketAddr, TcpListener, TcpStream};
@@ -103,24 +104,25 @@ fn add_by_new_buffer<R: Threads>(
     add_until(socket, &mut buffer, read, count)
 }
 
-/// The same, and tells them.
+/// The same, and tells them too.
 fn read_until<R: Threads>(
     alloc: Global,
     socket: &mut Socket<'_, R>,
     count: usize,
-) -> Result<Vec<u8>, AllocError> {
+) -> Result<(Vec<u8>, u64), AllocError> {
     let mut read = Vec::new(alloc);
-    add_by_new_buffer(alloc, socket, &mut read, count)?;
-    Ok(read)
+    let reads = add_by_new_buffer(alloc, socket, &mut read, count)?;
+    Ok((read, reads))
 }
 
-/// Accepts a client, reads until so many bytes came, and closes its socket.
+/// Accepts a client, reads until so many bytes came, and closes its socket: they, and how many reads
+/// brought them.
 fn accept_and_read<R: Threads + Clock>(
     rt: &R,
     alloc: Global,
     listener: &TcpListener,
     count: usize,
-) -> io::Result<Vec<u8>> {
+) -> io::Result<(Vec<u8>, u64)> {
     let (stream, _) = listener.accept()?;
     let crew = Crew::new(4);
     let mut socket = Socket::new(rt, alloc, &crew, stream);
@@ -251,7 +253,8 @@ fn is_read<R: Threads + Clock>(
     listener: &TcpListener,
     wanted: &[u8],
 ) -> io::Result<bool> {
-    Ok(accept_and_read(rt, alloc, listener, wanted.len())?.as_slice() == wanted)
+    let (read, _) = accept_and_read(rt, alloc, listener, wanted.len())?;
+    Ok(read.as_slice() == wanted)
 }
 
 /// Whether all of this is sent, and so much of it read in order.
@@ -279,12 +282,49 @@ where
     told_of_order(rt, &text, len)
 }
 
-/// What is read ahead is handed out once, and in the order in which it was sent. A socket that closes while another thread waits for the rest of a frame
-/// ends that read.
+/// By how many reads the next client is read that sends so many bytes.
+fn accept_and_count<R: Threads + Clock>(
+    rt: &R,
+    alloc: Global,
+    listener: &TcpListener,
+    count: usize,
+) -> io::Result<u64> {
+    let (_, reads) = accept_and_read(rt, alloc, listener, count)?;
+    Ok(reads)
+}
+
+/// By how many reads this is read of a client.
+fn reads_of<H>(rt: &H, text: &[u8]) -> io::Result<u64>
+where
+    H: Net<Listener = TcpListener, Stream = TcpStream> + Threads + Clock + Sync + Alloc<A = Global>,
+{
+    let (listener, address) = listening(rt)?;
+    let (sent, reads) = join(
+        rt,
+        || send_and_wait(rt, address, text, false),
+        || accept_and_count(rt, rt.alloc(), &listener, text.len()),
+    );
+    sent?;
+    reads
+}
+
+/// The same of the flags and a short request.
+fn reads_of_short<H>(rt: &H) -> io::Result<u64>
+where
+    H: Net<Listener = TcpListener, Stream = TcpStream> + Threads + Clock + Sync + Alloc<A = Global>,
+{
+    let text = long_writes(rt.alloc(), b"", READ)?;
+    reads_of(rt, &text)
+}
+
+/// What is read ahead is handed out once, and in the order in which it was sent. A socket that
+/// closes while another thread waits for the rest of a frame ends that read. Short frames that came
+/// together are read together.
 #[test]
 fn long_writes_are_read_in_order(rt: HostRuntime) -> Result<(), Fail> {
     let told = told_of_letters(&rt, b"abcdefgh", b"")?;
     let (_, is_read) = told_of_letters(&rt, b"a", &HEAD[..10])?;
-    assert_eq!(rt; (told, is_read), ((true, true), true));
+    let reads = reads_of_short(&rt)?;
+    assert_eq!(rt; (told, is_read, reads), ((true, true), true, 1));
     Ok(())
 }

@@ -38,9 +38,9 @@ const SNAPSHOT_GO: &[u8] =
 /// What each is sent, which has the same length for all volumes.
 const GONE: &[Part<'static>] = &[Part::Text(GREETING), Part::Text(GO_REPLIES)];
 
-/// Fills the first sector of the client's volume.
-fn fill(alloc: Global, client: &mut TcpStream, letter: u8) -> io::Result<bool> {
-    let text = [Part::Ask(1, 7, 0, 512), Part::Fill(letter, 512)];
+/// Fills the sector of the client's volume that begins at this byte.
+fn fill(alloc: Global, client: &mut TcpStream, letter: u8, at: u64) -> io::Result<bool> {
+    let text = [Part::Ask(1, 7, at, 512), Part::Fill(letter, 512)];
     is_exchanged(alloc, client, &text, &[Part::Reply(0, 7)])
 }
 
@@ -53,17 +53,19 @@ fn is_filled(alloc: Global, client: &mut TcpStream, letter: u8) -> io::Result<bo
 /// Has a client go to volume 0 and fill its first sector.
 fn go_and_fill(alloc: Global, client: &mut TcpStream) -> io::Result<()> {
     is_exchanged(alloc, client, &[Part::Text(CLIENT_GO)], GONE)?;
-    fill(alloc, client, b'a')?;
+    fill(alloc, client, b'a', 0)?;
     Ok(())
 }
 
-/// Whether a client reads of the snapshot what its volume had, and then the writer of the volume what it has.
+/// Whether a client that fills a sector of the snapshot behind the end of its volume reads of it what
+/// that had, and then the writer of the volume what it has.
 fn look_at_both(
     alloc: Global,
     reader: &mut TcpStream,
     writer: &mut TcpStream,
 ) -> io::Result<(bool, bool)> {
     is_exchanged(alloc, reader, &[Part::Text(SNAPSHOT_GO)], GONE)?;
+    fill(alloc, reader, b'c', 1_048_576)?;
     Ok((
         is_filled(alloc, reader, b'a')?,
         is_filled(alloc, writer, b'b')?,
@@ -79,9 +81,9 @@ where
     look_at_both(rt.alloc(), &mut reader, writer)
 }
 
-/// Whether a line that asks for a snapshot is accepted.
+/// Whether lines that ask for a snapshot of twice the size are accepted.
 fn is_accepted(alloc: Global, lines: &mut TcpStream) -> io::Result<bool> {
-    is_sent_back(alloc, lines, b"create_snap 1 0\n", b"ok\n")
+    is_sent_back(alloc, lines, b"create_snap 1 0\ngrow 1 32\n", b"ok\nok\n")
 }
 
 /// Whether a line that asks where the volume differs from the snapshot is answered by the page of its first block.
@@ -92,7 +94,8 @@ fn is_page_told(alloc: Global, lines: &mut TcpStream) -> io::Result<bool> {
 /// Whether the line is accepted, where the volume differs is told, the snapshot reads as the volume did then, and the volume as it was filled since.
 type Told = (bool, bool, (bool, bool));
 
-/// A line asks for a snapshot, then the writer fills its sector again, another line asks where the volume differs, and another client reads the snapshot.
+/// Lines ask for a snapshot of twice the size, then the writer fills its sector again, another client
+/// reads the snapshot, and another line asks where the volume differs.
 fn ask_and_read<H>(
     rt: &H,
     clients: SocketAddr,
@@ -103,9 +106,9 @@ where
     H: Net<Listener = TcpListener, Stream = TcpStream> + Wait + Alloc<A = Global>,
 {
     let is_accepted = is_accepted(rt.alloc(), lines)?;
-    fill(rt.alloc(), writer, b'b')?;
-    let is_page_told = is_page_told(rt.alloc(), lines)?;
-    Ok((is_accepted, is_page_told, read_both(rt, clients, writer)?))
+    fill(rt.alloc(), writer, b'b', 0)?;
+    let are_read = read_both(rt, clients, writer)?;
+    Ok((is_accepted, is_page_told(rt.alloc(), lines)?, are_read))
 }
 
 /// The same behind a client that fills that sector first, by a client of control lines.
@@ -135,10 +138,10 @@ where
     snapshot_beside(rt, (*clients, *control), &mut writer)
 }
 
-/// What is left: both volumes, with a block each.
+/// What is left: the volume with a block, and the snapshot with one more.
 const LEFT: &[Call] = &[
     ("status", &["0"], 0, "128 127\n"),
-    ("status", &["1"], 0, "128 127\n"),
+    ("status", &["1"], 0, "256 2175\n"),
     ("check", &[], 0, "clean\n"),
 ];
 
