@@ -15,7 +15,7 @@ use Rattle.nbd_session.specs.declared.phase.Phase.TheVariants.{Ended, Flags, Opt
 use Rattle.nbd_session.specs.declared.phase.Terms.{Terms}
 use Rattle.nbd_session.specs.declared.request.Verdict.{Verdict}
 use Rattle.nbd_session.specs.declared.request.Verdict.TheVariants as verdicts
-use Rattle.nbd_session.specs.Requests.{has_fua, has_no_hole, is_kept_apart, part_call, verdict_in}
+use Rattle.nbd_session.specs.Requests.{has_no_hole, is_kept_apart, part_call, verdict_in, wants_fua}
 use Rattle.nbd_session.specs.Session.{State, has_clones, kind_of, manner_in}
 use Rattle.nbd_session.specs.Turns.{Asks, Happened, Hears, Leaves, Opens, Sessions, Turn}
 use Rattle.tp_hub.specs.Told.{Answer, Grows, Told}
@@ -50,11 +50,11 @@ module _ {D : Type 0} (view : View D) where
   IsQuietRequest p verdicts.Disconnect id manner r payload = manner.is_clone ≡ false
   IsQuietRequest p verdicts.Flush id manner r payload = CommitsNone p Flush
   IsQuietRequest p verdicts.Write id manner r payload =
-      CommitsNone p (if is_kept_apart manner r then Write id (r.offset / 512) (sectors_of payload) false else Write id (r.offset / 512) (sectors_of payload) (has_fua r))
+      CommitsNone p (if is_kept_apart manner r then Write id (r.offset / 512) (sectors_of payload) false else Write id (r.offset / 512) (sectors_of payload) (wants_fua manner r))
   IsQuietRequest p verdicts.Trim id manner r payload =
-      CommitsNone p (if is_kept_apart manner r then Trim id (r.offset / 512) (r.len / 512) false else Trim id (r.offset / 512) (r.len / 512) (has_fua r))
+      CommitsNone p (if is_kept_apart manner r then Trim id (r.offset / 512) (r.len / 512) false else Trim id (r.offset / 512) (r.len / 512) (wants_fua manner r))
   IsQuietRequest p verdicts.WriteZeroes id manner r payload =
-      CommitsNone p (if is_kept_apart manner r then WriteZeroes id (r.offset / 512) (r.len / 512) (has_no_hole r) false else WriteZeroes id (r.offset / 512) (r.len / 512) (has_no_hole r) (has_fua r))
+      CommitsNone p (if is_kept_apart manner r then WriteZeroes id (r.offset / 512) (r.len / 512) (has_no_hole r) false else WriteZeroes id (r.offset / 512) (r.len / 512) (has_no_hole r) (wants_fua manner r))
 
   -- A frame commits nothing: an option but one that makes a clone, and such a request. One that is malformed ends its session.
   abbrev pub IsQuietFrame : D → Phase → Message → Type 0
@@ -65,7 +65,7 @@ module _ {D : Type 0} (view : View D) where
 
   -- the next part of a request, if any is left
   abbrev pub IsQuietPart : D → Phase → Type 0
-  IsQuietPart p (Transmission id size (Works manner r)) = CommitsNone p (part_call id (view.outline p).geometry r)
+  IsQuietPart p (Transmission id size (Works manner r)) = CommitsNone p (part_call manner id (view.outline p).geometry r)
   IsQuietPart p phase = Unit {0}
 
   -- A step of a session commits nothing: the part that it makes does not, nor the frame that this text is.
