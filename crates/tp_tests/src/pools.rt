@@ -41,11 +41,7 @@ pub(crate) fn close(pool: MemServed) -> (Result<(), Refusal>, MemDisk) {
 }
 
 /// Makes a disk the empty pool of this geometry.
-fn formatted(
-    alloc: Global,
-    geometry: Geometry,
-    room: Room,
-) -> Result<MemServed, Refusal> {
+fn formatted(alloc: Global, geometry: Geometry, room: Room) -> Result<MemServed, Refusal> {
     let Ok(disk) = MemDisk::new(alloc, geometry.image_sectors()) else {
         return Err(Refusal::Memory);
     };

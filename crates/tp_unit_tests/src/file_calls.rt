@@ -119,8 +119,14 @@ const OPENED: [Option<FileCall>; 2] = [Some(FileCall::SyncAll), Some(FileCall::D
 fn a_flush_is_a_sync_after_the_last_write(rt: HostRuntime) {
     let told = [calls_of(rt.alloc(), false), calls_of(rt.alloc(), true)];
     let sync = Some(FileCall::SyncData);
-    let one = Some(FileCall::Write { offset: 0, len: 512 });
-    let other = Some(FileCall::Write { offset: 512, len: 512 });
+    let one = Some(FileCall::Write {
+        offset: 0,
+        len: 512,
+    });
+    let other = Some(FileCall::Write {
+        offset: 512,
+        len: 512,
+    });
     let [first, second] = OPENED;
     assert_eq!(rt;
         told,
@@ -165,8 +171,26 @@ fn a_hole_stays_where_zeros_are_written(rt: HostRuntime) {
     assert_eq!(rt;
         told,
         [
-            [first, second, write(4096, 4096), None, None, None, None, None],
-            [first, second, write(0, 16_384), write(16_384, 8192), None, None, None, None],
+            [
+                first,
+                second,
+                write(4096, 4096),
+                None,
+                None,
+                None,
+                None,
+                None
+            ],
+            [
+                first,
+                second,
+                write(0, 16_384),
+                write(16_384, 8192),
+                None,
+                None,
+                None,
+                None
+            ],
         ]
     );
 }

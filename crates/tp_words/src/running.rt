@@ -123,10 +123,7 @@ pub(crate) fn run_command<'a>(alloc: Global) -> Result<Command<'a>, AllocError>
         number_option(alloc, "DEFAULT", "default", "ID", default),
     );
     let made = with(made, flag(alloc, "CLONES", "clones", clones));
-    let made = with(
-        made,
-        flag(alloc, "WRITE_THROUGH", "write-through", through),
-    );
+    let made = with(made, flag(alloc, "WRITE_THROUGH", "write-through", through));
     let made = with(
         made,
         flag(alloc, "EXIT_ON_FAILURE", "exit-on-failure", ends),
