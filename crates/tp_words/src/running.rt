@@ -119,10 +119,7 @@ pub(crate) fn run_command<'a>(alloc: Global) -> Result<Command<'a>, AllocError>
         number_option(alloc, "DEFAULT", "default", "ID", default),
     );
     let made = with(made, flag(alloc, "CLONES", "clones", clones));
-    let made = with(
-        made,
-        flag(alloc, "WRITE_THROUGH", "write-through", through),
-    );
+    let made = with(made, flag(alloc, "WRITE_THROUGH", "write-through", through));
     with_rights(alloc, with_telling(alloc, made))
 }
 
