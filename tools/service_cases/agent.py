@@ -8,7 +8,7 @@ from contextlib import ExitStack, suppress
 from functools import partial
 
 from running import FLUSH, WRITE
-from running import Client, Failed, Place, Skipped, request, run, want
+from running import Client, Failed, Place, Skipped, as_root, free_port, request, run, want
 
 from service_cases.loads import Load, data_of, new_pool, processes, want_all
 from service_cases.wrapped import CONTRIB
@@ -47,6 +47,7 @@ def agent(ground):
     yield "an image in use: start waits for its lock", partial(waits, ground)
     yield "an image that stays in use: start fails in its time", partial(refused, ground)
     yield "the number of another process in its file: monitor returns 7", partial(other, ground)
+    yield "another user, two addresses and an option", partial(as_user, ground)
     yield "wrong parameters", partial(wrong, ground)
 
 
@@ -331,6 +332,21 @@ def other(ground):
         it.do("stop")
         it.do("start")
         it.do("stop")
+
+
+def as_user(ground):
+    as_root()
+    port, other = free_port(), free_port()
+    with Agent(ground, user="nobody", listen=f"127.0.0.1:{port} 127.0.0.1:{other}",
+               options="--default 0 --quiet") as it:
+        os.chmod(it.image, 0o600)
+        shutil.chown(it.image, "nobody")
+        it.do("start")
+        for place in (port, other):
+            Client.at(place).go("").leave()
+        user = os.stat(f"/proc/{it.server()}").st_uid
+        it.do("stop")
+        want((user == os.stat(it.image).st_uid, f"the server's user is {user}"))
 
 
 def wrong(ground):

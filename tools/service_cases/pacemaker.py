@@ -67,7 +67,7 @@ class Simulated:
         told = self.call("crm_simulate", "--xml-file", self.cib, "--simulate", *words, *more)
         self.shown = told.out.decode()
         actions = self.shown.split("Executing Cluster Transition:")[-1].split("Revised")[0]
-        return [" ".join(it.split()) for it in re.findall(r"(?:action: +|\* )(\S.*)", actions)]
+        return [" ".join(it.split()) for it in re.findall(r"\* (?:\w+ action: +)?(\S.*)", actions)]
 
     def starts(self):
         ups = [word for host in ("host1", "host2") for word in ("--node-up", host)]

@@ -228,7 +228,7 @@ def node(host):
 
 @functools.lru_cache(None)
 def members_of(ground):
-    wants("corosync", "pacemakerd", "crm", "crm_mon", "ping")
+    wants("corosync", "pacemakerd", "crm", "crm_mon", "modprobe", "ping")
     return Members(ground, hosts_in(os.path.dirname(ground.folder)))
 
 
