@@ -7,9 +7,10 @@ from functools import partial
 from running import Skipped, held, run, want
 
 from package_parts.table import commands
+from package_parts.tree import AGENT
 
 TOOLS = os.path.realpath(os.path.join(os.path.dirname(__file__), ".."))
-FILES = ["usr/bin/thinpool", "usr/bin/thinpool-run", "lib/systemd/system/thinpool@.service",
+FILES = ["usr/bin/thinpool", "usr/bin/thinpool-run", "lib/systemd/system/thinpool@.service", AGENT,
          "usr/share/man/man1/thinpool.1.gz", "usr/share/man/man1/thinpool-run.1.gz",
          "usr/share/bash-completion/completions/thinpool",
          "usr/share/zsh/vendor-completions/_thinpool", "usr/share/doc/thinpool/copyright",
@@ -37,7 +38,7 @@ def contents(ground):
     """the files of the package"""
     package = built(ground)
     folder = unpacked(ground, package)
-    yield "it has the program, the unit, the pages, completions and examples", partial(
+    yield "it has the program, the unit, the agent, the pages, completions and examples", partial(
         has_files, folder)
     yield "the program of the package is the program, but for its symbols", partial(
         same_program, ground, folder)

@@ -12,6 +12,7 @@ from package_parts.completions import bash, zsh
 from package_parts.table import commands, help_of
 
 USER = "thinpool"
+AGENT = "usr/lib/ocf/resource.d/thinpool/thinpool"
 EXAMPLES = ["pool.conf", "container/Containerfile", "openrc/thinpool", "openrc/thinpool.confd",
             "runit/run", "s6/run", "supervisor/thinpool.conf"]
 
@@ -26,7 +27,7 @@ Architecture: {architecture}
 Maintainer: {maintainer}
 Installed-Size: {size}
 Depends: adduser, {libraries}
-Suggests: libnbd-bin, qemu-utils
+Suggests: libnbd-bin, qemu-utils, resource-agents
 Description: thin pool with snapshots, served over NBD
  A thin pool in an image file or on a block device, in the manner of the thin
  target of device-mapper. Volumes take data blocks on first write, snapshots
@@ -34,7 +35,8 @@ Description: thin pool with snapshots, served over NBD
  clients. The program is proved to meet its contracts.
  .
  The package also has a wrapper by which a supervisor stops the server in
- order, a template unit of systemd, and examples for other supervisors.
+ order, a template unit of systemd, an OCF resource agent for Pacemaker, and
+ examples for other supervisors.
 """
 
 COPYRIGHT = """\
@@ -210,6 +212,7 @@ def fill(root, top, program, version, architecture, maintainer, moment):
     table = commands(program)
     put(root, "usr/bin/thinpool", stripped(program), 0o755)
     put(root, "usr/bin/thinpool-run", read(top, "contrib/thinpool-run"), 0o755)
+    put(root, AGENT, read(top, "contrib/ocf/thinpool"), 0o755)
     put(root, "lib/systemd/system/thinpool@.service", read(top, "contrib/thinpool@.service"))
     put(root, "usr/share/bash-completion/completions/thinpool", bash(table))
     put(root, "usr/share/zsh/vendor-completions/_thinpool", zsh(table))

@@ -8,7 +8,7 @@ from running import Skipped, run, want
 
 from service_cases.wrapped import CONTRIB, WRAPPER
 
-SCRIPTS = ["thinpool-run", "runit/run", "s6/run", "openrc/thinpool"]
+SCRIPTS = ["thinpool-run", "runit/run", "s6/run", "openrc/thinpool", "ocf/thinpool"]
 
 
 def examples(ground):

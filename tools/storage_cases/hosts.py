@@ -19,7 +19,7 @@ hostname "$1"
 ip link set lo up
 for it in lib/glusterd log/glusterfs; do
   mkdir -p "$2/$it"
-  mount --bind "$2/$it" "/var/$it"
+  [ ! -d "/var/$it" ] || mount --bind "$2/$it" "/var/$it"
 done
 mount -t tmpfs tmpfs /run
 mkdir /run/gluster
