@@ -10,6 +10,7 @@ use Rattle.tp_hub.specs.Desks.{IsAsked}
 use Rattle.tp_hub.specs.Serving.{Slots}
 use Rattle.tp_hub.proofs.Turning.{grows_behind}
 use Rattle.tp_crowd.specs.declared.ruling.Command.{Command}
+use Rattle.tp_crowd.specs.declared.ruling.Command.TheVariants as variants
 use Rattle.tp_lock.specs.Census.{AreSeats}
 use Rattle.tp_lock.specs.declared.health.Health.{Health}
 use Rattle.tp_lock.specs.Locked.{SomeRuns}
@@ -41,7 +42,7 @@ health_told line how before mid after same room marks (text, grows, is) = record
 
 -- it was told of some record
 pub some_health_told : {D : Type 0} (view : View D) (line : List ℕ) (how : Health) (events bytes : ℕ) (before after : Told) → IsAsked (λ took answers. TellsSo line (TellsHow how) took answers) (Orders line) events bytes before after
-    → IsAsked (λ took answers. TellsSo line (Obeys view Command.Health) took answers) (Orders line) events bytes before after
+    → IsAsked (λ took answers. TellsSo line (Obeys view variants.Health) took answers) (Orders line) events bytes before after
 some_health_told view line how events bytes before after a = record {
   answers = a.answers;
   did = elim a.did [ inl none ↦ inl none | inr told ↦ inr (told.0, (how, told.1)) ];
