@@ -9,3 +9,6 @@ attend_house-is_manned-requires-send-K g c = search sendable
 
 pub attend_house-is_manned-requires-send-V-Midway : goal.attend_house-is_manned-requires-send-V-Midway
 attend_house-is_manned-requires-send-V-Midway g c = λ κs below. search sendable depth 20
+
+pub spawn-requires-send-F : goal.spawn-requires-send-F
+spawn-requires-send-F g c = search sendable depth 20
