@@ -228,45 +228,6 @@ where
     attend_doors(rt, doors, &house)
 }
 
-/// Tells the pool's status about once a second, and whether a control client waits, until all are gone, and lets go of those who take no answers when it is
-/// over. It is over when the pool has failed, too, if the chronicle says so.
-fn watch<'m, R, V, A, K>(
-    rt: &'m R,
-    alloc: Global,
-    hub: &'m HubLock<'m, V, A, K>,
-    gate: &Gate,
-    doors: &[Door],
-    control: Option<&Door>,
-)
-where
-    R: Wait + Clock,
-    V: Managed + Staged,
-    A: Chronicle<V>,
-    K: Start<V>,
-{
-    let mut desk = LockedDesk { rt, alloc, hub };
-    let mut out = Answers::of_a_turn(alloc);
-    let mut left = LAST_SECONDS;
-    let mut waited = false;
-    for _ in rt.forever() {
-        desk.ask(Event::Status, &mut out);
-        hub.alarm().status(out.bytes());
-        out.clear();
-        let waits = is_waited_at(gate, control);
-        if waited && waits {
-            hub.alarm().control_waits();
-        }
-        waited = waits;
-        if hub.alarm().ends_on_failure() && hub.health().has_failed {
-            gate.clear(rt, doors);
-        }
-        if gate.wait_for_end(rt) {
-            return;
-        }
-        left = gate.hasten(rt, left);
-    }
-}
-
 /// Whether a client has connected to a door of control lines and has no place yet.
 fn is_waited_at(gate: &Gate, control: Option<&Door>) -> bool {
     match control {
@@ -277,14 +238,68 @@ fn is_waited_at(gate: &Gate, control: Option<&Door>) -> bool {
     }
 }
 
-/// Serves clients as `attend_house` does, and beside that tells the pool's status, until all are gone.
-fn attend_watched<R, V, A, K>(
+/// What a thread does beside those that serve clients.
+trait Watch {
+    /// Watches until all clients are gone.
+    fn watch(&self);
+}
+
+/// Tells the pool's status about once a second, and whether a control client waits, until all are gone, and lets go of those who take no answers when it is
+/// over. It is over when the pool has failed, too, if the chronicle says so.
+#[derive(Drop)]
+struct Watcher<'m, R: Threads + Wait, V: Staged, A: Chronicle<V>, K: Start<V>> {
+    rt: &'m R,
+    alloc: Global,
+    hub: &'m HubLock<'m, V, A, K>,
+    gate: &'m Gate,
+    doors: &'m [Door],
+    control: Option<&'m Door>,
+}
+
+impl<'m, R, V, A, K> Watch for Watcher<'m, R, V, A, K>
+where
+    R: Threads + Wait + Clock,
+    V: Managed + Staged,
+    A: Chronicle<V>,
+    K: Start<V>,
+{
+    fn watch(&self) {
+        let mut desk = LockedDesk {
+            rt: self.rt,
+            alloc: self.alloc,
+            hub: self.hub,
+        };
+        let mut out = Answers::of_a_turn(self.alloc);
+        let mut left = LAST_SECONDS;
+        let mut waited = false;
+        for _ in self.rt.forever() {
+            desk.ask(Event::Status, &mut out);
+            self.hub.alarm().status(out.bytes());
+            out.clear();
+            let waits = is_waited_at(self.gate, self.control);
+            if waited && waits {
+                self.hub.alarm().control_waits();
+            }
+            waited = waits;
+            if self.hub.alarm().ends_on_failure() && self.hub.health().has_failed {
+                self.gate.clear(self.rt, self.doors);
+            }
+            if self.gate.wait_for_end(self.rt) {
+                return;
+            }
+            left = self.gate.hasten(self.rt, left);
+        }
+    }
+}
+
+/// Serves clients as `attend_house` does, and starts the thread that watches. False where a thread could not be made.
+fn attend_beside<R, V, A, K, S>(
     rt: &R,
     alloc: Global,
     hub: &HubLock<'_, V, A, K>,
     gate: &Gate,
     doors: &[Door],
-    control: Option<&Door>,
+    watcher: &S,
 ) -> bool
 where
     R: Threads + Wait + Clock + Sync,
@@ -292,9 +307,10 @@ where
     V::Midway: Send + Sync,
     A: Chronicle<V> + Sync,
     K: Start<V> + Send + Sync,
+    S: Watch + Sync,
 {
     thread::scope(thread::scope_env(), rt, move |scope| -> bool {
-        let side = move || watch(rt, alloc, hub, gate, doors, control);
+        let side = move || watcher.watch();
         let is_watched = scope.spawn(side).is_ok();
         if !is_watched {
             gate.shut(rt, doors);
@@ -303,6 +319,33 @@ where
         gate.end(rt);
         is_watched && is_manned
     })
+}
+
+/// Serves clients as `attend_house` does, and beside that tells the pool's status, until all are gone.
+fn attend_watched<'m, R, V, A, K>(
+    rt: &'m R,
+    alloc: Global,
+    hub: &'m HubLock<'m, V, A, K>,
+    gate: &'m Gate,
+    doors: &'m [Door],
+    control: Option<&'m Door>,
+) -> bool
+where
+    R: Threads + Wait + Clock + Sync,
+    V: Managed + Staged + Send + Sync,
+    V::Midway: Send + Sync,
+    A: Chronicle<V> + Sync,
+    K: Start<V> + Send + Sync,
+{
+    let watcher = Watcher {
+        rt,
+        alloc,
+        hub,
+        gate,
+        doors,
+        control,
+    };
+    attend_beside(rt, alloc, hub, gate, doors, &watcher)
 }
 
 /// What threads do for control clients beside all others.
