@@ -255,7 +255,8 @@ def stuck(ground):
         began = time.monotonic()
         it.do("stop", timeout=12)
         took = time.monotonic() - began
-        want((not it.servers(), "the server runs after the stop"), (8 <= took < 12, f"{took:.1f} s"))
+        want((not it.servers(), "the server runs after the stop"),
+             (8 <= took < 12, f"stop took {took:.1f} s"))
         want_flushed(ground, it.image)
         return f"{took:.1f} s"
 
