@@ -36,7 +36,6 @@ nodelist {
 quorum {
   provider: corosync_votequorum
   two_node: 1
-  wait_for_all: 0
 }
 system {
   sched_rr: no
@@ -139,7 +138,7 @@ class Members:
         names = " ".join(it.name for it in self.hosts)
         lines = filled(LINES, hosts=names, shared=self.shared, mounted=self.mounted, port=PORT,
                        address=MOVING, program=ground.program)
-        soon(lambda: self.shown(self.hosts[0]).count("online=\"true\"") == 2)
+        self.has_two()
         self.hosts[0].done("crm", "-F", "configure", "load", "update", self.write("lines", lines))
 
     def write(self, name, text, mode=0o644):
@@ -236,7 +235,14 @@ class Members:
         raise Stuck(f"nothing is served: {[self.shown(it)[-2000:] for it in self.hosts]}")
 
     def has_two(self):
-        soon(lambda: all(self.shown(it).count('online="true"') == 2 for it in self.hosts))
+        """Waits until both hosts are members. A host that is lost before is not fenced."""
+        soon(lambda: all(map(is_whole, map(self.shown, self.hosts))))
+
+
+def is_whole(shown):
+    """Whether a host, by what crm_mon shows there, is in a cluster with the other one."""
+    return (shown.count('online="true"') == 2 and 'pending="true"' not in shown
+            and '<current_dc present="true"' in shown)
 
 
 def node(host):
