@@ -53,7 +53,7 @@ primitive power stonith:fence_hosts params pcmk_host_list="@hosts@"
 primitive mount Filesystem params device=@shared@ directory=@mounted@ fstype=none options=bind
 primitive address IPaddr2 params ip=@address@ cidr_netmask=24
 primitive pool ocf:thinpool:thinpool params image=@mounted@/pool.img listen=@address@:@port@ \\
-  binary=@program@ op start timeout=60s op stop timeout=30s op monitor interval=3s timeout=10s
+  binary=@program@ log=@shared@.log op start timeout=60s op stop timeout=30s op monitor interval=3s timeout=10s
 group storage mount address pool
 property stonith-enabled=true
 """
