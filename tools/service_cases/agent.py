@@ -42,7 +42,8 @@ def agent(ground):
     yield "a sync hangs: monitor fails, and stop until a killed server is gone", partial(
         hangs, ground)
     yield "a server that does not end: stop kills it, and syncs the image", partial(stuck, ground)
-    yield "the image cannot be synced after a kill: stop fails", partial(unsynced, ground)
+    yield "the image cannot be synced after a kill: stop fails", partial(unsynced, ground, stopped)
+    yield "the same after a server that died", partial(unsynced, ground, died)
     yield "the fencing command is run before each start, and may fail", partial(fences, ground)
     yield "an image in use: start waits for its lock", partial(waits, ground)
     yield "an image that stays in use: start fails in its time", partial(refused, ground)
@@ -254,21 +255,32 @@ def stuck(ground):
         began = time.monotonic()
         it.do("stop", timeout=12)
         took = time.monotonic() - began
-        want((not it.servers(), "the server runs after the stop"), (8 <= took < 12, f"{took:.1f} s"))
+        want((not it.servers(), "the server runs after the stop"),
+             (8 <= took < 12, f"stop took {took:.1f} s"))
         want_flushed(ground, it.image)
         return f"{took:.1f} s"
 
 
-def unsynced(ground):
+def died(ground, stack):
+    """An agent whose server was killed."""
+    it = stopped(ground, stack)
+    os.kill(it.server(), signal.SIGKILL)
+    return it
+
+
+def unsynced(ground, made):
     """`sync` is a program that fails."""
     with ExitStack() as stack:
-        it = stopped(ground, stack)
+        it = made(ground, stack)
         os.mkdir(folder := it.file("bin"))
         shutil.copy("/bin/false", os.path.join(folder, "sync"))
         before = os.environ["PATH"]
         os.environ["PATH"] = f"{folder}:{before}"
         stack.callback(os.environ.__setitem__, "PATH", before)
-        return it.do("stop", ERROR, timeout=6)
+        reason = it.do("stop", ERROR, timeout=6)
+        os.unlink(os.path.join(folder, "sync"))
+        it.do("stop", timeout=6)
+        return reason
 
 
 def fences(ground):

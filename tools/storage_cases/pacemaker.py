@@ -2,6 +2,7 @@
 
 The hosts are of one machine, and so are the file and its lock. A host is fenced by a program that
 cuts its cable and kills its processes."""
+import contextlib
 import functools
 import os
 import shutil
@@ -10,11 +11,11 @@ import time
 from functools import partial
 
 from device_cases.loops import wants
-from running import LIMIT, Stuck, held, start, want
+from running import LIMIT, Client, Stuck, held, start, want
 from storage_cases.cluster import processes, soon
+from storage_cases.failover import told
 from storage_cases.hosts import MOVING, NETWORK, hosts_in
 from storage_cases.servers import HostPlace, Scene
-from running import Client
 
 CONTRIB = os.path.join(os.path.dirname(__file__), "..", "..", "contrib")
 PORT, TURNS, WRITES = 10809, 4, 40
@@ -35,7 +36,6 @@ nodelist {
 quorum {
   provider: corosync_votequorum
   two_node: 1
-  wait_for_all: 0
 }
 system {
   sched_rr: no
@@ -53,7 +53,7 @@ primitive power stonith:fence_hosts params pcmk_host_list="@hosts@"
 primitive mount Filesystem params device=@shared@ directory=@mounted@ fstype=none options=bind
 primitive address IPaddr2 params ip=@address@ cidr_netmask=24
 primitive pool ocf:thinpool:thinpool params image=@mounted@/pool.img listen=@address@:@port@ \\
-  binary=@program@ op start timeout=60s op stop timeout=30s op monitor interval=3s timeout=10s
+  binary=@program@ log=@shared@.log op start timeout=60s op stop timeout=30s op monitor interval=3s timeout=10s
 group storage mount address pool
 property stonith-enabled=true
 """
@@ -81,6 +81,10 @@ off | reboot)
     ;;
 esac
 """
+# Comes before the sync(1) of the machine.
+SYNC = """#!/bin/sh
+[ ! -e @folder@/unsynced ] && exec /usr/bin/sync "$@"
+"""
 METADATA = """<?xml version="1.0" ?>
 <resource-agent name="fence_hosts" shortdesc="fences a host of one machine">
 <longdesc>Fences a host of one machine.</longdesc>
@@ -97,14 +101,15 @@ METADATA = """<?xml version="1.0" ?>
 
 def pacemaker(ground):
     """a Pacemaker cluster of two hosts: the agent of contrib, and no flushed block is lost"""
-    yield f"the host that serves is killed {TURNS} times: it is fenced, and the other serves", partial(
-        moves, ground, lambda it, host: it.fence(host))
-    yield "the host that serves is cut off: it is fenced, and the other serves", partial(
-        moves, ground, lambda it, host: host.cut(), 1)
+    for name, event, turns in (
+            (f"the host that serves is killed {TURNS} times", Members.fence, TURNS),
+            ("the host that serves is cut off", Members.cut, 1),
+            ("the server is killed, and its image cannot be synced", Members.spoil, 1)):
+        yield f"{name}: it is fenced, and the other serves", partial(moves, ground, event, turns)
     yield "the server is killed, and serves again", partial(restarts, ground, signal.SIGKILL)
     yield "the server does not answer: it is killed, and serves again", partial(
         restarts, ground, signal.SIGSTOP)
-    yield "the group moves to the other host: no acknowledged block is lost", partial(migrates, ground)
+    yield "the group moves to the other host: no answered WRITE is lost", partial(migrates, ground)
 
 
 def filled(text, **values):
@@ -125,14 +130,15 @@ class Members:
         self.scene = Scene(ground, self.hosts, f"{self.shared}/pool.img")
         self.scene.make()
         self.write_programs()
-        self.conf = self.write("corosync.conf", filled(CONF, nodes="\n".join(map(node, self.hosts))))
+        nodes = "\n".join(map(node, self.hosts))
+        self.conf = self.write("corosync.conf", filled(CONF, nodes=nodes))
         for it in self.hosts:
             self.prepare(it)
             self.boot(it)
         names = " ".join(it.name for it in self.hosts)
         lines = filled(LINES, hosts=names, shared=self.shared, mounted=self.mounted, port=PORT,
                        address=MOVING, program=ground.program)
-        soon(lambda: self.shown(self.hosts[0]).count("online=\"true\"") == 2)
+        self.has_two()
         self.hosts[0].done("crm", "-F", "configure", "load", "update", self.write("lines", lines))
 
     def write(self, name, text, mode=0o644):
@@ -149,6 +155,7 @@ class Members:
         self.write("fenced", "")
         fence = filled(FENCE, folder=self.folder, switch=f"{NETWORK}254", tool=os.getpid())
         self.write("programs/fence_hosts", fence, 0o755)
+        self.write("programs/sync", filled(SYNC, folder=self.folder), 0o755)
 
     def prepare(self, host):
         """Gives a host folders of its own, and the agents."""
@@ -170,14 +177,16 @@ class Members:
 
     def boot(self, host):
         """Starts a host that does nothing: its mount, its addresses and its files are gone."""
+        with contextlib.suppress(FileNotFoundError):
+            os.unlink(f"{self.folder}/unsynced")
         host.run("umount", "--lazy", self.mounted)
         host.run("ip", "address", "del", f"{MOVING}/24", "dev", "eth0")
         host.run("sh", "-c", "rm -rf /run/* /dev/shm/*")
         host.join()
-        with open(f"{host.folder}/told", "ab") as told:
-            start([*host.enter, "corosync", "-f", "-c", self.conf], stdout=told, stderr=told)
+        with open(f"{host.folder}/told", "ab") as log:
+            start([*host.enter, "corosync", "-f", "-c", self.conf], stdout=log, stderr=log)
             soon(lambda: host.run("corosync-cfgtool", "-s").status == 0)
-            start([*host.enter, "pacemakerd"], stdout=told, stderr=told,
+            start([*host.enter, "pacemakerd"], stdout=log, stderr=log,
                   env={**os.environ, "PCMK_logfile": f"{host.folder}/pacemaker.log"})
 
     def fence(self, host):
@@ -185,6 +194,14 @@ class Members:
         given = f"action=off\nport={host.name}\n".encode()
         self.other(host).run(f"{self.folder}/programs/fence_hosts", given=given)
         self.write("fenced", "")
+
+    def cut(self, host):
+        host.cut()
+
+    def spoil(self, _):
+        """Kills the server. The image cannot be synced until a host starts."""
+        self.write("unsynced", "")
+        os.kill(self.server()[1], signal.SIGKILL)
 
     def other(self, host):
         return self.hosts[1 - self.hosts.index(host)]
@@ -208,7 +225,7 @@ class Members:
         return None
 
     def client(self):
-        """A client of the address, as soon as a server answers there, and the seconds until then."""
+        """A client of the address, once a server answers there, and the seconds until then."""
         began = time.monotonic()
         while time.monotonic() < began + LIMIT:
             try:
@@ -218,12 +235,20 @@ class Members:
         raise Stuck(f"nothing is served: {[self.shown(it)[-2000:] for it in self.hosts]}")
 
     def has_two(self):
-        soon(lambda: all(self.shown(it).count('online="true"') == 2 for it in self.hosts))
+        """Waits until both hosts are members. A host that is lost before is not fenced."""
+        soon(lambda: all(map(is_whole, map(self.shown, self.hosts))))
+
+
+def is_whole(shown):
+    """Whether a host, by what crm_mon shows there, is in a cluster with the other one."""
+    return (shown.count('online="true"') == 2 and 'pending="true"' not in shown
+            and '<current_dc present="true"' in shown)
 
 
 def node(host):
     number = host.name.removeprefix("host")
-    return f"  node {{\n    ring0_addr: {host.address}\n    name: {host.name}\n    nodeid: {number}\n  }}"
+    lines = [f"ring0_addr: {host.address}", f"name: {host.name}", f"nodeid: {number}"]
+    return "  node {\n    " + "\n    ".join(lines) + "\n  }"
 
 
 @functools.lru_cache(None)
@@ -232,8 +257,8 @@ def members_of(ground):
     return Members(ground, hosts_in(os.path.dirname(ground.folder)))
 
 
-def moves(ground, event, turns=TURNS):
-    """Each time this befalls the host that serves."""
+def moves(ground, event, turns):
+    """Each time this happens to the host that serves."""
     it, seconds = members_of(ground), []
     journal = it.scene.journal
     for _ in range(turns):
@@ -253,7 +278,7 @@ def moves(ground, event, turns=TURNS):
         journal.compare(client)
         client.leave()
         it.boot(host)
-    return f"{journal.covered} blocks were flushed, served after {min(seconds):.1f} to {max(seconds):.1f} s"
+    return told(it.scene, seconds)
 
 
 def restarts(ground, number):

@@ -11,7 +11,7 @@ from concurrent.futures import ThreadPoolExecutor
 from functools import partial
 
 from device_cases.loops import wants
-from running import FLUSH, WRITE, kill, start, want
+from running import FLUSH, LIMIT, WRITE, kill, start, want
 from storage_cases.cluster import processes, soon
 from storage_cases.failover import TURNS, life, told
 from storage_cases.hosts import hosts_in
@@ -83,7 +83,15 @@ class Ceph:
         self.done("ceph-mon", "-i", "a")
 
     def done(self, program, *words):
-        return self.host.done(program, "--conf", self.conf, *words)
+        """What a command prints. It is repeated if it was sent before its client knew the cluster's
+        id."""
+        end = time.monotonic() + LIMIT
+        ran = self.host.run(program, "--conf", self.conf, *words)
+        while b"problem getting command descriptions" in ran.err and time.monotonic() < end:
+            time.sleep(0.2)
+            ran = self.host.run(program, "--conf", self.conf, *words)
+        want((ran.status == 0, f"{program} {' '.join(words)}: {ran.told()}"))
+        return ran.out.decode().strip()
 
     def new_image(self):
         """The name of a new image, whose path is that of a file on which it can be mounted."""
