@@ -154,14 +154,14 @@ def copies_between_volumes(host):
 
 
 def keeps_holes_of_the_image(host):
-    """4 KiB are written to 256 new blocks of 64 KiB, and the file has 8 KiB for each at most."""
+    """4 KiB are written to 256 new blocks of 64 KiB, and the file has 16 KiB for each at most."""
     image = host.pool()
     with host.up(image) as server:
         qemu_io(server.uri("0"), "write -P 1 0 64k", "flush")
         before = os.stat(image).st_blocks
         qemu_io(server.uri("0"), *(f"write -P 2 {at * 65536 + 20480} 4k" for at in range(1, 257)), "flush")
         kib = (os.stat(image).st_blocks - before) // 2
-        want((kib <= 256 * 8, f"the file has grown by {kib} KiB"))
+        want((kib <= 256 * 16, f"the file has grown by {kib} KiB"))
         qemu_io(server.uri("0"), *(f"read -P {byte} {at} {size}" for at, byte, size in around(256)))
         return f"{kib} KiB for 256 blocks"
 

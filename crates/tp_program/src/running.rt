@@ -1,6 +1,6 @@
 //! Clients without end over the pool of an image, which is then closed, and beside them control lines.
 
-ghost use Rattle.std.specs.Prelude.{◌≡◌, IfErr, true, if◌then◌else◌};
+ghost use Rattle.std.specs.Prelude.{◌≡◌, IfErr, false, true, if◌then◌else◌};
 ghost use Rattle.std.specs.FinMap.{empty};
 ghost use Rattle.nbd_session.specs.Session.{below, default_of, has_clones, is_extended, writes_through};
 ghost use Rattle.tp_disk.specs.HandedOut.{IsHandedOut};
